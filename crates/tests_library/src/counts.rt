@@ -1,7 +1,5 @@
 //! How many sets of errors are a logical error: worked examples, and tables at random beside all sets of their errors.
-ghost use Rattle.std.specs.Prelude.{IfOk};
-ghost use Rattle.stab_distance.specs.Ascending.{IsAscending};
-
+use crate::distances::{numbers_of, table_of};
 use stab_distance::{Answer, Table, Unwatched, count_least, least_logical_error};
 use stab_io::Refusal;
 use std::alloc::{AllocError, Global};
@@ -37,28 +35,6 @@ const CASES: &[Case] = &[
         2,
     ),
 ];
-
-/// The numbers of the bits that are set.
-fn numbers_of(alloc: Global, bits: u32) -> Result<Vec<u32>, AllocError>
-    ensures ascending { IfOk result (λ v. IsAscending v.items) }
-{
-    let mut numbers = Vec::new(alloc);
-    'bits: for n in 0..32 {
-        if bits >> n & 1 == 1 {
-            numbers.push(n)?;
-        }
-    }
-    Ok(numbers)
-}
-
-/// The table of these errors.
-fn table_of(alloc: Global, detectors: usize, rows: &[u32]) -> Result<Table, Refusal> {
-    let mut table = Table::new(alloc, detectors);
-    for row in rows {
-        table.push(numbers_of(alloc, *row)?.as_slice())?;
-    }
-    Ok(table)
-}
 
 /// How many errors the least logical error has, 0 if there is none, and how many such sets there are.
 fn counted(alloc: Global, table: &Table) -> Result<(usize, Option<u64>), Refusal> {

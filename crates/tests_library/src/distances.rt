@@ -196,7 +196,7 @@ const CASES: &[Case] = &[
 ];
 
 /// The numbers of the bits that are set.
-fn numbers_of(alloc: Global, bits: u32) -> Result<Vec<u32>, AllocError>
+pub fn numbers_of(alloc: Global, bits: u32) -> Result<Vec<u32>, AllocError>
     ensures ascending { IfOk result (λ v. IsAscending v.items) }
 {
     let mut numbers = Vec::new(alloc);
@@ -209,7 +209,7 @@ fn numbers_of(alloc: Global, bits: u32) -> Result<Vec<u32>, AllocError>
 }
 
 /// The table of these errors.
-fn table_of(alloc: Global, detectors: usize, rows: &[u32]) -> Result<Table, Refusal> {
+pub fn table_of(alloc: Global, detectors: usize, rows: &[u32]) -> Result<Table, Refusal> {
     let mut table = Table::new(alloc, detectors);
     for row in rows {
         table.push(numbers_of(alloc, *row)?.as_slice())?;
