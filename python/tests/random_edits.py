@@ -54,57 +54,61 @@ def edit(session, numbers):
         session.insert(at.path, numbers.choice(CHANNELS).format(*numbers.sample(range(circuit.num_qubits), 3)))
     elif kind in ("pauli", "tick"):
         session.insert(at.path, "TICK" if kind == "tick" else f"{numbers.choice('XYZ')} {qubits[0]}")
-    elif kind == "same":
-        # A gate and what undoes it, perhaps with noise between.
-        name = numbers.choice(PAIRS + GATES)
-        gate = f"{name} {qubits[0]}" + f" {qubits[1]}" * (name in PAIRS)
-        session.insert(at.path, str(stabsim.Circuit(gate).inverse()).strip())
-        session.insert(at.path, numbers.choice(["TICK", "X_ERROR(0.25) {}", "DEPOLARIZE1(0.1) {}"]).format(qubits[0]))
-        session.insert(at.path, gate)
-    elif kind == "pair":
-        # The pairs of a gate in another order, or one of them by itself.
-        some = [item for item in plain if item.name == "CX"]
-        if some:
-            item = numbers.choice(some)
-            pairs = list(zip(item.targets[::2], item.targets[1::2]))
-            numbers.shuffle(pairs)
-            session.replace(item.path, " ".join(["CX", *(qubit for pair in pairs[: numbers.choice([len(pairs), len(pairs), 1])] for qubit in pair)]))
-    elif kind == "order":
-        some = [item.path for item in plain if item.name == "CX"]
-        if len(some) > 1:
-            one, other = numbers.sample(some, 2)
-            if one.rpartition("/")[0] == other.rpartition("/")[0]:
-                session.move(one, other)
     elif kind == "move":
         *around, last = at.path.split("/")
         session.move(at.path, "/".join([*around, str(max(int(last) - 1, 0))]))
     elif kind == "delete":
         session.delete(at.path, keep_records=numbers.random() < 0.7)
-    elif kind == "detector":
-        some = [item for item in plain if item.name == "DETECTOR"]
-        if some and numbers.random() < 0.5:
-            item = numbers.choice(some)
-            numbers.choice([session.delete, lambda path: session.replace(path, f"DETECTOR(7) {' '.join(item.targets)}"), lambda path: session.insert(path, str(item))])(item.path)
-        else:
-            session.insert(at.path, f"DETECTOR(1, 2) rec[-{numbers.randint(1, 4)}]")
-    elif kind == "measure":
-        session.insert(at.path, numbers.choice(["M {}", "MX {}", "MR(0.1) {}", "R {}", "RX {}", "MZZ {} {}", "MPP(0.2) X{}*X{}"]).format(*qubits), keep_records=numbers.random() < 0.7)
-    elif kind == "records":
-        some = [item for item in plain if item.name in ("M", "MR", "MX")]
-        if some:
-            item = numbers.choice(some)
-            session.replace(item.path, f"{item.name}(0.125) {' '.join(item.targets)} {qubits[0]}", keep_records=True)
-    elif kind == "sign":
-        some = [item for item in plain if item.name in ("M", "MR", "MX")]
-        item = numbers.choice(some)
-        session.replace(item.path, f"{item.name} !{item.targets[0].lstrip('!')} {' '.join(item.targets[1:])}")
+    elif kind == "undo":
+        session.undo()
+    elif kind in ("same", "pair", "order"):
+        edit_gates(session, numbers, kind, plain, at, qubits)
     elif kind == "split":
         blocks = [item for item in items if item.repeat]
         if blocks:
             block = numbers.choice(blocks)
             session.split(block.path, numbers.randrange(block.repeat))
     else:
-        session.undo()
+        edit_records(session, numbers, kind, plain, at, qubits)
+
+
+def edit_gates(session, numbers, kind, plain, at, qubits):
+    """Puts in a gate and what undoes it, perhaps with noise between; or the pairs of a gate get another order, or a gate another place."""
+    some = [item for item in plain if item.name == "CX"]
+    if kind == "same":
+        name = numbers.choice(PAIRS + GATES)
+        gate = f"{name} {qubits[0]}" + f" {qubits[1]}" * (name in PAIRS)
+        session.insert(at.path, str(stabsim.Circuit(gate).inverse()).strip())
+        session.insert(at.path, numbers.choice(["TICK", "X_ERROR(0.25) {}", "DEPOLARIZE1(0.1) {}"]).format(qubits[0]))
+        session.insert(at.path, gate)
+    elif kind == "pair" and some:
+        item = numbers.choice(some)
+        pairs = list(zip(item.targets[::2], item.targets[1::2]))
+        numbers.shuffle(pairs)
+        # Or one pair alone stays.
+        session.replace(item.path, " ".join(["CX", *(qubit for pair in pairs[: numbers.choice([len(pairs), len(pairs), 1])] for qubit in pair)]))
+    elif kind == "order" and len(some) > 1:
+        one, other = numbers.sample([item.path for item in some], 2)
+        if one.rpartition("/")[0] == other.rpartition("/")[0]:
+            session.move(one, other)
+
+
+def edit_records(session, numbers, kind, plain, at, qubits):
+    """Edits detectors or measurements: puts some in or takes them out, or a measurement gets one more target, or another sign."""
+    some = [item for item in plain if item.name == "DETECTOR"] if kind == "detector" else [item for item in plain if item.name in ("M", "MR", "MX")]
+    if kind == "detector" and some and numbers.random() < 0.5:
+        item = numbers.choice(some)
+        numbers.choice([session.delete, lambda path: session.replace(path, f"DETECTOR(7) {' '.join(item.targets)}"), lambda path: session.insert(path, str(item))])(item.path)
+    elif kind == "detector":
+        session.insert(at.path, f"DETECTOR(1, 2) rec[-{numbers.randint(1, 4)}]")
+    elif kind == "measure":
+        session.insert(at.path, numbers.choice(["M {}", "MX {}", "MR(0.1) {}", "R {}", "RX {}", "MZZ {} {}", "MPP(0.2) X{}*X{}"]).format(*qubits), keep_records=numbers.random() < 0.7)
+    elif some:
+        item = numbers.choice(some)
+        if kind == "records":
+            session.replace(item.path, f"{item.name}(0.125) {' '.join(item.targets)} {qubits[0]}", keep_records=True)
+        else:
+            session.replace(item.path, f"{item.name} !{item.targets[0].lstrip('!')} {' '.join(item.targets[1:])}")
 
 
 def told(call):

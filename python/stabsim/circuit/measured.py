@@ -9,7 +9,7 @@ from stabsim import checking
 from stabsim.circuit.circuit import Circuit
 from stabsim.formats import bits
 from stabsim.formats.combining import Numbers, odd
-from stabsim.noise.models import faults_of
+from stabsim.noise.marked_faults import faults_of
 from stabsim.noise.sourced import errors_of
 from stabsim.text.judging import judged
 from stabsim.text.reading import items_of

@@ -12,24 +12,22 @@ import numpy as np
 from numpy.typing import NDArray
 
 from stabsim import checking, program
-from stabsim.errors import Refused
 from stabsim.formats import bits, combining, sparse
 from stabsim.noise import dem, drawing
 from stabsim.noise.causes import Cause, Causes
 from stabsim.noise.decomposing import Parts, parts_of
 from stabsim.noise.disjoint import Noise, noise_of, together
-from stabsim.noise.marking import Marked, marked
+from stabsim.noise.marked_faults import faults_of, profile_of
+from stabsim.noise.marking import Marked
 from stabsim.noise.model_distance import distance_of_model, sat_problem_of_model
 from stabsim.noise.sourced import errors_of
-from stabsim.questions.asked import Asked
 from stabsim.questions.circuit_errors import CircuitError
 from stabsim.questions.distances import Distance
 from stabsim.questions.faults import FaultTable
-from stabsim.questions.gauges import Basis, gauges_of, table_with_gauges, with_gauges
+from stabsim.questions.gauges import gauges_of, with_gauges
 from stabsim.shots import chunks
 from stabsim.shots.seeds import SeededBits, SeededBytes, drawn_seed, seeded
 from stabsim.text.coordinates import detector_rows, places_of
-from stabsim.text.judging import in_users_words, judged
 from stabsim.text.profile import Profile
 
 if TYPE_CHECKING:
@@ -37,8 +35,6 @@ if TYPE_CHECKING:
 
 Bits = NDArray[np.bool_]
 Packed = NDArray[np.uint8]
-
-MARKS_COUNT = "A step more is counted for each qubit that an error may meet, before a measurement and after it: these are too many."
 
 
 @dataclass(frozen=True, eq=False)
@@ -348,8 +344,9 @@ def error_model(circuit: "str | Circuit", *, decompose: bool = False, ignore_dec
     decompose: name for each mechanism that flips more than two detectors others that flip the same together, for decoders by
     matching; stabsim.NotDecomposed names one that has none, or with ignore_decomposition_failures it stays whole.
     approximate_disjoint_errors: if a PAULI_CHANNEL, heralded errors, or E with ELSE_CORRELATED_ERROR, are no product of independent errors,
-    take the disjoint errors for such; the model names these lines, and `collect` draws their shots as they are. sure_only: leave out detectors and observables that coins decide, which else
-    are refused. allow_gauge_detectors: take what coins flip, if that is detectors alone, for errors of chance a half.
+    take the disjoint errors for such; the model names these lines, and `collect` draws their shots as they are. sure_only: leave out
+    detectors and observables that coins decide, which else are refused. allow_gauge_detectors: take what coins flip, if that is detectors
+    alone, for errors of chance a half.
 
     >>> import stabsim
     >>> print(stabsim.error_model("R 0\\nX_ERROR(0.25) 0\\nM 0\\nDETECTOR(1) rec[-1]\\n").dem, end="")
@@ -369,29 +366,6 @@ def decomposed(model: ErrorModel, ignore_failures: bool) -> ErrorModel:
     """A model with parts, of mechanisms of which no two flip the same."""
     numbered = parts_of(model.chances, model.indptr, model.indices, model.num_detectors, ignore_failures)
     return replace(model, parts=Parts.of_mechanisms(numbered, model.indptr, model.indices))
-
-
-def profile_of(circuit: "str | Circuit") -> Profile:
-    """What a circuit becomes for the program, with its noise beside it."""
-    if isinstance(circuit, Asked) and isinstance(getattr(circuit, "profile", None), Profile):
-        found: Profile = circuit.profile
-        return found
-    return judged(checking.of_kind("circuit", circuit, str, "a text of a circuit, or a stabsim.Circuit"))
-
-
-def faults_of(profile: Profile, approximate: bool, sure_only: bool, basis: Basis) -> tuple[Marked, FaultTable]:
-    """The circuit of a text with noise, with marks, and the table of its faults; basis: of its gauges."""
-    circuit = marked(profile.noisy.items(), approximate)
-    try:
-        return circuit, table_with_gauges(circuit.text, basis) if basis else Asked(circuit.text).faults(sure_only=sure_only)
-    except Refused as refused:
-        # Its places are those of the text with marks. What a coin decides is refused of the judged text too, by the user's items.
-        if refused.name == "NotDeterministic":
-            try:
-                Asked(profile.judged.text).faults()
-            except Refused as again:
-                raise in_users_words(again, profile) from None
-        raise Refused(refused.number, refused.name, None, MARKS_COUNT if refused.name == "TooManySteps" else "") from None
 
 
 def model_of(circuit: Marked, table: FaultTable, coordinates: NDArray[np.float64], profile: Profile) -> ErrorModel:
