@@ -1,5 +1,6 @@
 """The page of exact distances has what the program answers."""
 
+import os
 import pathlib
 import re
 import subprocess
@@ -10,7 +11,8 @@ import stabsim
 
 PAGE = (pathlib.Path(__file__).resolve().parents[2] / "docs/use/distances.md").read_text(encoding="utf-8")
 ANSWERED = re.findall(r"^\| `([^`]+)` \| (all|X and Z) \| (\d+) \|", PAGE, re.MULTILINE)
-[(BOUNDED, MOST)] = re.findall(r"`([^`]+)` with 12 rounds, `--letters XZ --most (\d+)` answers `none up to \2`", PAGE)
+# Its search takes minutes, so it is tried before a release alone.
+GROSS = "bivariate_bicycle_code --orders 12 6 --rounds 12"
 # Codes that are kept in X too.
 IN_X = ("surface_code", "unrotated_surface_code", "toric_code", "bivariate_bicycle_code")
 
@@ -22,16 +24,19 @@ def circuit_of(words):
 
 
 def test_each_row_of_the_page_is_tried():
-    assert len(ANSWERED) == sum(line.startswith("| `") for line in PAGE.splitlines()) == 13
+    assert len(ANSWERED) == sum(line.startswith("| `") for line in PAGE.splitlines()) == 14
+    assert (GROSS, "X and Z", "10") in ANSWERED
 
 
 @pytest.mark.parametrize("words, errors, distance", ANSWERED)
 def test_a_circuit_has_the_distance_of_its_row(words, errors, distance):
+    if words == GROSS and "STABSIM_RELEASE" not in os.environ:
+        pytest.skip("tried before a release, with STABSIM_RELEASE set")
     for basis in ["", " --basis X"] if words.startswith(IN_X) else [""]:
         found = circuit_of(words + basis).distance(everywhere=True, letters="all" if errors == "all" else "XZ")
         assert found.distance == int(distance) == len(found.errors)
 
 
-def test_seven_errors_of_the_gross_code_do_not_go_unseen():
-    found = circuit_of(BOUNDED).distance(everywhere=True, letters="XZ", most=int(MOST))
-    assert (found.distance, found.most) == (None, int(MOST))
+def test_eight_errors_of_the_gross_code_do_not_go_unseen():
+    found = circuit_of(GROSS + " --basis X").distance(everywhere=True, letters="XZ", most=8)
+    assert (found.distance, found.most) == (None, 8)
