@@ -32,11 +32,11 @@ def test_each_row_of_the_page_is_tried():
 def test_a_circuit_has_the_distance_of_its_row(words, errors, distance):
     if words == GROSS and "STABSIM_RELEASE" not in os.environ:
         pytest.skip("tried before a release, with STABSIM_RELEASE set")
-    for basis in ["", " --basis X"] if words.startswith(IN_X) else [""]:
+    for basis in ["", " --basis X"] if words.startswith(IN_X) and words != GROSS else [""]:
         found = circuit_of(words + basis).distance(everywhere=True, letters="all" if errors == "all" else "XZ")
         assert found.distance == int(distance) == len(found.errors)
 
 
 def test_eight_errors_of_the_gross_code_do_not_go_unseen():
-    found = circuit_of(GROSS + " --basis X").distance(everywhere=True, letters="XZ", most=8)
+    found = circuit_of(GROSS).distance(everywhere=True, letters="XZ", most=8)
     assert (found.distance, found.most) == (None, 8)
