@@ -120,7 +120,7 @@ def asked_of(circuit, letters):
 
 
 def test_the_least_weight_of_the_program_s_problem_is_the_distance():
-    circuit = codes.repetition_code(3, 2)
+    circuit = stabsim.Circuit(codes.repetition_code(3, 2))
     problem = asked_of(circuit, "XZ")
     distance = circuit.distance(everywhere=True, letters="XZ")
     assert least_weight(problem) == distance.distance == 3
