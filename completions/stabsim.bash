@@ -1,7 +1,7 @@
 # Completes the words of stabsim in bash. The README says where to put it; to try it: . completions/stabsim.bash
 _stabsim() {
     local word=${COMP_WORDS[COMP_CWORD]} before=${COMP_WORDS[COMP_CWORD-1]} command=${COMP_WORDS[1]} choices=
-    local commands="sample detect stabilisers edit check deterministic faults coins distance"
+    local commands="sample detect stabilisers edit check deterministic faults coins distance propagate"
     COMPREPLY=()
     # bash takes the = of --out_format=dets for a word by itself.
     if [ "$word" = "=" ]; then
@@ -17,7 +17,7 @@ _stabsim() {
         ;;
     --out_format) choices="01 b8 r8 hits dets" ;;
     --letters) choices="all XZ" ;;
-    --shots | --first_shot | --seed | --coins | --qubits | --stride | --most | --observable) return ;;
+    --shots | --first_shot | --seed | --coins | --qubits | --stride | --most | --observable | --at) return ;;
     *)
         case $command in
         sample) choices="--shots --first_shot --out_format --seed --coins --coins_in --in --out --help" ;;
@@ -28,7 +28,8 @@ _stabsim() {
         deterministic) choices="--out_format --explain --in --out --help" ;;
         faults) choices="--out_format --everywhere --deterministic_only --in --out --help" ;;
         coins) choices="--out_format --in --out --help" ;;
-        distance) choices="--everywhere --letters --most --graphlike --observable --each --table --wcnf --deterministic_only --progress --in --out --help" ;;
+        distance) choices="--everywhere --letters --most --graphlike --observable --each --table --wcnf --count --deterministic_only --progress --in --out --help" ;;
+        propagate) choices="--at --in --out --help" ;;
         help) [ "$COMP_CWORD" -eq 2 ] && choices=$commands ;;
         esac
         [ "$COMP_CWORD" -eq 1 ] && choices="$commands help --help --version"

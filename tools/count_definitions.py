@@ -21,11 +21,13 @@ THEOREMS = {
     "deterministic": ["stab_texts.Deterministic.EndsDeterministic"],
     "faults, coins and deterministic --explain": [
         "stab_texts.FaultTables.EndsFaults", "stab_texts.CoinTables.EndsCoins", "stab_texts.Reasons.EndsExplain"],
-    "distance": ["stab_texts.Distances.EndsDistance", "stab_texts.Distances.EndsSearched", "stab_texts.Distances.EndsEach"],
+    "distance": ["stab_texts.Distances.EndsDistance", "stab_texts.Distances.EndsSearched", "stab_texts.Distances.EndsEach",
+        "stab_texts.Distances.EndsCounted"],
     "errors everywhere": [
         "stab_errors.EverywhereLaws.WrongRecordsAreInverted", "stab_errors.EverywhereLaws.LettersAreErrors", "stab_errors.EverywhereLaws.StringsAreErrors"],
     "edit": ["stab_editor.ScriptEndings.EndsPlainEdit"],
     "edit --framed": ["stab_editor.ScriptEndings.EndsEdit"],
+    "propagate": ["stab_propagation.Endings.EndsPropagate"],
     "a job and its status": ["stab_cli.Jobs.EndsJob"],
     "what a session is": ["stab_session.Headline.IsRunOfItems", "stab_session.Sessions.IsSignIn", "stab_tableau.Reduced.AreReduced"],
     "an edit of a session": ["stab_session.SessionEdits.IsEditedBy", "stab_session.SessionEdits.IsAsBefore"],

@@ -1,4 +1,4 @@
-"""What the tools read of the pages, which are the README, the list of changes and docs/, and of the files that git keeps."""
+"""What the tools read of the pages, which are the README, the list of changes, CONTRIBUTING.md and docs/, and of the files that git keeps."""
 
 import re
 import shutil
@@ -9,7 +9,7 @@ from pathlib import Path
 from program import TOP
 
 DOCS = TOP / "docs"
-PAGES = [TOP / "README.md", TOP / "CHANGELOG.md", *sorted(DOCS.glob("**/*.md"))]
+PAGES = [TOP / "README.md", TOP / "CHANGELOG.md", TOP / "CONTRIBUTING.md", *sorted(DOCS.glob("**/*.md"))]
 BLOCK = re.compile(r"^```(\S*)[ ]*(.*?)\n(.*?)^```[ ]*$", re.MULTILINE | re.DOTALL)
 
 

@@ -78,8 +78,10 @@ faults --out_format 01 --in marked.stim
 distance --in marked.stim
 distance --observable 0 --in marked.stim
 distance --each --in marked.stim
+propagate --at 1 X0 --in bell.stim
 distance --table --in marked.stim
 distance --wcnf --in marked.stim
+distance --count --in marked.stim
 """
 
 Done = subprocess.CompletedProcess[bytes]

@@ -27,7 +27,7 @@ __all__ = [
     "NoisySession", "NotDecomposed", "Numbers", "OtherExperiment", "Parity", "Path", "Predict", "ProgramFailed", "RandomBit", "Rate", "Refused",
     "Retargeted", "SameDistribution", "SameFlows", "Seeded", "Session", "SessionEnded", "SessionNumbers", "SparseMatrix", "StabsimError",
     "StimCircuit", "Sums",
-    "Sure", "UnsupportedNoise", "codes", "collect", "combine", "error_model", "find_program", "fit_rate", "from_stim", "m2d", "plot",
+    "Sure", "Turn", "UnsupportedNoise", "Way", "codes", "collect", "combine", "error_model", "find_program", "fit_rate", "from_stim", "m2d", "plot",
     "rate_per_round", "read_shots", "retargeted", "with_chances", "without_noise", "write_shots",
 ]
 
@@ -63,6 +63,7 @@ if TYPE_CHECKING:
     from stabsim.questions.parities import Parity, SameDistribution
     from stabsim.questions.random_bits import DecidingCoin, RandomBit
     from stabsim.questions.sure import Sure
+    from stabsim.questions.ways import Turn, Way
     from stabsim.session.retargeting import Retargeted, retargeted
     from stabsim.session.script import Path
     from stabsim.session.session import NoisySession, Session
@@ -100,6 +101,7 @@ else:
         "questions.parities": ("Parity", "SameDistribution"),
         "questions.random_bits": ("DecidingCoin", "RandomBit"),
         "questions.sure": ("Sure",),
+        "questions.ways": ("Turn", "Way"),
         "session.retargeting": ("Retargeted", "retargeted"),
         "session.script": ("Path",),
         "session.session": ("NoisySession", "Session"),

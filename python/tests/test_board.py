@@ -97,6 +97,43 @@ def test_an_edit_in_one_round_is_one_entry_that_moves_no_bits(board):
     assert board.text() != before and board.text() == text_at_first()
 
 
+def test_undo_and_redo_are_the_sessions_own_and_say_what_edits_would(board, monkeypatch):
+    made = [lambda: board.edit([Edit("insert", str(BLOCK), "X 10")]), lambda: board.edit_in_round([Edit("insert", f"{BLOCK + 2}/0", "X 10")], str(BLOCK + 1), 2),
+            lambda: board.edit([Edit("insert", "0", "H 1"), Edit("insert", "0", "H 1")])]
+    texts = [board.text(), *((it(), board.text())[1] for it in made)]
+    ways = [2, 0, 3, 1, 2, 1, 3, 0]
+
+    def told():
+        return [({key: its for key, its in board.go(at).items() if key != "age"}, board.text(), board.written()) for at in ways]
+
+    monkeypatch.setattr(board, "_carry_out", None)
+    session, by_history = board.session, told()
+    assert board.session is session and [text for _, text, _ in by_history] == [texts[at] for at in ways]
+    # What the session did is forgotten, and edits are made in its place.
+    monkeypatch.undo()
+    board.go(3)
+    for entry in board.entries:
+        entry.changes = []
+    assert told() == by_history
+
+
+def test_an_undo_that_fails_on_the_way_changes_nothing(board, monkeypatch):
+    board.edit([Edit("insert", str(BLOCK), "X 10")])
+    board.edit([Edit("insert", str(BLOCK), "X 1")])
+    before, undo, calls = board.text(), board.session.undo, []
+
+    def refused_at_last():
+        calls.append(0)
+        if len(calls) == 2:
+            raise stabsim.Refused(16, "OutOfMemory")
+        return undo()
+
+    monkeypatch.setattr(board.session, "undo", refused_at_last)
+    with pytest.raises(stabsim.Refused):
+        board.go(0)
+    assert board.text() == before and board.position == 2 and len(calls) == 2
+
+
 def test_a_split_is_one_edit_and_a_script_has_its_parts(board):
     told = board.split(str(BLOCK), 2)
     assert told["edits"] == [{"kind": "split", "place": str(BLOCK), "item": "2"}] and told["flipped"] == []
@@ -133,6 +170,8 @@ def test_an_edit_in_a_round_that_fails_otherwise_leaves_the_block_whole(board, i
 def test_going_back_is_all_or_nothing(board, monkeypatch):
     for qubit in (1, 3):
         board.edit([Edit("insert", str(BLOCK), f"X {qubit}")])
+        # What the session did is forgotten, so edits are made in its place.
+        board.entries[-1].changes = []
     before = board.opened()
     delete, left = board.session.delete, [1]
 

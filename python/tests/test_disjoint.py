@@ -105,6 +105,15 @@ def test_flips_come_as_often_as_all_cases_make_them(text):
     assert total < len(wanted) + 4.5 * math.sqrt(2 * len(wanted)), (total, len(wanted))
 
 
+def test_depolarising_that_is_more_than_full_is_drawn_as_it_is():
+    # X and Y flip the detector, each by 0.3.
+    text, shots = "R 0\nDEPOLARIZE1(0.9) 0\nM 0\nDETECTOR rec[-1]\n", 20_000
+    assert abs(stabsim.Circuit(text).detect(shots, seed=4).mean() - 0.6) < 4.5 * math.sqrt(0.24 / shots)
+    with pytest.raises(stabsim.UnsupportedNoise, match="line 2: .* is stronger than full"):
+        stabsim.error_model(text)
+    assert stabsim.error_model(text, approximate_disjoint_errors=True).approximated == (2,)
+
+
 def test_a_shot_is_the_same_whatever_others_are_drawn_with_it():
     circuit = stabsim.Circuit(TEXTS[4])
     many = circuit.detect(3000, seed=3)

@@ -33,20 +33,23 @@ def repetition(distance):
     return f"MPP {' '.join(f'Z{it}*Z{it + 1}' for it in range(distance - 1))}"
 
 
+# Texts, with their distances, and how many least sets they have.
 BY_HAND = {
-    "repetition 3": (code_text(repetition(3), "Z0", 3, "I[X]"), 3),
-    "repetition 5": (code_text(repetition(5), "Z0", 5, "I[X]"), 5),
+    "repetition 3": (code_text(repetition(3), "Z0", 3, "I[X]"), 3, 1),
+    "repetition 5": (code_text(repetition(5), "Z0", 5, "I[X]"), 5, 1),
     # No check sees Z, which flips the product of all X.
-    "repetition 5, phase flips": (code_text(repetition(5), "X0*X1*X2*X3*X4", 5, "I[Z]"), 1),
-    "five-qubit": (code_text(FIVE, "Z0*Z1*Z2*Z3*Z4", 5), 3),
+    "repetition 5, phase flips": (code_text(repetition(5), "X0*X1*X2*X3*X4", 5, "I[Z]"), 1, 5),
+    # Of 30 logical operators on three qubits, ten have an X, ten a Y and ten a Z of the code.
+    "five-qubit": (code_text(FIVE, "Z0*Z1*Z2*Z3*Z4", 5), 3, 20),
     # The logical Z is 0 of an operator of letters other than Z alone too.
-    "Steane": (code_text(STEANE, "Z0*Z1*Z2*Z3*Z4*Z5*Z6", 7), 3),
-    "Steane, Z": (code_text(STEANE, "Z0*Z1*Z2*Z3*Z4*Z5*Z6", 7, "I[Z]"), None),
-    "no observable": ("R 0\nI 0\nM 0\nDETECTOR rec[-1]", None),
-    "one error alone": ("R 0 1\nI 0 1\nM 0 1\nDETECTOR rec[-1]\nOBSERVABLE_INCLUDE(3) rec[-2]", 1),
+    # Three X or three Y are on one of seven lines.
+    "Steane": (code_text(STEANE, "Z0*Z1*Z2*Z3*Z4*Z5*Z6", 7), 3, 14),
+    "Steane, Z": (code_text(STEANE, "Z0*Z1*Z2*Z3*Z4*Z5*Z6", 7, "I[Z]"), None, 0),
+    "no observable": ("R 0\nI 0\nM 0\nDETECTOR rec[-1]", None, 0),
+    "one error alone": ("R 0 1\nI 0 1\nM 0 1\nDETECTOR rec[-1]\nOBSERVABLE_INCLUDE(3) rec[-2]", 1, 2),
     # Two letters are one error on a pair, and two on single marks.
-    "pairs": ("R 0 1\nI[pairs] 0 1\nMPP Z0*Z1\nDETECTOR rec[-1]\nM 0\nOBSERVABLE_INCLUDE(0) rec[-1]", 1),
-    "single marks": ("R 0 1\nI[other] 0 1\nMPP Z0*Z1\nDETECTOR rec[-1]\nM 0\nOBSERVABLE_INCLUDE(0) rec[-1]", 2),
+    "pairs": ("R 0 1\nI[pairs] 0 1\nMPP Z0*Z1\nDETECTOR rec[-1]\nM 0\nOBSERVABLE_INCLUDE(0) rec[-1]", 1, 4),
+    "single marks": ("R 0 1\nI[other] 0 1\nMPP Z0*Z1\nDETECTOR rec[-1]\nM 0\nOBSERVABLE_INCLUDE(0) rec[-1]", 2, 4),
 }
 
 
@@ -67,10 +70,10 @@ def check_hidden(circuit, found):
 
 @pytest.mark.parametrize("name", BY_HAND)
 def test_distances_by_hand(name):
-    text, expected = BY_HAND[name]
+    text, expected, count = BY_HAND[name]
     circuit = stabsim.Circuit(text)
-    found = circuit.distance()
-    assert found.distance == expected and found.searched == "all marked errors"
+    found = circuit.distance(count=True)
+    assert (found.distance, found.count, found.searched) == (expected, count, "all marked errors")
     if expected:
         check_hidden(circuit, found)
         assert circuit.distance(most=expected).distance == expected
@@ -157,8 +160,9 @@ def random_circuit(seed):
 def test_no_smaller_set_hides(seed):
     circuit = random_circuit(seed)
     for everywhere in (False, True):
-        found = circuit.distance(everywhere=everywhere, most=MOST_ERRORS, sure_only=True)
-        assert found.distance == Distance(items_of(circuit.text.encode()), everywhere, "XYZ", graphlike=False, deterministic_only=True).least
+        found = circuit.distance(everywhere=everywhere, most=MOST_ERRORS, sure_only=True, count=True)
+        oracle = Distance(items_of(circuit.text.encode()), everywhere, "XYZ", graphlike=False, deterministic_only=True)
+        assert (found.distance, found.count) == (oracle.least, oracle.count)
         if found.distance:
             deterministic = circuit.deterministic()
             detectors, observables = flipped(circuit, found.errors)
@@ -286,8 +290,34 @@ def test_the_lines_of_answers_are_read():
     assert str(distance_of("none up to 3\n")) == "none up to 3 of all marked errors"
     assert str(distance_of("none up to 3 of graph-like errors\n")) == "none up to 3 of graph-like errors"
     assert str(distance_of("none\n", everywhere=True)) == "none of all errors everywhere"
+    found = distance_of("distance 1 of all marked errors\n9 4 M17 L2\ncount 12\n")
+    assert (found.distance, len(found.errors), found.count, distance_of("none\n").count, distance_of("none\ncount 0\n").count) == (1, 1, 12, None, 0)
+    assert distance_of("none up to 3\ncount 18446744073709551616 or more\n").count == 2**64
     with pytest.raises(ValueError, match="is no distance"):
         distance_of("some\n")
+
+
+def test_the_least_sets_of_a_surface_code_are_counted():
+    text = codes.surface_code(3, 3)
+    found = stabsim.Circuit(text).distance(everywhere=True, letters="XZ", count=True)
+    oracle = Distance(items_of(text.encode()), everywhere=True, letters="XZ", graphlike=False)
+    assert (found.distance, found.count) == (oracle.least, oracle.count) and oracle.least == 3
+
+
+def test_the_least_sets_of_a_model_are_of_mechanisms():
+    # A path of three mechanisms is shorter than one of four, and one that has no chance is no mechanism.
+    text = "error(0.1) D0 L0\nerror(0.1) D0 D1\nerror(0.1) D1\nerror(0.1) D1 D2\nerror(0.1) D2\nerror(0) D1\n"
+    found = stabsim.ErrorModel.from_dem(text).distance(count=True)
+    assert (found.distance, found.count) == (3, 1)
+    # Two channels that flip the same are one mechanism.
+    circuit = stabsim.from_stim("R 0 1\nX_ERROR(0.1) 0 0 1\nM 0 1\nDETECTOR rec[-1] rec[-2]\nOBSERVABLE_INCLUDE(0) rec[-1]")
+    assert (circuit.distance(count=True).count, circuit.distance().count) == (1, None)
+
+
+def test_graph_like_sets_are_not_counted():
+    for counted in (stabsim.Circuit("I 0"), stabsim.ErrorModel.from_dem("error(0.1) D0")):
+        with pytest.raises(ValueError, match="count=True is of all errors"):
+            counted.distance(graphlike=True, count=True)
 
 
 def test_a_limit_below_0_is_a_value_error():

@@ -102,9 +102,7 @@ def test_a_mark_goes_where_it_is_pushed_line_by_line(seed):
     seen, flipped = pushed(text, marks)
     [way] = ways_of(text, [[Mark(letter, qubit, (step,)) for step, letter, qubit in marks]])
     assert list(way.records) == flipped
-    assert (way.letters is None) == ("rec" in text)
-    if way.letters is not None:
-        assert [way.letters.get(moment, {}) for moment in range(len(ends) + 1)] == seen and not way.why
+    assert [way.letters.get(moment, {}) for moment in range(len(ends) + 1)] == seen and not way.why
 
 
 def test_in_a_block_a_mark_is_in_its_round_and_is_followed_through_those_after_it():
@@ -129,8 +127,7 @@ def test_a_detector_is_made_of_records_that_are_the_same_for_all_coins_alone():
     many = f"H {' '.join(map(str, range(20)))}\nTICK\nM {' '.join(map(str, range(20)))}\n"
     with pytest.raises(ValueError, match=f"M{MOST_NAMES - 1} and {20 - MOST_NAMES} more, are random"):
         detector_of(many, [Mark("X", qubit, (1,)) for qubit in range(20)])
-    with pytest.raises(ValueError, match="it is known of up to 512 qubits, and 600 are used"):
-        detector_of(f"M {' '.join(map(str, range(600)))}\n", [Mark("X", 0, (0,))])
+    assert detector_of(f"M {' '.join(map(str, range(600)))}\n", [Mark("X", 599, (0,))]) == (599,)
 
 
 WAYS = "page.shown.layers.way(words[0])"
@@ -167,6 +164,18 @@ def test_a_mark_is_drawn_at_each_tick_and_along_the_wires(open_page):
     page.wait(lambda: page.find("moment-said").text == "tick 2")
     page.click("#wires-there")
     page.wait(lambda: not page.find("wires").is_displayed())
+
+
+@needs_browser
+@pytest.mark.parametrize("ending", ["", "DETECTOR rec[-1]\n", "TICK\nCX rec[-1] 0\n"])
+def test_what_a_mark_has_become_depends_on_no_detector(open_page, ending):
+    page = open_page("R 0 1\nTICK\nCX 0 1\nTICK\nH 1\nTICK\nM 0 1\n" + ending)
+    take_layer(page, 4)
+    mark(page, 0, 0, "x")
+    page.wait(lambda: page.ask(WAYS, 4))
+    for moment, letters in enumerate([["4 X0"], ["4 X0", "4 X1"], ["4 X0", "4 Z1"], ["4 X0", "4 Z1"]]):
+        page.go_to(moment)
+        assert page.ask(LETTERS_AT) == letters
 
 
 @needs_browser

@@ -334,16 +334,6 @@ def test_what_coins_decide_has_no_flips():
     assert stabsim.from_stim("H 0\nM 0\nDETECTOR rec[-1]\n").detect(100, seed=1).any()
 
 
-def test_a_shot_that_is_too_long_is_refused_before_it_is_written():
-    with pytest.raises(stabsim.Refused, match="9 TooManySteps\nA shot is written out, and has 2000000002 words.*\nOf detectors `detect` draws"):
-        stabsim.from_stim("REPEAT 1000000000 {\nX_ERROR(0.1) 0\n}\nM 0\n").sample(1)
-
-
-def test_a_shot_has_as_many_steps_as_its_gates_and_errors():
-    with pytest.raises(stabsim.Refused, match="9 TooManySteps\nA shot is written out, with its errors as gates"):
-        stabsim.from_stim(f"REPEAT 1024 {{\nX {' 0' * 1024}\nX_ERROR(1) 0\n}}\n").sample(1)
-
-
 LONG = " ".join(map(str, range(300)))
 
 

@@ -7,7 +7,7 @@ from functools import cached_property, lru_cache
 from random import Random
 from typing import Any
 
-from . import doubts, formats, numbers, scripts, states, sums
+from . import doubts, formats, numbers, scripts, states, sums, ways
 from .coins import coins_of_seed
 from .distances import Distance
 from .reading import Items, Refused, items_of
@@ -40,7 +40,8 @@ class Case:
     @cached_property
     def words(self) -> list[str]:
         given = [(name, value) for name, value in self.settings if value is not None and value is not False]
-        options = [[f"--{name}", *([] if value is True else [str(value)])] for name, value in given]
+        # A string that is put in is a word by itself.
+        options = [[f"--{name}"] * (name != "string") + ([] if value is True else [str(value)]) for name, value in given]
         return [self.command, *(word for option in options for word in option)]
 
     def setting(self, name: str, default: Any = None) -> Any:
@@ -68,6 +69,7 @@ DRAWN: dict[str, Callable[[Random], Any]] = {
     "observable": lambda dice: dice.choice((None, None, 0, 0, 1, 2, 4095)),
     "each": lambda dice: dice.random() < 0.3,
     "table": lambda dice: dice.random() < 0.3,
+    "count": lambda dice: dice.random() < 0.3,
 }
 OPTIONS = {
     "sample": ("seed", "coins", "shots", "out_format", "first_shot"),
@@ -77,7 +79,7 @@ OPTIONS = {
     "deterministic": ("out_format", "explain"),
     "faults": ("out_format", "everywhere", "deterministic_only"),
     "coins": ("out_format",),
-    "distance": ("letters", "most", "graphlike", "observable", "each", "table"),
+    "distance": ("letters", "most", "graphlike", "observable", "each", "table", "count"),
     "check": (),
 }
 
@@ -86,7 +88,7 @@ def random_case(dice: Random, command: str, text: bytes, script: bytes | None = 
     """A case with options by chance, except for those that are given."""
     settings = {name: DRAWN[name](dice) for name in OPTIONS[command]} | fixed
     # A first shot is one of a seed, and not beside coins; what is explained has no format; a table is not beside what is about
-    # a search; and each observable is not beside one.
+    # a search; each observable is not beside one; and a count is of one answer about all errors.
     if settings.get("coins") is not None:
         settings["first_shot"] = None
     if settings.get("explain"):
@@ -95,6 +97,8 @@ def random_case(dice: Random, command: str, text: bytes, script: bytes | None = 
         settings["most"] = settings["observable"] = settings["each"] = None
     if settings.get("each"):
         settings["observable"] = None
+    if settings.get("table") or settings.get("each") or settings.get("graphlike"):
+        settings["count"] = None
     return Case(command, text, tuple(settings.items()), script)
 
 
@@ -149,12 +153,18 @@ def counted(items: Items, _: Case) -> Ended:
     return 0, "".join(f"{name}: {number}\n" for name, number in zip(COUNTED, found)).encode(), doubts.told(items)
 
 
+def propagated(items: Items, case: Case) -> Ended:
+    place, string = int(case.setting("at").removeprefix("@")), case.setting("string")
+    return 0, ways.text_of(items, place, [(factor[0], int(factor[1:])) for factor in string.split("*")]), b""
+
+
 ANSWERS: dict[str, Callable[[Items, Case], Ended]] = {
     "stabilisers": lambda items, case: (0, states.rows_text(states.run_of(items, numbers.qubits(items), coins_of(case, 0)).state), b""),
     "coins": lambda items, case: (0, sums.coins_text(items, case.setting("out_format")), b""),
     "deterministic": lambda items, case: (
         0, sums.explained(items) if case.setting("explain") else sums.deterministic(items, case.setting("out_format", "01")), b""),
     "sample": shots, "detect": shots, "edit": edit, "faults": faults, "check": counted,
+    "propagate": propagated,
 }
 
 
@@ -208,7 +218,8 @@ def distance(items: Items, case: Case, answer: Ended) -> Ended:
     if case.setting("table"):
         is_none = not found.table and not case.setting("everywhere", False)
         return 0, found.lines().encode(), told + is_none * (NO_LETTERS if case.setting("letters") else NO_MARKS)
-    wrong = wrong_for_each(items, case, answer[1]) if case.setting("each") else found.wrong(answer[1], case.setting("most"))
+    judged = found.wrong_count if case.setting("count") else found.wrong
+    wrong = wrong_for_each(items, case, answer[1]) if case.setting("each") else judged(answer[1], case.setting("most"))
     if observable is not None and observable >= numbers.observables(items):
         told += f"stabsim: the circuit has no L{observable}, observables: {numbers.observables(items)}\n".encode()
     # That nothing is marked, or no letter is left, is told last.

@@ -1,9 +1,11 @@
 """Distances: the errors of a circuit, and the smallest sets of them that flip an observable and no detector, of up to `MOST_ERRORS`."""
 
+from collections import Counter
 from collections.abc import Iterator, Sequence
 from dataclasses import dataclass
 from functools import reduce
 from itertools import combinations, product as all_of
+from math import prod
 from operator import xor
 
 from . import numbers
@@ -126,8 +128,12 @@ class Distance:
         self.all_rows = rows
         self.rows = {error: rows[error] for error in self.table if not graphlike or self.is_graphlike(rows[error])}
         flipping = sorted(set(self.rows.values()) - {0})
-        sizes = range(1, MOST_ERRORS + 1)
-        self.least = next((size for size in sizes if any(self.is_unseen(reduce(xor, chosen)) for chosen in combinations(flipping, size))), None)
+        of_sizes = ([it for it in combinations(flipping, size) if self.is_unseen(reduce(xor, it))] for size in range(1, MOST_ERRORS + 1))
+        least = next((sets for sets in of_sizes if sets), [])
+        self.least = len(least[0]) if least else None
+        # A least set has no two errors that flip the same, and each of them may be any of those that do.
+        alike = Counter(rows[error] for error in self.table)
+        self.count = sum(prod(alike[row] for row in chosen) for chosen in least)
 
     def detectors(self, row: int) -> int:
         """How many detectors a row has."""
@@ -154,6 +160,13 @@ class Distance:
         """Whether these are lines of errors that are unseen together."""
         known = {self.line(error): row for error, row in self.rows.items()}
         return all(line in known for line in lines) and self.is_unseen(reduce(xor, (known[line] for line in lines), 0))
+
+    def wrong_count(self, answer: bytes, most: int | None) -> str | None:
+        """The same with the line of how many least sets there are after it: of more errors than all sets are tried of, there are some."""
+        *before, line, _ = answer.decode().split("\n")
+        count = int(line.removeprefix("count ")) if line.startswith("count ") else None
+        is_right = count is not None and (count > 0 if self.least is None and len(before) > 1 else count == self.count * (len(before) > 1))
+        return self.wrong("".join(f"{it}\n" for it in before).encode(), most) if is_right else f"{line!r}, but of {self.least} errors there are {self.count} sets"
 
     def wrong(self, answer: bytes, most: int | None) -> str | None:
         """What is wrong of what the command `distance` wrote of up to this many errors, if anything is."""

@@ -4,11 +4,11 @@ from collections.abc import Callable
 from dataclasses import replace
 from random import Random
 
-from . import fault_making, making, printing, script_making
+from . import fault_making, making, numbers, printing, script_making, ways
 from .answers import Case, random_case, session_for
 from .formats import FORMATS
 from .making import Maker, lines_of, random_gates, small_circuit, undoing
-from .reading import Block, Items, Refused
+from .reading import Block, Items, Refused, items_of
 from .script_making import SHOWS
 from .scripts import Session
 from .states import TooLarge
@@ -203,10 +203,24 @@ def distances(dice: Random) -> list[Case]:
     return [random_case(dice, "distance", fault_making.code_circuit(dice), everywhere=dice.random() < 0.05)]
 
 
+def strings_put_in(dice: Random) -> list[Case]:
+    """A string of some letters that is put into a small circuit."""
+    text = small_circuit(dice)
+    try:
+        items = items_of(text)
+        if not numbers.qubits(items):
+            return []
+        place, string = ways.asked(dice, items)
+    except (Refused, TooLarge):
+        return []
+    return [Case("propagate", text, (("at", f"@{place}"), ("string", "*".join(f"{letter}{qubit}" for letter, qubit in string))))]
+
+
 FAMILIES: dict[str, Callable[[Random], list[Case]]] = {
     "by a script": by_script, "by the grammar": by_grammar, "damaged": damaged, "undone": undone, "with deterministic parities": deterministic_parities,
     "large": large, "edited": edited, "many shots": many_shots, "marked": marked, "blocks": blocks,
     "sessions on blocks": sessions_on_blocks, "lines that come again": lines_that_come_again, "far apart": far_apart, "distances": distances,
+    "strings put in": strings_put_in,
 }
 # How often families are tried among those of small circuits. The others are large in some way.
 WEIGHTS = {"by a script": 35, "by the grammar": 27, "damaged": 31, "undone": 3, "with deterministic parities": 2}

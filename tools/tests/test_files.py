@@ -119,6 +119,8 @@ UNMARKED, MARKED = (f"R 0\n{mark}M 0\nOBSERVABLE_INCLUDE(0) rec[-1]\n" for mark 
 # Two flips of a bit that is measured twice, and compared, are seen by no detector.
 TWICE = "R 0 1\nI[X] 0 1\nM 0 1\nDETECTOR rec[-1] rec[-2]\nOBSERVABLE_INCLUDE(0) rec[-1]\n"
 DISTANCE_OF_TWICE = "distance 2 of all marked errors\n2 1 X0 D0\n3 1 X1 D0 L0\n"
+# Without errors no observable is flipped, and one has to be.
+NO_PROBLEM = "p wcnf 1 2 1\n1 1 0\n1 -1 0\n"
 
 
 # Words, a circuit, the answer, and what is said beside it.
@@ -143,6 +145,11 @@ DISTANCE_OF_TWICE = "distance 2 of all marked errors\n2 1 X0 D0\n3 1 X1 D0 L0\n"
     ("distance --table", TWICE, "2 1 X0 D0\n3 1 X1 D0 L0\n", ""),
     ("distance --table", UNMARKED, "", NO_MARKS),
     ("distance --table --letters XZ", MARKED, "", NO_LETTERS),
+    ("distance --wcnf", UNMARKED, NO_PROBLEM, NO_MARKS),
+    ("distance --wcnf --letters XZ", MARKED, NO_PROBLEM, NO_LETTERS),
+    ("distance --count", TWICE, DISTANCE_OF_TWICE + "count 1\n", ""),
+    ("distance --count", UNMARKED, "none\ncount 0\n", NO_MARKS),
+    ("distance --count --progress", TWICE, DISTANCE_OF_TWICE + "count 1\n", "distance: no set of 1\n"),
     ("distance --progress", TWICE, DISTANCE_OF_TWICE, "distance: no set of 1\n"),
     ("distance --progress --most 1", TWICE, "none up to 1\n", "distance: no set of 1\n"),
 ])

@@ -1,13 +1,11 @@
 -- Laws of answers about each observable in turn: how they are found, and written one after another.
-use Rattle.stab_analysis.proofs.Names.{◌≡◌, Bool, Option, None, OutOfMemory, whole, GoesOn, random_of, refl, sym, ap, ◌∙◌, subst, ℕ, zero, suc, ◌+◌, add-one, drop-cons, ◌<◌, arith, List, [], ◌∷◌, ◌++◌, length, drop, get_or, Result, Ok, Err, inl, inr, IsErrAnd, InputView, OutputView, Fault, Items, RefusesText, IsFaultOf, FaultsRefused, fault_of, DistanceOptions, Heard, SendsFound, SendsAtOnce, AreErrorsOf, IsDistanceOf, answer_text}
+use Rattle.stab_analysis.proofs.Names.{◌≡◌, refl, sym, ap, ◌∙◌, subst, ℕ, zero, suc, ◌+◌, add-one, drop-cons, ◌<◌, arith, List, [], ◌∷◌, ◌++◌, length, drop, get_or, Result, OutputView, Fault, Items, DistanceOptions, SendsFound, SendsAtOnce, AreErrorsOf, IsDistanceOf, answer_text}
 use Rattle.stab_circuit.specs.Steps.{observables_of, qubits_of}
 use Rattle.stab_distance.specs.declared.answer.Answer.{Answer}
 use Rattle.stab_distance.specs.declared.answer.Answer.TheVariants.{NoneAtAll}
 use Rattle.stab_errors.specs.ErrorTables.{ErrorTableState, IsErrorTable}
 use Rattle.stab_errors.specs.Unseen.{IsDistance}
-use Rattle.stab_distance.specs.Progress.{Hears, begins}
-use Rattle.stab_texts.specs.Endings.{GaveCircuit}
-use Rattle.stab_texts.specs.Distances.{AreAnswers, HearsErrors, IsEachText, TellsEach, answer_texts, for_observable}
+use Rattle.stab_texts.specs.Distances.{AreAnswers, IsEachText, answer_texts, for_observable}
 use Rattle.stab_analysis.proofs.FoundLaws.{found_at_once}
 
 -- the errors that are searched are the same for each observable
@@ -56,26 +54,3 @@ pub each_sent : {T : Type 0} (options : DistanceOptions) (items : Items) (t : Er
     → length answers ≡ observables_of items → AreAnswers options items t 0 answers → SendsAtOnce (answer_texts options items t 0 answers) old new r → SendsFound (IsEachText options items) old new r
 each_sent options items t answers old new r are each distances sent =
     found_at_once (IsEachText options items) old new (answer_texts options items t 0 answers) r (record { t = t; are = are; answers = answers; each = each; distances = distances; text = refl }) sent
-
--- of a text that was refused nothing is heard
-pub each_unheard : {T : Type 0} (options : DistanceOptions) (i i' : InputView) (heard : Option (List Heard)) (f : Fault) (r : Result T FaultsRefused)
-    → RefusesText IsFaultOf i i' f → IsErrAnd r (λ y. y ≡ record { fault = f; random = None }) → TellsEach options i i' heard heard (fault_of r)
-each_unheard options i i' heard f (Ok x) refused is = absurd is
-each_unheard options i i' heard f (Err y) refused is = inl (refl, subst (λ (z : FaultsRefused). RefusesText IsFaultOf i i' z.fault) (sym is) refused)
-
--- what was heard of a call with the items that ended by a fault was heard of the whole call
-pub each_heard : {T : Type 0} (options : DistanceOptions) (i i' : InputView) (old new : Option (List Heard)) (items : Items) (r : Result T FaultsRefused) (x : FaultsRefused)
-    → GaveCircuit i i' items → HearsErrors options items old new → r ≡ Err x → TellsEach options i i' old new (fault_of r)
-each_heard options i i' old new items r x gave heard is = subst (λ s. TellsEach options i i' old new (fault_of s)) (sym is) (inr (items, gave, heard))
-
--- what was heard before the first search: over how many errors it is
-pub heard_over : (options : DistanceOptions) (items : Items) (t : ErrorTableState) (old new : Option (List Heard)) (count : ℕ) → AreErrorsOf options items t → count ≡ length t.errors
-    → Hears old new (begins count ∷ []) → HearsErrors options items old new
-heard_over options items t old new count are is hears = inr (t, are, subst (λ n. Hears old new (begins n ∷ [])) is hears)
-
--- memory was refused before anything was written
-pub each_unsent : {T : Type 0} (are : List ℕ → Type 0) (deterministic_only : Bool) (items : Items) (f : Fault) (r : Result T FaultsRefused) (old : OutputView) → f ≡ whole OutOfMemory
-    → IsErrAnd r (λ y. y ≡ record { fault = f; random = None }) → GoesOn are deterministic_only items (random_of r) old old (fault_of r)
-each_unsent are deterministic_only items f (Ok x) old memory is = absurd is
-each_unsent {T} are deterministic_only items f (Err y) old memory is =
-    subst (λ (z : FaultsRefused). GoesOn {T = T} are deterministic_only items z.random old old (Err z.fault)) (sym is) (inr (memory, refl))

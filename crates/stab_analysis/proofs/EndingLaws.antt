@@ -1,10 +1,12 @@
 -- Laws of endings: how a call ends that reads a circuit, looks at its marks, and goes on with it.
-use Rattle.stab_analysis.proofs.Names.{◌≡◌, ◌∙◌, refl, sym, subst, Bool, ℕ, List, Result, Ok, Err, Option, None, inl, inr, IsErrAnd, InputView, OutputView, OutOfMemory, Fault, whole, Items, RefusesText, IsFaultOf, FaultsRefused, fault_of, random_of, GoesOn, DistanceOptions, Heard, HearsDistance}
+use Rattle.stab_analysis.proofs.Names.{◌≡◌, ◌∙◌, refl, sym, subst, Bool, ℕ, List, Result, Ok, Err, Option, None, ◌∷◌, [], length, inl, inr, IsErrAnd, InputView, OutputView, OutOfMemory, Fault, whole, Items, RefusesText, IsFaultOf, FaultsRefused, fault_of, random_of, GoesOn, DistanceOptions, Heard, AreErrorsOf, HearsDistance}
 use Rattle.std.specs.Prelude.{false}
+use Rattle.stab_distance.specs.Progress.{Hears, begins}
+use Rattle.stab_errors.specs.ErrorTables.{ErrorTableState}
 use Rattle.stab_errors.specs.declared.doubts.DoubtfulMark.{DoubtfulMark}
 use Rattle.stab_texts.specs.Endings.{GaveCircuit, Sends}
 use Rattle.stab_texts.specs.FaultTables.{EndsOrNames}
-use Rattle.stab_texts.specs.Distances.{TellsDistance}
+use Rattle.stab_texts.specs.Distances.{HearsErrors, TellsDistance, TellsErrors}
 use Rattle.stab_texts.specs.DoubtLines.{TellsIfOk, Warns, doubts_of}
 use Rattle.stab_texts.specs.MissingObservables.{WarnsOf}
 use Rattle.stab_texts.proofs.WritingLaws.{took_some_none}
@@ -34,6 +36,29 @@ unheard options i i' heard f (Err y) refused is = inl (refl, subst (λ (z : Faul
 pub heard_on : {T : Type 0} (options : DistanceOptions) (i i' : InputView) (old new : Option (List Heard)) (items : Items) (r : Result T FaultsRefused) (x : FaultsRefused)
     → GaveCircuit i i' items → HearsDistance {T = T} options items old new (Err x.fault) → r ≡ Err x → TellsDistance options i i' old new (fault_of r)
 heard_on options i i' old new items r x gave heard is = subst (λ s. TellsDistance options i i' old new (fault_of s)) (sym is) (inr (items, gave, heard))
+
+-- of a text that was refused no number of errors is heard
+pub errors_unheard : {T : Type 0} (options : DistanceOptions) (i i' : InputView) (heard : Option (List Heard)) (f : Fault) (r : Result T FaultsRefused)
+    → RefusesText IsFaultOf i i' f → IsErrAnd r (λ y. y ≡ record { fault = f; random = None }) → TellsErrors options i i' heard heard (fault_of r)
+errors_unheard options i i' heard f (Ok x) refused is = absurd is
+errors_unheard options i i' heard f (Err y) refused is = inl (refl, subst (λ (z : FaultsRefused). RefusesText IsFaultOf i i' z.fault) (sym is) refused)
+
+-- how many errors were heard of a call with the items that ended by a fault, were heard of the whole call
+pub errors_heard : {T : Type 0} (options : DistanceOptions) (i i' : InputView) (old new : Option (List Heard)) (items : Items) (r : Result T FaultsRefused) (x : FaultsRefused)
+    → GaveCircuit i i' items → HearsErrors options items old new → r ≡ Err x → TellsErrors options i i' old new (fault_of r)
+errors_heard options i i' old new items r x gave heard is = subst (λ s. TellsErrors options i i' old new (fault_of s)) (sym is) (inr (items, gave, heard))
+
+-- what was heard before the first search, or in place of one: how many errors there are
+pub heard_over : (options : DistanceOptions) (items : Items) (t : ErrorTableState) (old new : Option (List Heard)) (count : ℕ) → AreErrorsOf options items t → count ≡ length t.errors
+    → Hears old new (begins count ∷ []) → HearsErrors options items old new
+heard_over options items t old new count are is hears = inr (t, are, subst (λ n. Hears old new (begins n ∷ [])) is hears)
+
+-- memory was refused after the circuit was read, and before anything was written
+pub unsent_on : {T : Type 0} (are : List ℕ → Type 0) (deterministic_only : Bool) (items : Items) (f : Fault) (r : Result T FaultsRefused) (old : OutputView) → f ≡ whole OutOfMemory
+    → IsErrAnd r (λ y. y ≡ record { fault = f; random = None }) → GoesOn are deterministic_only items (random_of r) old old (fault_of r)
+unsent_on are deterministic_only items f (Ok x) old memory is = absurd is
+unsent_on {T} are deterministic_only items f (Err y) old memory is =
+    subst (λ (z : FaultsRefused). GoesOn {T = T} are deterministic_only items z.random old old (Err z.fault)) (sym is) (inr (memory, refl))
 
 -- after a fault no mark is reported
 pub unwarned : {T : Type 0} (everywhere : Bool) (i i' : InputView) (e : OutputView) (r : Result T FaultsRefused) (x : FaultsRefused) → r ≡ Err x → Warns everywhere i i' e e (fault_of r)

@@ -3,6 +3,7 @@ pub mod FoundLaws
 pub mod DistanceLaws
 pub mod EndingLaws
 pub mod EachLaws
+pub mod CountedLaws
 pub mod CheckLaws
 pub mod CountLaws
 pub mod LineLaws

@@ -1,12 +1,13 @@
 //! The command that finds the least number of errors that flip an observable and no detector.
-ghost use Rattle.std.specs.Prelude.{◌≡◌, ℕ, ◌++◌, codes, None, IfOk, IfErr};
+ghost use Rattle.std.specs.Prelude.{◌≡◌, ℕ, ◌++◌, codes, false, None, IfOk, IfErr};
 ghost use Rattle.stab_io.specs.Devices.{WritesAll};
 ghost use Rattle.stab_io.specs.declared.refusal.Refusal.TheVariants.{OutOfMemory};
 ghost use Rattle.stab_circuit.specs.Items.{Items};
-ghost use Rattle.stab_circuit.specs.Steps.{check_of};
+ghost use Rattle.stab_io.specs.Refusals.{whole};
+ghost use Rattle.stab_circuit.specs.Steps.{check_of, qubits_of};
 ghost use Rattle.stab_edits.specs.Views.{circuit_items};
 ghost use Rattle.stab_errors.specs.ErrorTables.{IsErrorTable, StepsInside};
-ghost use Rattle.stab_errors.specs.Unseen.{IsDistance, TellsUnseen};
+ghost use Rattle.stab_errors.specs.Unseen.{IsDistance, IsSetCount, TellsUnseen};
 ghost use Rattle.stab_texts.specs.FaultTables.{GoesOn, fault_of, random_of};
 ghost use Rattle.stab_texts.specs.MissingObservables.{WarnsOf};
 ghost use Rattle.stab_texts.specs.Distances.{EndsDistance, HearsDistance, IsDistanceOf, IsDistanceText, IsRefusedFor, TellsDistance, answer_text, distance_line, if_graphlike, line_end, none_line, of_errors, up_to};
@@ -17,7 +18,7 @@ use crate::doubts::doubts_of;
 use crate::searched::searched_errors;
 use itoa::Buffer;
 use stab_circuit::{Circuit, read_circuit};
-use stab_errors::{Answer, ErrorTable, Progress, distance, graphlike_distance};
+use stab_errors::{Answer, ErrorTable, Progress, count_distance, distance, graphlike_distance};
 use stab_io::{Fault, Input, Output, Refusal};
 use stab_jobs::DistanceOptions;
 use stab_texts::{FaultsRefused, finish, tell_doubts, tell_missing, write_errors, write_texts};
@@ -78,6 +79,24 @@ pub fn find_distance<P: Progress>(
     match search(alloc, &errors, options, progress) {
         Ok(answer) => Ok(Distance { errors, answer }),
         Err(refusal) => Err(FaultsRefused::from(Fault::whole(refusal))),
+    }
+}
+
+/// How many least sets there are, of which one was found among all errors. The only refusal is `OutOfMemory`.
+pub(crate) fn count_of(
+    alloc: Global,
+    circuit: &Circuit,
+    options: DistanceOptions,
+    found: &Distance,
+) -> Result<Option<u64>, Fault>
+    requires all { options.graphlike ≡ false }
+    requires found { IsDistanceOf options (circuit_items circuit.now) found.now.errors found.now.answer }
+    ensures count { IfOk result (IsSetCount options.observable (qubits_of (circuit_items circuit.now)) (circuit_items circuit.now) found.now.errors.errors options.most) }
+    ensures err { IfErr result (λ f. f ≡ whole OutOfMemory) }
+{
+    match count_distance(alloc, &found.errors, options.observable, &found.answer) {
+        Ok(count) => Ok(count),
+        Err(refusal) => Err(Fault::whole(refusal)),
     }
 }
 

@@ -9,7 +9,7 @@ ghost use Rattle.stab_edits.specs.Views.{circuit_items};
 ghost use Rattle.stab_errors.specs.ErrorTables.{StepsInside};
 ghost use Rattle.stab_texts.specs.FaultTables.{GoesOn, fault_of, random_of};
 ghost use Rattle.stab_texts.specs.DoubtLines.{Warns};
-ghost use Rattle.stab_texts.specs.Distances.{AreAnswers, AreErrorsOf, EndsEach, HearsErrors, IsDistanceOf, IsEachText, TellsEach, answer_texts, for_observable};
+ghost use Rattle.stab_texts.specs.Distances.{AreAnswers, AreErrorsOf, EndsEach, HearsErrors, IsDistanceOf, IsEachText, TellsErrors, answer_texts, for_observable};
 ghost use Rattle.stab_analysis.specs.inner.Faults.{SendsAtOnce};
 
 use crate::distance::{search, write_answer};
@@ -143,7 +143,7 @@ pub fn run_each_distance<I: Input, O: Output, E: Output, P: Progress>(
     progress: &mut P,
 ) -> Result<(), FaultsRefused>
     ensures ends { EndsEach options (I.seen input.old) (I.seen input.new) (O.seen out.old) (O.seen out.new) (fault_of result) (random_of result) }
-    ensures told { TellsEach options (I.seen input.old) (I.seen input.new) (P.heard progress.old) (P.heard progress.new) (fault_of result) }
+    ensures told { TellsErrors options (I.seen input.old) (I.seen input.new) (P.heard progress.old) (P.heard progress.new) (fault_of result) }
     ensures warns { Warns options.everywhere (I.seen input.old) (I.seen input.new) (E.seen err.old) (E.seen err.new) (fault_of result) }
 {
     let circuit = read_circuit(alloc, input)?;

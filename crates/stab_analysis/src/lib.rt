@@ -12,6 +12,7 @@
 //! - `faults`: the command that writes which detectors and observables each fault flips.
 //! - `searched`: the errors that a distance is searched among, and the command that writes them.
 //! - `distance`: the command that finds the least number of errors that flip an observable and no detector.
+//! - `counted_distance`: the command that finds it of all errors, and how many least sets there are.
 //! - `each_distance`: the command that finds this number for each observable in turn.
 //! - `coins`: the command that writes which bits of a run each coin decides.
 //! - `reasons`: the command that names the coins which decide those that are not the same for all coins.
@@ -47,6 +48,7 @@ mod coin_places;
 mod coin_rows;
 mod coin_runs;
 mod coins;
+mod counted_distance;
 mod deciders;
 mod deterministic;
 mod distance;
@@ -60,6 +62,7 @@ mod searched;
 pub use check::run_check;
 pub use coin_runs::CoinRuns;
 pub use coins::{run_coins, write_coins};
+pub use counted_distance::run_counted_distance;
 pub use deterministic::run_deterministic;
 pub use distance::{Distance, find_distance, run_distance, write_distance};
 pub use each_distance::run_each_distance;

@@ -5,7 +5,7 @@ ghost use Rattle.stab_edits.specs.Views.{circuit_items};
 ghost use Rattle.stab_errors.specs.ErrorTables.{IsErrorTable, StepsInside};
 ghost use Rattle.stab_texts.specs.FaultTables.{GoesOn, fault_of, random_of};
 ghost use Rattle.stab_texts.specs.DoubtLines.{Warns};
-ghost use Rattle.stab_texts.specs.Distances.{AreErrorsOf, EndsSearched, IsErrorsText, IsRefusedFor, IsSearchedText, error_lines};
+ghost use Rattle.stab_texts.specs.Distances.{AreErrorsOf, EndsSearched, HearsErrors, IsErrorsText, IsRefusedFor, IsSearchedText, TellsErrors, error_lines};
 ghost use Rattle.stab_texts.specs.Endings.{SendsFound};
 ghost use Rattle.stab_maxsat.specs.Made.{IsCountable, clauses_of};
 ghost use Rattle.stab_maxsat.specs.Problems.{Clauses, problem_text};
@@ -16,7 +16,7 @@ use crate::deterministic::kinds_of;
 use crate::doubts::doubts_of;
 use crate::faults::refused_for;
 use stab_circuit::{Circuit, read_circuit};
-use stab_errors::{ErrorTable, errors};
+use stab_errors::{ErrorTable, Progress, errors};
 use stab_io::{Fault, Input, Output, Refusal};
 use stab_jobs::{DistanceOptions, SearchedLayout};
 use stab_maxsat::{Problem, write_problem};
@@ -112,17 +112,20 @@ fn send_layout<O: Output>(
 }
 
 /// Writes the errors of a circuit, and flushes; or names a bit that is not deterministic.
-fn send_searched_errors<O: Output>(
+fn send_searched_errors<O: Output, P: Progress>(
     alloc: Global,
     circuit: &Circuit,
     out: &mut O,
     layout: SearchedLayout,
     options: DistanceOptions,
+    progress: &mut P,
 ) -> Result<(), FaultsRefused>
     requires checked { check_of (circuit_items circuit.now) ≡ None }
     ensures goes_on { GoesOn (IsSearchedText layout options (circuit_items circuit.now)) options.deterministic_only (circuit_items circuit.now) (random_of result) (O.seen out.old) (O.seen out.new) (fault_of result) }
+    ensures told { HearsErrors options (circuit_items circuit.now) (P.heard progress.old) (P.heard progress.new) }
 {
     let errors = searched_errors(alloc, circuit, options)?;
+    progress.begins(errors.len());
     Ok(send_layout(alloc, circuit, out, layout, &errors)?)
 }
 
@@ -130,22 +133,24 @@ fn send_searched_errors<O: Output>(
 /// such as `1207 3/0/2 X17*Z4 D24 L0`, and the errors of a set flip together what an odd number of their lines name. As a problem in the
 /// format `p wcnf` they are its first variables, in order, and a solution that breaks W clauses of weight 1 is a least set of W errors.
 ///
-/// The options `observable`, `most` and `progress` change nothing. Faults are those of `run_distance`. Unless errors are `everywhere`,
-/// marks that may be meant in another way are reported on `err` after a call without a fault.
-pub fn run_searched_errors<I: Input, O: Output, E: Output>(
+/// The options `observable`, `most` and `progress` change nothing: `progress` hears of the number of errors alone. Faults are those of
+/// `run_distance`. Unless errors are `everywhere`, marks that may be meant in another way are reported on `err` after a call without a fault.
+pub fn run_searched_errors<I: Input, O: Output, E: Output, P: Progress>(
     alloc: Global,
     input: &mut I,
     out: &mut O,
     err: &mut E,
     layout: SearchedLayout,
     options: DistanceOptions,
+    progress: &mut P,
 ) -> Result<(), FaultsRefused>
     ensures ends { EndsSearched layout options (I.seen input.old) (I.seen input.new) (O.seen out.old) (O.seen out.new) (fault_of result) (random_of result) }
+    ensures told { TellsErrors options (I.seen input.old) (I.seen input.new) (P.heard progress.old) (P.heard progress.new) (fault_of result) }
     ensures warns { Warns options.everywhere (I.seen input.old) (I.seen input.new) (E.seen err.old) (E.seen err.new) (fault_of result) }
 {
     let circuit = read_circuit(alloc, input)?;
     let doubts = doubts_of(alloc, &circuit, options.everywhere)?;
-    send_searched_errors(alloc, &circuit, out, layout, options)?;
+    send_searched_errors(alloc, &circuit, out, layout, options, progress)?;
     tell_doubts(err, &circuit, doubts.as_slice());
     Ok(())
 }

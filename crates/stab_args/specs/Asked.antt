@@ -18,7 +18,7 @@ use Rattle.stab_args.specs.declared.words.Usage.{Usage}
 use Rattle.stab_args.specs.declared.words.Usage.TheVariants.{Help, Fault, Memory}
 use Rattle.stab_jobs.specs.declared.job.Job.{Job}
 use Rattle.stab_jobs.specs.declared.job.Command.{Command}
-use Rattle.stab_jobs.specs.declared.job.Command.TheVariants.{Sample, Detect, Stabilisers, Check, Deterministic, Explain, Faults, Coins, Distance, EachDistance, SearchedErrors, Edit}
+use Rattle.stab_jobs.specs.declared.job.Command.TheVariants.{Sample, Detect, Stabilisers, Check, Deterministic, Explain, Faults, Coins, Distance, CountedDistance, EachDistance, SearchedErrors, Edit, Propagate}
 use Rattle.stab_jobs.specs.declared.job.DistanceOptions.{DistanceOptions}
 use Rattle.stab_jobs.specs.declared.job.SearchedLayout.TheVariants.{Table, Wcnf}
 use Rattle.stab_jobs.specs.declared.job.ErrorLetters.{ErrorLetters}
@@ -114,6 +114,17 @@ is_beside_problem table each asked = table || (each || (asked.graphlike || is_ab
 abbrev pub is_beside_each : (table : Bool) → DistanceOptions → Bool
 is_beside_each table asked = table || (is_some asked.observable || asked.progress)
 
+-- whether something is asked beside the number of least sets: the errors themselves, each observable, or only some errors
+abbrev pub is_beside_count : (wcnf table each : Bool) → DistanceOptions → Bool
+is_beside_count wcnf table each asked = wcnf || (table || (each || asked.graphlike))
+
+-- the options of a distance ask for the errors themselves, for each observable, or for the number of least sets
+pub record AsksFor (options : List Row) (w t e c : Bool) : Type 0 where
+  pub wcnf : IsSet (one_of (codes "wcnf") options) w
+  pub table : IsSet (one_of (codes "table") options) t
+  pub each : IsSet (one_of (codes "each") options) e
+  pub count : IsSet (one_of (codes "count") options) c
+
 -- the command of a name, with what its options say
 abbrev pub IsCommand : Text → List Row → Command → Type 0
 IsCommand name options (Sample format shots) = (name ≡ codes "sample") × HasShots options format shots
@@ -126,17 +137,23 @@ IsCommand name options (Faults layout everywhere deterministic_only) =
     (name ≡ codes "faults") × IsLayout (first_of (codes "out_format") options) layout
     × IsSet (one_of (codes "everywhere") options) everywhere × IsSet (one_of (codes "deterministic_only") options) deterministic_only
 IsCommand name options (Coins layout) = (name ≡ codes "coins") × IsLayout (first_of (codes "out_format") options) layout
-IsCommand name options (Distance asked) =
-    (name ≡ codes "distance") × IsSet (one_of (codes "wcnf") options) false × IsSet (one_of (codes "table") options) false × IsSet (one_of (codes "each") options) false × IsAskedDistance options asked
+IsCommand name options (Distance asked) = (name ≡ codes "distance") × AsksFor options false false false false × IsAskedDistance options asked
+IsCommand name options (CountedDistance asked) =
+    (name ≡ codes "distance") × AsksFor options false false false true × IsAskedDistance options asked × (is_beside_count false false false asked ≡ false)
 IsCommand name options (EachDistance asked) =
-    (name ≡ codes "distance") × IsSet (one_of (codes "wcnf") options) false × IsSet (one_of (codes "table") options) false × IsSet (one_of (codes "each") options) true × IsAskedDistance options asked × (is_beside_each false asked ≡ false)
+    (name ≡ codes "distance") × AsksFor options false false true false × IsAskedDistance options asked × (is_beside_each false asked ≡ false)
 IsCommand name options (SearchedErrors Wcnf asked) =
-    (name ≡ codes "distance") × IsSet (one_of (codes "wcnf") options) true × IsSet (one_of (codes "table") options) false × IsSet (one_of (codes "each") options) false × IsAskedDistance options asked
-    × (is_beside_problem false false asked ≡ false)
+    (name ≡ codes "distance") × AsksFor options true false false false × IsAskedDistance options asked × (is_beside_problem false false asked ≡ false)
 IsCommand name options (SearchedErrors Table asked) =
-    (name ≡ codes "distance") × IsSet (one_of (codes "wcnf") options) false × IsSet (one_of (codes "table") options) true × IsSet (one_of (codes "each") options) false × IsAskedDistance options asked × (is_about_search asked ≡ false)
+    (name ≡ codes "distance") × AsksFor options false true false false × IsAskedDistance options asked × (is_about_search asked ≡ false)
 IsCommand name options (Edit framed qubits stride) =
     (name ≡ codes "edit") × IsSet (one_of (codes "framed") options) framed × IsWrittenIfGiven 0 most_qubits (one_of (codes "qubits") options) qubits × IsWritten 1 most_stride (one_of (codes "stride") options) stride
+IsCommand name options Propagate = name ≡ codes "propagate"
+
+-- the text of an option, which is empty if the option isn't given
+abbrev pub text_or_none : Option Text → Text
+text_or_none None = []
+text_or_none (Some t) = t
 
 -- a job is what a command's name and options say
 pub record IsJob (name : Text) (options : List Row) (job : Job) : Type 0 where
@@ -146,6 +163,8 @@ pub record IsJob (name : Text) (options : List Row) (job : Job) : Type 0 where
   pub coins_path : option_map string_bytes job.coins_path ≡ first_of (codes "coins_in") options
   pub in_path : option_map string_bytes job.in_path ≡ first_of (codes "in") options
   pub out_path : option_map string_bytes job.out_path ≡ first_of (codes "out") options
+  pub at : string_bytes job.at ≡ text_or_none (first_of (codes "at") options)
+  pub string : string_bytes job.string ≡ text_or_none (first_of (codes "PAULI") options)
 
 -- the line for coins that are no coins
 abbrev pub coin_fault : Text
@@ -201,11 +220,21 @@ IsProblemBeside options =
     × ((table each : Bool) × (asked : DistanceOptions) × IsSet (one_of (codes "table") options) table × IsSet (one_of (codes "each") options) each × IsAskedDistance options asked
     × (is_beside_problem table each asked ≡ true))
 
+-- the line for the number of least sets beside what is not asked with it
+abbrev pub count_fault : Text
+count_fault = codes "stabsim: --count is of one answer about all errors, and is not beside --wcnf, --table, --each or --graphlike\n"
+
+-- it is asked for beside it
+abbrev pub IsCountBeside : List Row → Type 0
+IsCountBeside options =
+    (wcnf table each : Bool) × (asked : DistanceOptions) × AsksFor options wcnf table each true × IsAskedDistance options asked × (is_beside_count wcnf table each asked ≡ true)
+
 -- a distance is refused for lack of memory, or by options that are beside others
 abbrev pub RefusesDistance : List Row → Usage → Type 0
 RefusesDistance options Memory = ⊤
 RefusesDistance options (Fault line) =
-    ((string_bytes line ≡ table_fault) × IsTableBesideSearch options) ⊎ (((string_bytes line ≡ each_fault) × IsEachBeside options) ⊎ ((string_bytes line ≡ problem_fault) × IsProblemBeside options))
+    ((string_bytes line ≡ table_fault) × IsTableBesideSearch options) ⊎ (((string_bytes line ≡ each_fault) × IsEachBeside options) ⊎ (((string_bytes line ≡ problem_fault) × IsProblemBeside options)
+    ⊎ ((string_bytes line ≡ count_fault) × IsCountBeside options)))
 RefusesDistance options usage = ⊥
 
 -- a command is refused by its shots, or as a distance

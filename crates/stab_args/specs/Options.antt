@@ -118,8 +118,20 @@ coins formats = record (new_shape (codes "coins")) { rules = one_name (codes "ou
 abbrev pub distance : Kept → Shape
 distance letters = record (new_shape (codes "distance")) {
   rules = flag (codes "everywhere") ∷ named (codes "letters") letters (codes "all") ∷ ranged (codes "most") 0 most_errors ∷ flag (codes "graphlike")
-      ∷ ranged (codes "observable") 0 last_observable ∷ flag (codes "each") ∷ flag (codes "table") ∷ flag (codes "wcnf") ∷ deterministic_only ∷ flag (codes "progress") ∷ file_options;
+      ∷ ranged (codes "observable") 0 last_observable ∷ flag (codes "each") ∷ flag (codes "table") ∷ flag (codes "wcnf") ∷ flag (codes "count") ∷ deterministic_only ∷ flag (codes "progress") ∷ file_options;
 }
+
+-- an option whose value has to be given
+abbrev pub wanted : Rule → Rule
+wanted option = record option { required = true }
+
+-- a value that has no option
+abbrev pub positional : Text → Rule
+positional id = record (new_rule id) { value_names = 1 }
+
+-- the command `propagate`, which takes no coins
+abbrev pub propagate : Shape
+propagate = record (new_shape (codes "propagate")) { rules = wanted (valued (codes "at")) ∷ wanted (positional (codes "PAULI")) ∷ file_options }
 
 -- the program without its commands, of which some command is wanted, and which says its version
 abbrev pub bare : App
@@ -133,7 +145,7 @@ with_commands app (command ∷ commands) = with_commands (with_subcommand app co
 -- the commands of the program, in the order of the help
 abbrev pub commands : KeptNames → List Shape
 commands names =
-    shot_command (codes "sample") names.formats ∷ detect names.formats ∷ stabilisers ∷ edit ∷ check ∷ deterministic names.formats ∷ faults names.formats ∷ coins names.formats ∷ distance names.letters ∷ []
+    shot_command (codes "sample") names.formats ∷ detect names.formats ∷ stabilisers ∷ edit ∷ check ∷ deterministic names.formats ∷ faults names.formats ∷ coins names.formats ∷ distance names.letters ∷ propagate ∷ []
 
 -- the program
 abbrev pub stabsim : KeptNames → App

@@ -5,7 +5,7 @@ ghost use Rattle.stab_circuit.specs.inner.KnownLines.{IsCut};
 ghost use Rattle.stab_line_reader.specs.FirstLines.{TellsInstruction};
 
 use stab_io::Refusal;
-use stab_line_reader::{detector_in_front, instruction_in_front, is_close};
+use stab_line_reader::{instruction_in_front, is_close};
 use stab_lines::{Kind, Line};
 use std::alloc::Global;
 
@@ -22,9 +22,6 @@ pub(crate) fn first_instruction(
 {
     if single {
         return Ok(None);
-    }
-    if let Some((targets, after)) = detector_in_front(text) {
-        return Ok(Some((Kind::Detector(targets), after)));
     }
     instruction_in_front(alloc, text)
 }

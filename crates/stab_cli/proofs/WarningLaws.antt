@@ -6,7 +6,7 @@ use Rattle.stab_io.specs.declared.refusal.Fault.{Fault}
 use Rattle.stab_texts.specs.DoubtLines.{Warns}
 use Rattle.stab_texts.specs.MissingObservables.{WarnsOf}
 use Rattle.stab_jobs.specs.declared.job.Command.{Command}
-use Rattle.stab_jobs.specs.declared.job.Command.TheVariants.{Sample, Detect, Stabilisers, Check, Deterministic, Explain, Coins, Faults, Distance, EachDistance, SearchedErrors, Edit}
+use Rattle.stab_jobs.specs.declared.job.Command.TheVariants.{Sample, Detect, Stabilisers, Check, Deterministic, Explain, Coins, Faults, Distance, CountedDistance, EachDistance, SearchedErrors, Edit, Propagate}
 use Rattle.stab_cli.specs.Jobs.{CommandWarns, refusing_none}
 
 -- what is left of the error output does not depend on the answer's value
@@ -36,6 +36,8 @@ untouched Explain i i' e e' f same = same
 untouched (Coins layout) i i' e e' f same = same
 untouched (Faults layout everywhere deterministic_only) i i' e e' f same = same
 untouched (Distance options) i i' e e' f same = same
+untouched (CountedDistance options) i i' e e' f same = same
 untouched (EachDistance options) i i' e e' f same = same
 untouched (SearchedErrors layout options) i i' e e' f same = same
+untouched Propagate i i' e e' f same = same
 untouched (Edit framed qubits stride) i i' e e' f same = same

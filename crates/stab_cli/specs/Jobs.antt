@@ -1,6 +1,6 @@
 -- Jobs: how the command of a job ends, the status of a program's run, and how its fault is reported.
 -- Source: this project's own.
-use Rattle.std.specs.Prelude.{◌≡◌, ℕ, Bool, true, false, List, Option, None, Result, Ok, Err}
+use Rattle.std.specs.Prelude.{◌≡◌, ℕ, Bool, true, false, List, string_bytes, Option, None, Result, Ok, Err}
 pub use Rattle.stab_jobs.specs.Commands.{reads_script}
 use Rattle.stab_io.specs.Devices.{InputView, OutputView}
 use Rattle.stab_io.specs.declared.refusal.Fault.{Fault}
@@ -12,17 +12,18 @@ use Rattle.stab_texts.specs.Deterministic.{EndsDeterministic}
 use Rattle.stab_texts.specs.FaultTables.{EndsFaults}
 use Rattle.stab_texts.specs.CoinTables.{EndsCoins}
 use Rattle.stab_texts.specs.Reasons.{EndsExplain}
-use Rattle.stab_texts.specs.Distances.{EndsDistance, EndsEach, EndsSearched, TellsDistance, TellsEach}
+use Rattle.stab_texts.specs.Distances.{EndsCounted, EndsDistance, EndsEach, EndsSearched, TellsDistance, TellsErrors, of_all}
 use Rattle.stab_texts.specs.DoubtLines.{Warns}
 use Rattle.stab_texts.specs.MissingObservables.{WarnsOf}
 use Rattle.stab_distance.specs.Progress.{Heard}
+use Rattle.stab_propagation.specs.Endings.{EndsPropagate}
 use Rattle.stab_editor.specs.ScriptEndings.{EndsEdit}
 use Rattle.stab_editor.specs.ScriptTurns.{EditsInTurn}
 use Rattle.stab_script.specs.Watchers.{Asked}
 use Rattle.stab_texts.specs.declared.random.Random.{Random}
 use Rattle.stab_jobs.specs.declared.job.Source.{Source}
 use Rattle.stab_jobs.specs.declared.job.Command.{Command}
-use Rattle.stab_jobs.specs.declared.job.Command.TheVariants.{Sample, Detect, Stabilisers, Check, Deterministic, Explain, Coins, Faults, Distance, EachDistance, SearchedErrors, Edit}
+use Rattle.stab_jobs.specs.declared.job.Command.TheVariants.{Sample, Detect, Stabilisers, Check, Deterministic, Explain, Coins, Faults, Distance, CountedDistance, EachDistance, SearchedErrors, Edit, Propagate}
 use Rattle.stab_jobs.specs.declared.job.Job.{Job}
 
 -- a call that reads no script refuses no line of it
@@ -38,31 +39,35 @@ RefusesNone ends r = (answer : Result (Unit {0}) Fault) × ends answer × (r ≡
 abbrev pub NamesNone : (Result (Unit {0}) Fault → Type 0) → Result Bool Fault → Option Random → Type 0
 NamesNone ends r random = (random ≡ None) × RefusesNone ends r
 
--- how the call of a command ends, with coins from the source: whether a line of the script was refused, and which bit, if any, was named as not deterministic
-abbrev pub EndsCommand : Command → Source → InputView → InputView → InputView → InputView → OutputView → OutputView → Result Bool Fault → Option Random → Type 0
-EndsCommand (Sample format shots) source i i' s s' o o' r random = NamesNone (EndsRun (sample_of format shots.first shots.number source) i i' o o') r random
-EndsCommand (Detect format shots append) source i i' s s' o o' r random = NamesNone (EndsRun (detect_of format append shots.first shots.number source) i i' o o') r random
-EndsCommand Stabilisers source i i' s s' o o' r random = NamesNone (EndsStabilisers source i i' o o') r random
-EndsCommand Check source i i' s s' o o' r random = NamesNone (EndsCheck i i' o o') r random
-EndsCommand (Deterministic format) source i i' s s' o o' r random = NamesNone (EndsDeterministic format i i' o o') r random
-EndsCommand Explain source i i' s s' o o' r random = NamesNone (EndsExplain i i' o o') r random
-EndsCommand (Coins layout) source i i' s s' o o' r random = NamesNone (EndsCoins layout i i' o o') r random
-EndsCommand (Faults layout everywhere deterministic_only) source i i' s s' o o' r random = RefusesNone (λ answer. EndsFaults layout everywhere deterministic_only i i' o o' answer random) r
-EndsCommand (SearchedErrors layout options) source i i' s s' o o' r random = RefusesNone (λ answer. EndsSearched layout options i i' o o' answer random) r
-EndsCommand (EachDistance options) source i i' s s' o o' r random = RefusesNone (λ answer. EndsEach options i i' o o' answer random) r
-EndsCommand (Distance options) source i i' s s' o o' r random = RefusesNone (λ answer. EndsDistance options i i' o o' answer random) r
-EndsCommand (Edit framed qubits stride) source i i' s s' o o' r random = (random ≡ None) × EndsEdit framed qubits source i i' s s' o o' r
+-- how the call of a command ends, with coins from the source, and words for a place and a string if it takes them: whether a line of the script was refused, and which bit, if any, was named as not deterministic
+abbrev pub EndsCommand : Command → Source → (at word : List ℕ) → InputView → InputView → InputView → InputView → OutputView → OutputView → Result Bool Fault → Option Random → Type 0
+EndsCommand (Sample format shots) source at word i i' s s' o o' r random = NamesNone (EndsRun (sample_of format shots.first shots.number source) i i' o o') r random
+EndsCommand (Detect format shots append) source at word i i' s s' o o' r random = NamesNone (EndsRun (detect_of format append shots.first shots.number source) i i' o o') r random
+EndsCommand Stabilisers source at word i i' s s' o o' r random = NamesNone (EndsStabilisers source i i' o o') r random
+EndsCommand Check source at word i i' s s' o o' r random = NamesNone (EndsCheck i i' o o') r random
+EndsCommand (Deterministic format) source at word i i' s s' o o' r random = NamesNone (EndsDeterministic format i i' o o') r random
+EndsCommand Explain source at word i i' s s' o o' r random = NamesNone (EndsExplain i i' o o') r random
+EndsCommand (Coins layout) source at word i i' s s' o o' r random = NamesNone (EndsCoins layout i i' o o') r random
+EndsCommand (Faults layout everywhere deterministic_only) source at word i i' s s' o o' r random = RefusesNone (λ answer. EndsFaults layout everywhere deterministic_only i i' o o' answer random) r
+EndsCommand (SearchedErrors layout options) source at word i i' s s' o o' r random = RefusesNone (λ answer. EndsSearched layout options i i' o o' answer random) r
+EndsCommand (CountedDistance options) source at word i i' s s' o o' r random = RefusesNone (λ answer. EndsCounted options i i' o o' answer random) r
+EndsCommand (EachDistance options) source at word i i' s s' o o' r random = RefusesNone (λ answer. EndsEach options i i' o o' answer random) r
+EndsCommand (Distance options) source at word i i' s s' o o' r random = RefusesNone (λ answer. EndsDistance options i i' o o' answer random) r
+EndsCommand Propagate source at word i i' s s' o o' r random = NamesNone (EndsPropagate at word i i' o o') r random
+EndsCommand (Edit framed qubits stride) source at word i i' s s' o o' r random = (random ≡ None) × EndsEdit framed qubits source i i' s s' o o' r
 
 -- how a command reads a script: `edit` in turn with its replies, and any other not at all
 abbrev pub CommandInTurn : Command → Source → InputView → InputView → InputView → InputView → OutputView → OutputView → Option (List Asked) → Option (List Asked) → Result Bool Fault → Type 0
 CommandInTurn (Edit framed qubits stride) source i i' s s' o o' log log' r = EditsInTurn framed qubits source i i' s s' o o' log log' r
 CommandInTurn command source i i' s s' o o' log log' r = log' ≡ log
 
--- what is heard of a call: how far the search of `distance` is, or over how many errors it searches for each observable, and of any other
+-- what is heard of a call: how far the search of `distance` is, or how many errors it looks at for each observable or writes, and of any other
 -- command nothing
 abbrev pub CommandTells : Command → InputView → InputView → Option (List Heard) → Option (List Heard) → Result Bool Fault → Type 0
 CommandTells (Distance options) i i' old new r = RefusesNone (TellsDistance options i i' old new) r
-CommandTells (EachDistance options) i i' old new r = RefusesNone (TellsEach options i i' old new) r
+CommandTells (CountedDistance options) i i' old new r = RefusesNone (TellsDistance (of_all options) i i' old new) r
+CommandTells (EachDistance options) i i' old new r = RefusesNone (TellsErrors options i i' old new) r
+CommandTells (SearchedErrors layout options) i i' old new r = RefusesNone (TellsErrors options i i' old new) r
 CommandTells command i i' old new r = new ≡ old
 
 -- the status of a run: 0 without a fault, 3 if a line of the script was refused, 1 with a fault
@@ -78,6 +83,7 @@ CommandWarns Check i i' old new r = Warns false i i' old new r
 CommandWarns (Faults layout everywhere deterministic_only) i i' old new r = Warns everywhere i i' old new r
 CommandWarns (SearchedErrors layout options) i i' old new r = Warns options.everywhere i i' old new r
 CommandWarns (EachDistance options) i i' old new r = Warns options.everywhere i i' old new r
+CommandWarns (CountedDistance options) i i' old new r = WarnsOf options.everywhere options.observable i i' old new r
 CommandWarns (Distance options) i i' old new r = WarnsOf options.everywhere options.observable i i' old new r
 CommandWarns command i i' old new r = new ≡ old
 
@@ -90,7 +96,7 @@ Tells command i i' (Err f) random old new = TookOrFailed old new (told_text f ra
 pub record EndsJob (job : Job) (i i' s s' : InputView) (o o' e e' : OutputView) (status : ℕ) : Type 0 where
   pub answer : Result Bool Fault
   pub random : Option Random
-  pub ends : EndsCommand job.command job.source i i' s s' o o' answer random
+  pub ends : EndsCommand job.command job.source (string_bytes job.at) (string_bytes job.string) i i' s s' o o' answer random
   pub status_is : status ≡ status_of answer
   pub told : Tells job.command i i' answer random e e'
 

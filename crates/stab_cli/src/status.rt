@@ -1,5 +1,5 @@
 //! Running a job, with the status of the program.
-ghost use Rattle.std.specs.Prelude.{◌≡◌, ◌≤◌, IfSome, None, false};
+ghost use Rattle.std.specs.Prelude.{◌≡◌, ◌≤◌, IfSome, None, false, string_bytes};
 ghost use Rattle.stab_gates.specs.Limits.{most_qubits};
 ghost use Rattle.stab_texts.specs.FaultTables.{fault_of, random_of};
 ghost use Rattle.stab_editor.specs.ScriptEndings.{EndsEdit};
@@ -7,13 +7,14 @@ ghost use Rattle.stab_editor.specs.ScriptTurns.{EditsInTurn};
 ghost use Rattle.stab_cli.specs.Jobs.{CommandInTurn, CommandTells, CommandWarns, EndsCommand, EndsJob, JobInTurn, JobTells, reads_script, refusing_none};
 
 use stab_analysis::{
-    Progress, Unwatched, run_check, run_coins, run_deterministic, run_distance, run_each_distance,
-    run_explain, run_faults, run_searched_errors,
+    Progress, Unwatched, run_check, run_coins, run_counted_distance, run_deterministic,
+    run_distance, run_each_distance, run_explain, run_faults, run_searched_errors,
 };
 use stab_commands::{run_detect_shots, run_sample_shots, run_stabilisers};
 use stab_editor::run_edit_watched;
 use stab_io::{Fault, Input, Output};
 use stab_jobs::{Command, Job, QubitCount, Source, Stride};
+use stab_propagation::run_propagate;
 use stab_script::{NoWatcher, Watcher};
 use stab_texts::{FaultsRefused, write_refused};
 use std::alloc::Global;
@@ -91,7 +92,7 @@ fn run_command<I: Input, S: Input, O: Output, E: Output, W: Watcher<S, O>, P: Pr
     err: &mut E,
     progress: &mut P,
 ) -> Result<bool, FaultsRefused>
-    ensures ends { EndsCommand job.now.command job.now.source (I.seen input.old) (I.seen input.new) (S.seen script.old) (S.seen script.new) (O.seen out.old) (O.seen out.new) (fault_of result) (random_of result) }
+    ensures ends { EndsCommand job.now.command job.now.source (string_bytes job.now.at) (string_bytes job.now.string) (I.seen input.old) (I.seen input.new) (S.seen script.old) (S.seen script.new) (O.seen out.old) (O.seen out.new) (fault_of result) (random_of result) }
     ensures script { reads_script job.now.command ≡ false → script.new ≡ script.old }
     ensures turns { CommandInTurn job.now.command job.now.source (I.seen input.old) (I.seen input.new) (S.seen script.old) (S.seen script.new) (O.seen out.old) (O.seen out.new) (W.log script.old) (W.log script.new) (fault_of result) }
     ensures told { CommandTells job.now.command (I.seen input.old) (I.seen input.new) (P.heard progress.old) (P.heard progress.new) (fault_of result) }
@@ -120,7 +121,10 @@ fn run_command<I: Input, S: Input, O: Output, E: Output, W: Watcher<S, O>, P: Pr
             deterministic_only: only,
         } => refuses_none(run_faults(alloc, input, out, err, layout, everywhere, only)),
         Command::SearchedErrors { layout, options } => {
-            refuses_none(run_searched_errors(alloc, input, out, err, layout, options))
+            refuses_none(run_searched_errors(alloc, input, out, err, layout, options, progress))
+        }
+        Command::CountedDistance(options) => {
+            refuses_none(run_counted_distance(alloc, input, out, err, options, progress))
         }
         Command::EachDistance(options) => {
             refuses_none(run_each_distance(alloc, input, out, err, options, progress))
@@ -128,6 +132,13 @@ fn run_command<I: Input, S: Input, O: Output, E: Output, W: Watcher<S, O>, P: Pr
         Command::Distance(options) => {
             refuses_none(run_distance(alloc, input, out, err, options, progress))
         }
+        Command::Propagate => plain_answer(run_propagate(
+            alloc,
+            input,
+            out,
+            job.at.as_bytes(),
+            job.string.as_bytes(),
+        )),
         Command::Edit {
             framed,
             qubits,

@@ -28,7 +28,7 @@ pub use Rattle.stab_io.specs.declared.refusal.Fault.{Fault}
 pub use Rattle.stab_io.specs.declared.refusal.Refusal.TheVariants.{OutOfMemory}
 pub use Rattle.stab_pauli.specs.Paulis.{Signed}
 pub use Rattle.stab_pauli.specs.Texts.{pauli_text}
-pub use Rattle.stab_recording.specs.declared.whole.Shot.{Shot}
+pub use Rattle.stab_recording.specs.declared.whole_run.Shot.{Shot}
 pub use Rattle.stab_results.specs.Formats.{f01_bytes, digit, shot_bytes}
 pub use Rattle.stab_results.specs.declared.format.Format.{Format}
 pub use Rattle.stab_results.specs.declared.format.Format.TheVariants.{F01, B8}

@@ -1,16 +1,20 @@
 //! The words of an explanation, and writing them.
 ghost use Rattle.stab_diagnostics.specs.Explanations.{AppendsSome};
 
-use crate::faulty_line::find;
-use crate::finding::Finding;
-use crate::line_part::LinePart;
-use crate::lookback::find_lookback;
-use crate::refused_item::{RefusedItem, find_item};
-use crate::sentences::{self, Sentences};
-use crate::shown::push_line;
-use itoa::Buffer;
+use crate::faulty_line::FaultyLine;
+use crate::instruction_parts::parts_of;
+use crate::names::text_on_name;
+use crate::part::{Part, words};
+use crate::refused_item::{RefusedItem, find_item, furthest_lookback};
+use crate::sentences;
+use crate::shown::show_line;
 use stab_io::{Fault, Output, Refusal, write_all};
+use stab_line_reader::meaning;
+use stab_lines::{Line, Name};
 use std::alloc::{AllocError, Global};
+
+/// The bytes of a byte order mark in UTF-8.
+const BYTE_ORDER_MARK: &[u8] = b"\xEF\xBB\xBF";
 
 /// Writes what is wrong with a circuit's text that was refused with this fault, and does not flush.
 ///
@@ -31,166 +35,126 @@ pub fn write_explanation<O: Output>(
     ensures appends { AppendsSome (O.seen out.old) (O.seen out.new) result }
 {
     let words = explanation(alloc, text, fault)?;
-    write_all(out, words.as_slice())
+    write_all(out, words.as_bytes())
 }
 
 /// What is wrong with the text, as lines.
-fn explanation(alloc: Global, text: &[u8], fault: Fault) -> Result<Vec<u8>, AllocError> {
-    let mut words = Vec::new(alloc);
-    if fault.line == 0 {
-        push_on_whole(alloc, &mut words, text, fault.refusal)?;
-    } else {
-        let line = line_of(text, fault.line);
-        let finding = find(alloc, line, fault.refusal)?;
-        push_finding(&mut words, fault.line, line, finding)?;
+fn explanation(alloc: Global, text: &[u8], fault: Fault) -> Result<String, AllocError> {
+    if fault.refusal == Refusal::TooLong {
+        return format!(in alloc; "{}\n", sentences::TOO_LONG);
     }
-    Ok(words)
+    if fault.line > 0 {
+        let line = line_of(text, fault.line);
+        let (part, sentences) = explanation_of_line(alloc, line, fault.refusal)?;
+        return show_line(alloc, fault.line, part, sentences.as_str());
+    }
+    let Some(item) = find_item(alloc, text, fault.refusal)? else {
+        return Ok(String::new(alloc));
+    };
+    let line = line_of(text, item.line);
+    let (part, sentences) = explanation_of_item(alloc, line, &item, fault.refusal)?;
+    show_line(alloc, item.line, part, sentences.as_str())
 }
 
 /// The line of this number, counted from 1.
 fn line_of(text: &[u8], number: u64) -> &[u8] {
-    let mut lines_before = number.saturating_sub(1);
-    for line in text.split(|byte| *byte == b'\n') {
-        if lines_before == 0 {
-            return line;
-        }
-        lines_before = lines_before.saturating_sub(1);
-    }
-    &[]
+    let mut lines = text.split(|byte| *byte == b'\n');
+    lines.nth(number.saturating_sub(1) as usize).unwrap_or(&[])
 }
 
-fn push_finding(
-    words: &mut Vec<u8>,
-    number: u64,
-    line: &[u8],
-    finding: Finding,
-) -> Result<(), AllocError> {
-    push_line(words, number, line, finding.part)?;
-    push_sentences(words, finding.sentences)?;
-    push_nearest(words, finding.nearest_name)
-}
-
-fn push_nearest(words: &mut Vec<u8>, nearest_name: Option<&'static str>) -> Result<(), AllocError> {
-    if let Some(name) = nearest_name {
-        words.extend_from_slice(b"The nearest name is ")?;
-        words.extend_from_slice(name.as_bytes())?;
-        push_sentence(words, ".")?;
-    }
-    Ok(())
-}
-
-fn push_sentences(words: &mut Vec<u8>, sentences: Sentences) -> Result<(), AllocError> {
-    push_sentence(words, sentences.wrong)?;
-    push_sentence(words, sentences.cure)
-}
-
-fn push_sentence(words: &mut Vec<u8>, sentence: &str) -> Result<(), AllocError> {
-    words.extend_from_slice(sentence.as_bytes())?;
-    words.push(b'\n')?;
-    Ok(())
-}
-
-/// Puts what is wrong with the whole text after other words.
-fn push_on_whole(
+/// The part of a line for which it is refused like this, and what is wrong with it.
+fn explanation_of_line<'a>(
     alloc: Global,
-    words: &mut Vec<u8>,
-    text: &[u8],
+    line: &'a [u8],
     refusal: Refusal,
-) -> Result<(), AllocError> {
-    match refusal {
-        Refusal::LookbackTooFar => push_on_lookback(alloc, words, text),
-        Refusal::TooManySteps => push_on_steps(alloc, words, text),
-        Refusal::QubitOutOfRange => push_sentences(words, sentences::QUBIT_NOT_GIVEN),
-        Refusal::TooLong => push_sentences(words, sentences::TOO_LONG),
-        _ => Ok(()),
-    }
+) -> Result<(Part<'a>, String), AllocError> {
+    let content = Part::whole(line).trimmed();
+    let (part, sentences) = match parts_of(content) {
+        Err(finding) => finding,
+        Ok(parts) => {
+            let instruction = match Name::of(parts.name.bytes()) {
+                Ok(Name::Repeat) => None,
+                Ok(Name::Instruction(instruction)) => Some(instruction),
+                Err(_) => return Ok((parts.name, text_on_name(alloc, parts.name.bytes())?)),
+            };
+            let faulty_line = FaultyLine {
+                alloc,
+                content,
+                parts,
+                instruction,
+            };
+            faulty_line.find(refusal)?
+        }
+    };
+    let (part, sentences) = match part.beyond_ascii() {
+        Some(_) if content.bytes().starts_with(BYTE_ORDER_MARK) => {
+            (content.split(3).0, sentences::BYTE_ORDER_MARK)
+        }
+        // A block as a whole may have any bytes in its tag.
+        Some(bytes) if !matches!(refusal, Refusal::BadBlock | Refusal::TooDeep) => {
+            (bytes, sentences::NO_ASCII)
+        }
+        _ => (part, sentences),
+    };
+    Ok((part, String::from_str(alloc, sentences)?))
 }
 
-fn push_on_lookback(alloc: Global, words: &mut Vec<u8>, text: &[u8]) -> Result<(), AllocError> {
-    match find_item(alloc, text, Refusal::LookbackTooFar)? {
-        None => push_sentences(words, sentences::LOOKBACK),
-        Some(item) => push_lookback(alloc, words, line_of(text, item.line), &item),
-    }
-}
-
-fn push_lookback(
+/// The part of a line for which its item is refused like this, and what is wrong with it.
+fn explanation_of_item<'a>(
     alloc: Global,
-    words: &mut Vec<u8>,
-    line: &[u8],
+    line: &'a [u8],
     item: &RefusedItem,
-) -> Result<(), AllocError> {
-    let part = find_lookback(alloc, line, item.records)?;
-    push_line(words, item.line, line, part)?;
-    words.extend_from_slice(b"This looks back past the first record: ")?;
-    push_records(words, item.records)?;
-    words.extend_from_slice(b" before item ")?;
-    push_place(words, item)?;
-    push_sentence(words, sentences::LOOKBACK.cure)
-}
-
-fn push_on_steps(alloc: Global, words: &mut Vec<u8>, text: &[u8]) -> Result<(), AllocError> {
-    match find_item(alloc, text, Refusal::TooManySteps)? {
-        None => push_sentences(words, sentences::STEPS),
-        Some(item) => push_too_many(words, line_of(text, item.line), &item),
+    refusal: Refusal,
+) -> Result<(Part<'a>, String), AllocError> {
+    let place = item.place.as_str();
+    if refusal == Refusal::LookbackTooFar {
+        let part = find_lookback(alloc, line, item.records)?;
+        let records = match item.records {
+            0 => format!(in alloc; "no record is")?,
+            1 => format!(in alloc; "1 record is")?,
+            records => format!(in alloc; "{records} records are")?,
+        };
+        let text = format!(in alloc;
+            "This looks back past the first record: {records} before item {place}.\n{}",
+            sentences::LOOK_BACK_LESS
+        )?;
+        return Ok((part, text));
     }
+    let least = if item.steps_of_text == u64::MAX {
+        "at least "
+    } else {
+        ""
+    };
+    let text = format!(in alloc;
+        "There are more than 1048576 steps up to the end of item {place}.\n\
+        The whole circuit has {least}{} steps.\n{}",
+        item.steps_of_text,
+        sentences::MAKE_SHORTER
+    )?;
+    Ok((Part::whole(line).trimmed(), text))
 }
 
-fn push_too_many(words: &mut Vec<u8>, line: &[u8], item: &RefusedItem) -> Result<(), AllocError> {
-    push_line(words, item.line, line, LinePart::of_content(line))?;
-    words.extend_from_slice(b"There are more than 1048576 steps up to the end of item ")?;
-    push_place(words, item)?;
-    push_steps(words, item.steps_of_text)?;
-    push_sentence(words, sentences::STEPS.cure)
-}
-
-/// Puts how many steps the whole circuit has after other words.
-fn push_steps(words: &mut Vec<u8>, steps: u64) -> Result<(), AllocError> {
-    words.extend_from_slice(b"The whole circuit has ")?;
-    if steps == u64::MAX {
-        words.extend_from_slice(b"at least ")?;
-    }
-    push_number(words, steps)?;
-    push_sentence(words, " steps.")
-}
-
-fn push_number(words: &mut Vec<u8>, number: u64) -> Result<(), AllocError> {
-    let mut buffer = Buffer::new();
-    words.extend_from_slice(buffer.format(number).as_bytes())
-}
-
-fn push_records(words: &mut Vec<u8>, records: u64) -> Result<(), AllocError> {
-    match records {
-        0 => words.extend_from_slice(b"no record is"),
-        1 => words.extend_from_slice(b"1 record is"),
-        _ => {
-            push_number(words, records)?;
-            words.extend_from_slice(b" records are")
+/// The first word of a line that looks back over more than this many records.
+fn find_lookback<'a>(alloc: Global, line: &'a [u8], records: u64) -> Result<Part<'a>, AllocError> {
+    let content = Part::whole(line).trimmed();
+    let Ok(parts) = parts_of(content) else {
+        return Ok(content);
+    };
+    for word in words(alloc, parts.targets)? {
+        if lookback_of(alloc, word.bytes())? > records {
+            return Ok(word);
         }
     }
+    Ok(content)
 }
 
-/// Ends a sentence by where the item is.
-fn push_place(words: &mut Vec<u8>, item: &RefusedItem) -> Result<(), AllocError> {
-    push_path(words, item.path.as_slice())?;
-    push_round(words, item)?;
-    push_sentence(words, ".")
-}
-
-/// Puts a path after other words, as scripts of edits have it.
-fn push_path(words: &mut Vec<u8>, path: &[u64]) -> Result<(), AllocError> {
-    let mut between: &[u8] = b"";
-    for place in path {
-        words.extend_from_slice(between)?;
-        push_number(words, *place)?;
-        between = b"/";
+/// How far back a word looks, or 0 if it is no record.
+fn lookback_of(alloc: Global, word: &[u8]) -> Result<u64, AllocError> {
+    let texts: [&[u8]; 2] = [b"DETECTOR ", word];
+    let content = texts.concat(alloc)?;
+    match meaning(alloc, content.as_slice()) {
+        Ok(Line::Operation(operation)) => Ok(furthest_lookback(&operation.kind)),
+        Err(Refusal::OutOfMemory) => Err(AllocError),
+        Ok(_) | Err(_) => Ok(0),
     }
-    Ok(())
-}
-
-/// Puts the round after other words, if the item is in a block.
-fn push_round(words: &mut Vec<u8>, item: &RefusedItem) -> Result<(), AllocError> {
-    if item.path.len() > 1 {
-        words.extend_from_slice(b", in the first round of its block")?;
-    }
-    Ok(())
 }

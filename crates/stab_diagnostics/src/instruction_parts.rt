@@ -1,55 +1,47 @@
 //! A line cut into its name, arguments and targets, or what has no line's shape in it.
-use crate::finding::Finding;
-use crate::line_part::LinePart;
+use crate::part::Part;
 use crate::sentences;
-use stab_line_reader::ends_with;
-use stab_lines::{first_piece, is_spacing};
+use stab_line_reader::{ends_with, is_close};
+use stab_lines::{first_piece, is_brace, is_spacing};
 
-/// The bytes of a byte order mark in UTF-8.
-const BYTE_ORDER_MARK: &[u8] = b"\xEF\xBB\xBF";
+/// A part of a line, and what is wrong with it and what to do.
+pub(crate) type Finding<'a> = (Part<'a>, &'static str);
 
 /// The parts of a line that has the shape of one.
 #[derive(Clone, Copy)]
-pub(crate) struct InstructionParts {
-    pub(crate) name: LinePart,
+pub(crate) struct InstructionParts<'a> {
+    pub(crate) name: Part<'a>,
     /// With their brackets; empty if there are none.
-    pub(crate) arguments: LinePart,
-    pub(crate) targets: LinePart,
+    pub(crate) arguments: Part<'a>,
+    pub(crate) targets: Part<'a>,
     /// Whether a brace is last.
     pub(crate) opens: bool,
-}
-
-fn is_letter(byte: u8) -> bool {
-    byte.is_ascii_alphabetic()
 }
 
 fn is_name_byte(byte: u8) -> bool {
     byte.is_ascii_alphanumeric() || byte == b'_'
 }
 
-fn is_brace(byte: u8) -> bool {
-    byte == b'{' || byte == b'}'
-}
-
 /// The parts of the content of a line, or from the left the first that has no line's shape.
-pub(crate) fn parts_of(line: &[u8], content: LinePart) -> Result<InstructionParts, Finding> {
-    let bytes = content.bytes(line);
+pub(crate) fn parts_of<'a>(content: Part<'a>) -> Result<InstructionParts<'a>, Finding<'a>> {
+    let bytes = content.bytes();
     match bytes.first() {
-        Some(first) if is_letter(*first) => {}
-        _ => return Err(no_name(line, content)),
+        Some(first) if first.is_ascii_alphabetic() => {}
+        _ => return Err(no_name(content)),
     }
     let length = bytes.iter().take_while(|b| is_name_byte(**b)).count();
-    let name = content.front(length);
-    let rest = content.behind(length);
-    let tag = bracketed(line, rest, b'[', b']', sentences::TAG_NOT_CLOSED)?;
-    let rest = rest.behind(tag.bytes(line).len());
-    let arguments = bracketed(line, rest, b'(', b')', sentences::ARGUMENTS_NOT_CLOSED)?;
-    let rest = rest.behind(arguments.bytes(line).len());
-    without_brace(line, arguments)?;
-    let opens = ends_with(rest.bytes(line), b'{');
-    let targets = if opens { rest.without_last() } else { rest };
-    is_apart(line, targets)?;
-    without_brace(line, targets)?;
+    let (name, rest) = content.split(length);
+    let (_, rest) = bracketed(rest, b'[', b']', sentences::TAG_NOT_CLOSED)?;
+    let (arguments, rest) = bracketed(rest, b'(', b')', sentences::ARGUMENTS_NOT_CLOSED)?;
+    without_brace(arguments)?;
+    let opens = ends_with(rest.bytes(), b'{');
+    let targets = if opens { rest.split_last().0 } else { rest };
+    match targets.bytes().first() {
+        Some(first) if !is_spacing(*first) => {
+            return Err((targets.split(1).0, sentences::NOT_APART));
+        }
+        _ => without_brace(targets)?,
+    }
     Ok(InstructionParts {
         name,
         arguments,
@@ -59,50 +51,37 @@ pub(crate) fn parts_of(line: &[u8], content: LinePart) -> Result<InstructionPart
 }
 
 /// What is in the place of a name.
-fn no_name(line: &[u8], content: LinePart) -> Finding {
-    let bytes = content.bytes(line);
-    if bytes.starts_with(BYTE_ORDER_MARK) {
-        return Finding::new(content.front(3), sentences::BYTE_ORDER_MARK);
-    }
-    match bytes.first() {
-        Some(b'}') => Finding::new(content.front(1), sentences::CLOSE_NOT_ALONE),
-        Some(b'{') => Finding::new(content.front(1), sentences::OPEN_NOT_BEHIND_COUNT),
-        _ => Finding::on_front(line, content, sentences::NO_NAME),
-    }
+fn no_name<'a>(content: Part<'a>) -> Finding<'a> {
+    let sentences = match content.bytes().first() {
+        Some(_) if is_close(content.bytes()) => sentences::NO_BLOCK_OPEN,
+        Some(b'}') => sentences::CLOSE_NOT_ALONE,
+        Some(b'{') => sentences::OPEN_NOT_BEHIND_COUNT,
+        _ => sentences::NO_NAME,
+    };
+    (content.split(1).0, sentences)
 }
 
-/// What brackets directly in front hold, with them, or nothing if there are none.
-fn bracketed(
-    line: &[u8],
-    part: LinePart,
+/// What brackets directly in front hold, with them, or nothing if there are none, and what follows.
+fn bracketed<'a>(
+    part: Part<'a>,
     opening: u8,
     closing: u8,
-    not_closed: sentences::Sentences,
-) -> Result<LinePart, Finding> {
-    let bytes = part.bytes(line);
+    not_closed: &'static str,
+) -> Result<(Part<'a>, Part<'a>), Finding<'a>> {
+    let bytes = part.bytes();
     if bytes.first() != Some(&opening) {
-        return Ok(part.front(0));
+        return Ok(part.split(0));
     }
     match first_piece(bytes, closing) {
-        (inside, Some(_)) => Ok(part.front(inside.len().saturating_add(1))),
-        (_, None) => Err(Finding::new(part.front(1), not_closed)),
+        (inside, Some(_)) => Ok(part.split(inside.len().saturating_add(1))),
+        (_, None) => Err((part.split(1).0, not_closed)),
     }
 }
 
 /// The first brace in a part, if it can't be there.
-fn without_brace(line: &[u8], part: LinePart) -> Result<(), Finding> {
-    match part.bytes(line).iter().position(|b| is_brace(*b)) {
-        Some(place) => Err(Finding::new(part.behind(place).front(1), sentences::BRACE_WITHIN)),
+fn without_brace<'a>(part: Part<'a>) -> Result<(), Finding<'a>> {
+    match part.bytes().iter().position(|b| is_brace(*b)) {
+        Some(place) => Err((part.split(place).1.split(1).0, sentences::BRACE_WITHIN)),
         None => Ok(()),
-    }
-}
-
-/// The first byte of targets that no spacing separates from what is before.
-fn is_apart(line: &[u8], targets: LinePart) -> Result<(), Finding> {
-    match targets.bytes(line).first() {
-        Some(first) if !is_spacing(*first) => {
-            Err(Finding::on_front(line, targets, sentences::NOT_APART))
-        }
-        _ => Ok(()),
     }
 }

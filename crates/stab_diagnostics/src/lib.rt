@@ -4,18 +4,13 @@
 //! the whole text the item: the line is shown with carets under the word, and sentences say what is
 //! wrong with it and what to do.
 //!
-//! - `line_part`: parts of a line, by their places in it.
+//! - `part`: parts of a line, by their places in it.
 //! - `sentences`: what is wrong and what to do, for each kind of word.
-//! - `finding`: a part of a line with the sentences on it.
 //! - `instruction_parts`: a line cut into its name, arguments and targets, or what has no line's shape in it.
-//! - `form`: what an instruction takes, and what refuses a line, both as `stab_line_reader` reads them.
-//! - `named`: tables of names, each with a sentence.
-//! - `noise`, `rewritings`: names that Stim reads and stabsim doesn't.
+//! - `names`: what is wrong with a name, with the names that Stim reads and stabsim doesn't.
 //! - `nearest`: the name that is nearest to a word.
-//! - `names`: what is wrong with a name.
-//! - `faulty_line`, `faulty_targets`: the word at fault in a line.
-//! - `counts`, `refused_item`: the item that looks back too far, or after which the steps are too many.
-//! - `lookback`: the word of a line that looks back too far.
+//! - `faulty_line`, `faulty_targets`: the word at fault in a line, as `stab_line_reader` reads it.
+//! - `refused_item`: the item that looks back too far, or after which the steps are too many.
 //! - `shown`: a line with carets under a part of it.
 //! - `explanation`: all of it, and `write_explanation`, which the other crates call.
 //!
@@ -27,21 +22,14 @@
 //! written. The words themselves are tested.
 #![tactic(auto)]
 
-mod counts;
 mod explanation;
 mod faulty_line;
 mod faulty_targets;
-mod finding;
-mod form;
 mod instruction_parts;
-mod line_part;
-mod lookback;
-mod named;
 mod names;
 mod nearest;
-mod noise;
+mod part;
 mod refused_item;
-mod rewritings;
 mod sentences;
 mod shown;
 

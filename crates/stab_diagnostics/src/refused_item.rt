@@ -2,11 +2,12 @@
 //!
 //! Items are counted as they are, and a block's rounds at its end: in the first round of a block
 //! the fewest records are before an item of it, so a lookback that is refused is so in the first round.
-use crate::counts::Counts;
 use stab_io::Refusal;
+use stab_items::{Step, furthest_of, step_at, step_count};
 use stab_line_reader::{content, meaning};
 use stab_lines::{Count, Kind, Line};
 use std::alloc::{AllocError, Global};
+use std::fmt::Write;
 
 /// The most steps of a circuit.
 const MOST_STEPS: u64 = 1_048_576;
@@ -16,34 +17,38 @@ const MOST_STEPS: u64 = 1_048_576;
 pub(crate) struct RefusedItem {
     /// Its line, or that of its opening.
     pub(crate) line: u64,
-    /// Its path: the places of the blocks around it, the outermost first, and its own place.
-    pub(crate) path: Vec<u64>,
+    /// Its path, as scripts of edits have it, and the round if it is in a block.
+    pub(crate) place: String,
     /// How many records are before it.
     pub(crate) records: u64,
     /// How many steps the whole text has, or 2^64 - 1 if there are more.
     pub(crate) steps_of_text: u64,
 }
 
-/// A block around the next item: its line, place and count, and the numbers before it.
+/// An item's place in the innermost block around it, and how many steps and records are before it.
 #[derive(Clone, Copy)]
-struct EnclosingBlock {
-    line: u64,
+struct Before {
     place: u64,
-    count: Count,
     steps: u64,
     records: u64,
 }
 
-/// A search through a text: the blocks around the next item, its place in the innermost, the numbers so
-/// far, and the first item for which the circuit is refused, if it was met.
+/// A block around the next item: its line, its count of rounds, and what is before it.
+#[derive(Clone, Copy)]
+struct EnclosingBlock {
+    line: u64,
+    count: Count,
+    before: Before,
+}
+
+/// A search through a text: the blocks around the next item, what is before it, and the first item for
+/// which the circuit is refused, if it was met.
 #[derive(Drop)]
 struct ItemSearch {
     alloc: Global,
     refusal: Refusal,
-    enclosing_blocks: Vec<EnclosingBlock>,
-    place: u64,
-    steps: u64,
-    records: u64,
+    blocks: Vec<EnclosingBlock>,
+    now: Before,
     found: Option<RefusedItem>,
 }
 
@@ -56,10 +61,12 @@ pub(crate) fn find_item(
     let mut search = ItemSearch {
         alloc,
         refusal,
-        enclosing_blocks: Vec::new(alloc),
-        place: 0,
-        steps: 0,
-        records: 0,
+        blocks: Vec::new(alloc),
+        now: Before {
+            place: 0,
+            steps: 0,
+            records: 0,
+        },
         found: None,
     };
     let mut number: u64 = 0;
@@ -70,7 +77,7 @@ pub(crate) fn find_item(
     let Some(mut item) = search.found.take() else {
         return Ok(None);
     };
-    item.steps_of_text = search.steps;
+    item.steps_of_text = search.now.steps;
     Ok(Some(item))
 }
 
@@ -93,45 +100,51 @@ impl ItemSearch {
     }
 
     fn open(&mut self, line: u64, count: Count) -> Result<(), AllocError> {
-        self.enclosing_blocks.push(EnclosingBlock {
+        let before = self.now;
+        self.blocks.push(EnclosingBlock {
             line,
-            place: self.place,
             count,
-            steps: self.steps,
-            records: self.records,
+            before,
         })?;
-        self.place = 0;
+        self.now.place = 0;
         Ok(())
     }
 
     /// Counts all rounds of the innermost block.
     fn close(&mut self) -> Result<(), AllocError> {
-        let Some(block) = self.enclosing_blocks.pop() else {
+        let Some(block) = self.blocks.pop() else {
             return Ok(());
         };
-        self.place = block.place;
+        let before = block.before;
         let rounds = block.count.number();
-        self.steps = after_rounds(block.steps, self.steps, rounds);
-        self.records = after_rounds(block.records, self.records, rounds);
+        self.now = Before {
+            place: before.place,
+            steps: after_rounds(before.steps, self.now.steps, rounds),
+            records: after_rounds(before.records, self.now.records, rounds),
+        };
         self.end_item(block.line)
     }
 
     fn take_operation(&mut self, line: u64, kind: &Kind) -> Result<(), AllocError> {
-        let counts = Counts::of_kind(kind);
-        if self.refusal == Refusal::LookbackTooFar && counts.lookback > self.records {
+        if self.refusal == Refusal::LookbackTooFar && furthest_lookback(kind) > self.now.records {
             self.note(line)?;
         }
-        self.steps = self.steps.saturating_add(counts.steps);
-        self.records = self.records.saturating_add(counts.records);
+        let steps = step_count(kind) as u64;
+        self.now.steps = self.now.steps.saturating_add(steps);
+        if let Some(Step::Collapse { recorded: true, .. } | Step::Product { .. }) = step_at(
+            kind, 0,
+        ) {
+            self.now.records = self.now.records.saturating_add(steps);
+        }
         self.end_item(line)
     }
 
     /// Goes on to the next item.
     fn end_item(&mut self, line: u64) -> Result<(), AllocError> {
-        if self.refusal == Refusal::TooManySteps && self.steps > MOST_STEPS {
+        if self.refusal == Refusal::TooManySteps && self.now.steps > MOST_STEPS {
             self.note(line)?;
         }
-        self.place = self.place.saturating_add(1);
+        self.now.place = self.now.place.saturating_add(1);
         Ok(())
     }
 
@@ -140,19 +153,33 @@ impl ItemSearch {
         if self.found.is_some() {
             return Ok(());
         }
-        let mut path = Vec::new(self.alloc);
-        for block in self.enclosing_blocks.iter() {
-            path.push(block.place)?;
+        let mut place = String::new(self.alloc);
+        for block in self.blocks.iter() {
+            write!(place, "{}/", block.before.place)?;
         }
-        path.push(self.place)?;
+        write!(place, "{}", self.now.place)?;
+        if !self.blocks.is_empty() {
+            place.push_str(", in the first round of its block")?;
+        }
         self.found = Some(RefusedItem {
             line,
-            path,
-            records: self.records,
+            place,
+            records: self.now.records,
             steps_of_text: 0,
         });
         Ok(())
     }
+}
+
+/// How far back an instruction looks, or 0.
+pub(crate) fn furthest_lookback(kind: &Kind) -> u64 {
+    let mut furthest = 0;
+    for place in 0..step_count(kind) {
+        if let Some(step) = step_at(kind, place) {
+            furthest = furthest_of(furthest, step);
+        }
+    }
+    u64::from(furthest)
 }
 
 /// A number after all rounds of a block, of that before it and that after its first round.

@@ -265,13 +265,6 @@ module _ (t kept : ErrorTable) (classes : List ℕ) (detectors : kept.detectors 
 
 -- What a check goes over.
 
-pub class-none : (classes is : List ℕ) → is ≡ [] → class_of classes is ≡ 0
-class-none classes is nothing = ap (class_of classes) nothing
-
-pub class-first : (classes is : List ℕ) → 0 < length is → class_of classes is ≡ slice_index classes (get_or is 0 0)
-class-first classes [] some = absurd (omega arith)
-class-first classes (d ∷ ds) some = refl
-
 -- each number of a list has a class
 pub of-class : (classes : List ℕ) (detectors : ℕ) (is : List ℕ) (k : ℕ)
     → ((j : ℕ) → j < length is → get_or is j 0 < detectors → (slice_index classes (get_or is j 0) ≡ k) × (k ≢ 0)) → AreOfClass classes detectors is k
@@ -300,30 +293,3 @@ pub apart-next : (f : ℕ → ℕ) (xs : List ℕ) (k from : ℕ) → k < length
 apart-next f xs k from lt le after =
     let next : suc k ≡ k + 1 = omega arith in
     subst (λ ys. AscendsFrom from (map f ys)) (sym (drop-cons xs k 0 lt ∙ ap (λ n. get_or xs k 0 ∷ drop n xs) next)) (le, after)
-
--- one row more has a class
-pub have-more : (classes : List ℕ) (detectors : ℕ) (old : List (List ℕ)) (x : List ℕ) (new : List (List ℕ)) → new ≡ old ++ x ∷ []
-    → AreOfClass classes detectors x (class_of classes x) → HaveClasses (record { detectors = detectors; rows = old }) classes
-    → HaveClasses (record { detectors = detectors; rows = new }) classes
-have-more classes detectors old x new is here have =
-    subst (λ (rows : List (List ℕ)). HaveClasses (record { detectors = detectors; rows = rows }) classes) (sym is) (λ r lt. more old r lt have)
-  where
-    more : (rows : List (List ℕ)) (r : ℕ) → r < length (rows ++ x ∷ []) → ((q : ℕ) → q < length rows → AreOfClass classes detectors (row rows q) (class_of classes (row rows q)))
-        → AreOfClass classes detectors (row (rows ++ x ∷ []) r) (class_of classes (row (rows ++ x ∷ []) r))
-    more [] zero lt each = here
-    more [] (suc r) lt each = absurd (omega arith)
-    more (y ∷ rows) zero lt each = each 0 (omega arith)
-    more (y ∷ rows) (suc r) lt each = more rows r (omega arith) (λ q less. each (suc q) (omega arith))
-
--- what is left of an error's numbers after its parts counts nothing
-pub are-parts : (t : ErrorTable) (classes is parts rest flipped : List ℕ) → Each (λ r. r < length t.rows) parts → ((i : ℕ) → odd i flipped ≡ flips t.rows parts i)
-    → ((i : ℕ) → odd i rest ≡ odd i flipped ⊕ odd i is) → ((i : ℕ) → Counts classes t.detectors i → odd i rest ≡ false)
-    → IsAscending (map (λ r. class_of classes (row t.rows r)) parts) → AreParts t classes is parts
-are-parts t classes is parts rest flipped inside flip merged none ascending = record {
-  inside = inside;
-  same = λ i counts. parity-even (flips t.rows parts i) (odd i is) (ap (λ b. b ⊕ odd i is) (sym (flip i)) ∙ sym (merged i) ∙ none i counts);
-  apart = ascending;
-}
-  where
-    parity-even : (a b : Bool) → a ⊕ b ≡ false → a ≡ b
-    parity-even a b e = sym (sym (parity-twice a b) ∙ ap (λ t. a ⊕ t) e ∙ parity-false a)

@@ -13,9 +13,6 @@ pub record AreSoFar (t : ErrorTable) (n : ℕ) (rows : List (List ℕ)) (weights
   pub same : (size : ℕ) → HasNoneBelow t size
       → ways t.detectors (rows ++ drop n t.rows) (weights ++ ones (drop n t.rows)) size [] ≡ ways t.detectors t.rows (ones t.rows) size []
 
-pub so-far_none : (t : ErrorTable) → AreSoFar t 0 [] []
-so-far_none t = record { count = refl; rows_of = λ k lt. (k, lt, refl); same = λ size none. refl }
-
 pub so-far_all : (t : ErrorTable) (n : ℕ) (rows : List (List ℕ)) (weights : List ℕ) → length t.rows ≤ n → AreSoFar t n rows weights → AreGroups t rows weights
 so-far_all t n rows weights all so_far =
     let nothing : drop n t.rows ≡ [] = drop_of_length-le t.rows all in

@@ -63,22 +63,3 @@ halves false false true true e = refl
 halves false false true false e = absurd (cc)
 halves false false false true e = absurd (cc)
 halves false false false false e = refl
-
--- in another order
-pub crossed : (w x y z : Bool) → w ⊕ (x ⊕ (y ⊕ (z ⊕ false))) ≡ false → (w ⊕ y ≡ x ⊕ z) × (w ⊕ z ≡ x ⊕ y)
-crossed true true true true e = (refl, refl)
-crossed true true true false e = absurd (cc)
-crossed true true false true e = absurd (cc)
-crossed true true false false e = (refl, refl)
-crossed true false true true e = absurd (cc)
-crossed true false true false e = (refl, refl)
-crossed true false false true e = (refl, refl)
-crossed true false false false e = absurd (cc)
-crossed false true true true e = absurd (cc)
-crossed false true true false e = (refl, refl)
-crossed false true false true e = (refl, refl)
-crossed false true false false e = absurd (cc)
-crossed false false true true e = (refl, refl)
-crossed false false true false e = absurd (cc)
-crossed false false false true e = absurd (cc)
-crossed false false false false e = (refl, refl)

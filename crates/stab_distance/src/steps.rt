@@ -7,34 +7,33 @@ ghost use Rattle.stab_distance.specs.inner.Steps.{IsMoved, AreMoved, MovesDown, 
 use crate::errors::Errors;
 use std::alloc::{AllocError, Global};
 
-/// Of how many errors at most it is tried whether a step moves them down.
+/// Of how many errors it is tried whether a step moves them down.
 const TRIED: usize = 64;
 
-/// A step that moves down most of the errors, as far as some tell, if there is one.
+/// The step that moves down the most of some errors, if it moves down most of these.
 pub(crate) fn find_step(errors: &Errors) -> Option<usize> {
+    let mut best = None;
+    let mut most = TRIED / 2;
     for step in 1..errors.flipped_detectors() {
-        if most_move_down(errors, step) {
-            return Some(step);
+        let moved = moved_of_some(errors, step);
+        if moved > most {
+            best = Some(step);
+            most = moved;
         }
     }
-    None
+    best
 }
 
-/// Whether a step moves down most of some errors, taken evenly from all.
-fn most_move_down(errors: &Errors, step: usize) -> bool {
-    let apart = errors.len() / TRIED + 1;
-    let mut tried: usize = 0;
+/// How many of some errors a step moves down. They are taken evenly from all.
+fn moved_of_some(errors: &Errors, step: usize) -> usize {
     let mut moved: usize = 0;
     for k in 0..TRIED {
-        let r = k.saturating_mul(apart);
-        if r < errors.len() {
-            tried = tried.saturating_add(1);
-            if moves_down(errors, r, step) {
-                moved = moved.saturating_add(1);
-            }
+        let r = k.saturating_mul(errors.len()) / TRIED;
+        if r < errors.len() && moves_down(errors, r, step) {
+            moved = moved.saturating_add(1);
         }
     }
-    moved > tried / 2
+    moved
 }
 
 /// Errors in order, of which the first ones are moved down by no step.

@@ -14,6 +14,7 @@ mod ObservedLemmas
 mod FlipLemmas
 mod UnseenLemmas
 mod AnswerLemmas
+mod CountLemmas
 mod GraphlikeLemmas
 mod PartLemmas
 mod StepLemmas

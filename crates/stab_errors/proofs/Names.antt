@@ -19,6 +19,7 @@ pub use Rattle.stab_edits.specs.Views.{circuit_items}
 pub use Rattle.stab_distance.proofs.PartLemmas.{graphlike-up_to}
 pub use Rattle.stab_distance.proofs.ShortestLemmas.{none-up_to}
 pub use Rattle.stab_distance.specs.Ascending.{AscendsFrom, IsAscending}
+pub use Rattle.stab_distance.specs.Counts.{HasNoneBelow, IsLogicalSetOf, AreAsMany, IsCount}
 pub use Rattle.stab_distance.specs.Graphlike.{IsGraphlike, IsGraphlikeError, IsLeastGraphlike, HasNoGraphlikeWithin, IsGraphlikeAnswer}
 pub use Rattle.stab_distance.specs.LogicalErrors.{HasNoneWithin, IsAnswer, IsLogicalError, IsLeast, HasNone, HasSome}
 pub use Rattle.stab_distance.specs.Progress.{Heard, begins, Hears, up_to, IsExcludedBy, TellsSearch}
@@ -68,7 +69,7 @@ pub use Rattle.stab_errors.specs.Errors.{Error, each_letter, each_product, error
 pub use Rattle.stab_errors.specs.EverywhereLaws.{inverted_once, with_inverted, FlipAlike}
 pub use Rattle.stab_errors.specs.Parts.{letter_parts, IsSplit, AreSplit, AreSearched, parts_of, fault_parts}
 pub use Rattle.stab_errors.specs.Placed.{letter_at, error_shown, fault_shown, faults_shown}
-pub use Rattle.stab_errors.specs.Unseen.{IsDistance, AreUnseen, FlipsTwo, AreUnseenOf, AreLeastUnseen, error_at, errors_at_numbers, NoneUnseen, NoneUnseenWithin, SomeUnseen, IsWithin, IsAskedFor, IsLeastSet, TellsUnseen}
+pub use Rattle.stab_errors.specs.Unseen.{IsDistance, AreUnseen, FlipsTwo, AreUnseenOf, AreLeastUnseen, error_at, errors_at_numbers, NoneUnseen, NoneUnseenWithin, SomeUnseen, IsWithin, IsAskedFor, IsLeastSet, IsSetCount, TellsUnseen}
 pub use Rattle.stab_errors.specs.declared.marks.Marks.{Marks as MarksValue}
 pub use Rattle.stab_errors.specs.declared.placed.Error.{Error as ErrorValue}
 pub use Rattle.stab_errors.specs.declared.placed.Place.{Place}

@@ -50,10 +50,6 @@ kept-asked : (detectors j i : ℕ) → i ≡ detectors + j → is_kept detectors
 kept-asked detectors j i is =
     ap (λ b. b || ((i - detectors) == j)) (le-ltb i detectors (omega (arith, is))) ∙ eq-eqb (i - detectors) j (omega (arith, is))
 
-dropped-other : (detectors j o : ℕ) → detectors ≤ o → (o - detectors ≡ j → ⊥) → is_kept detectors j o ≡ false
-dropped-other detectors j o past other =
-    ap (λ b. b || ((o - detectors) == j)) (le-ltb o detectors past) ∙ ne_eqb (o - detectors) j other
-
 module _ (t : ErrorTable) where
   abbrev kept : Option ℕ → List (List ℕ)
   kept observable = (with_observable observable t).rows

@@ -1,6 +1,6 @@
 -- Unseen sets: errors that flip an observable and no detector, and the least number of them, by runs; of all errors, or of graph-like ones alone.
 -- Source: this project's own.
-use Rattle.std.specs.Prelude.{◌≡◌, ℕ, ◌+◌, ◌<◌, ◌≤◌, ◌⊎◌, Bool, true, false, List, length, map, slice_index_or, All, Contains, Option, Some, None, Result, Ok, Err}
+use Rattle.std.specs.Prelude.{◌≡◌, ℕ, ◌+◌, ◌<◌, ◌≤◌, ◌^◌, ◌⊎◌, Bool, true, false, List, length, map, slice_index_or, All, Contains, Option, Some, None, Result, Ok, Err}
 use Rattle.std.specs.Option.{unwrap_or}
 use Rattle.std.specs.List.{flat_map}
 use Rattle.stab_gates.specs.declared.letter.Letter.TheVariants.{I}
@@ -10,6 +10,7 @@ use Rattle.stab_regions.specs.Faults.{IsDeterministic, fault_on, in_front}
 use Rattle.stab_distance.specs.Ascending.{IsAscending}
 use Rattle.stab_distance.specs.declared.answer.Answer.{Answer}
 use Rattle.stab_distance.specs.declared.answer.Answer.TheVariants.{Least, NoneWithin, NoneAtAll}
+use Rattle.stab_distance.specs.Counts.{AreAsMany}
 use Rattle.stab_distance.specs.Progress.{Heard, TellsSearch}
 use Rattle.stab_errors.specs.Errors.{Error, letter, faults_in}
 use Rattle.stab_errors.specs.ErrorTables.{flip_together}
@@ -83,6 +84,12 @@ IsDistance graphlike observable n items all most (Least numbers) = IsLeastSet gr
 IsDistance graphlike observable n items all most NoneAtAll = NoneUnseen graphlike observable n items all
 IsDistance graphlike observable n items all (Some most) NoneWithin = NoneUnseenWithin graphlike observable n items all most × SomeUnseen graphlike observable n items all
 IsDistance graphlike observable n items all None NoneWithin = ⊥
+
+-- what a count says of all errors of a circuit: how many sets are a least unseen one, each by its numbers, or that their number takes more than
+-- 64 bits
+abbrev pub IsSetCount : (observable : Option ℕ) → (n : ℕ) → Items → (all : List Error) → (most : Option ℕ) → Option ℕ → Type 0
+IsSetCount observable n items all most (Some count) = AreAsMany (IsLeastSet false observable n items all most) count
+IsSetCount observable n items all most None = (count : ℕ) × ((2 ^ 64 ≤ count) × AreAsMany (IsLeastSet false observable n items all most) count)
 
 -- what is heard of a search among a circuit's errors; for one observable it may be nothing, if memory was refused before the search began
 abbrev pub TellsUnseen : {E : Type 0} → (graphlike : Bool) → (observable : Option ℕ) → (n : ℕ) → Items → (all : List Error) → (most : Option ℕ) → Option (List Heard) → Option (List Heard) → Result Answer E → Type 0

@@ -13,7 +13,8 @@
 //! - `parts`: the parts of errors that flip more than two detectors.
 //! - `error_table`: the errors of a circuit, and their table.
 //! - `observed`: the table in which one observable alone counts.
-//! - `search`: the least number of errors that are unseen; of all, or of those alone that flip at most two detectors; with any observable, or with one.
+//! - `search`: the least number of errors that are unseen; of all, or of those alone that flip at most two detectors; with any observable, or with one;
+//!   and how many such sets there are.
 //! - `laws`: each circuit has a table of errors and a distance.
 //! - `everywhere_laws`: a record wrong by itself is one more `!`; errors everywhere leave no Pauli out.
 //!
@@ -45,6 +46,6 @@ mod tags;
 pub use doubts::{Doubt, DoubtfulMark, doubtful_marks};
 pub use error_table::{ErrorTable, errors};
 pub use placed::{Error, PlacedLetter};
-pub use search::{distance, graphlike_distance};
+pub use search::{count_distance, distance, graphlike_distance};
 pub use stab_distance::{Answer, Progress, Unwatched};
 pub use stab_jobs::ErrorLetters;

@@ -1,13 +1,15 @@
 //! The least number of a circuit's errors that flip an observable and no detector.
-ghost use Rattle.std.specs.Prelude.{◌≡◌, ℕ, true, false, IfOk, IfErr};
+ghost use Rattle.std.specs.Prelude.{◌≡◌, ℕ, true, false, Option, IfOk, IfErr};
 ghost use Rattle.stab_io.specs.declared.refusal.Refusal.TheVariants.{OutOfMemory};
 ghost use Rattle.stab_circuit.specs.Items.{Items};
 ghost use Rattle.stab_errors.specs.ErrorTables.{IsErrorTable};
-ghost use Rattle.stab_errors.specs.Unseen.{IsDistance, TellsUnseen};
+ghost use Rattle.stab_errors.specs.Unseen.{IsDistance, IsSetCount, TellsUnseen};
+ghost use Rattle.stab_distance.specs.Counts.{HasNoneBelow, IsCount};
+ghost use Rattle.stab_errors.specs.inner.Observed.{with_observable};
 
 use crate::error_table::ErrorTable;
 use crate::observed::with_observable;
-use stab_distance::{Answer, Progress, least_graphlike_error, least_logical_error};
+use stab_distance::{Answer, Progress, count_least, least_graphlike_error, least_logical_error};
 use stab_io::Refusal;
 use std::alloc::Global;
 
@@ -64,5 +66,47 @@ pub fn graphlike_distance<P: Progress>(
             let kept = with_observable(alloc, table, observable)?;
             least_graphlike_error(alloc, &kept, bound, progress)
         }
+    }
+}
+
+/// How many logical errors of this many errors there are, if none has fewer.
+fn count_sets(
+    alloc: Global,
+    errors: &ErrorTable,
+    observable: Option<usize>,
+    size: usize,
+) -> Result<Option<u64>, Refusal>
+    requires least { HasNoneBelow (with_observable observable errors.now.table) size }
+    ensures count { IfOk result (IsCount (with_observable observable errors.now.table) size) }
+    ensures err { IfErr result (λ r. r ≡ OutOfMemory) }
+{
+    let table = errors.table();
+    match observable {
+        None => count_least(alloc, table, size),
+        Some(observable) => {
+            let kept = with_observable(alloc, table, observable)?;
+            count_least(alloc, &kept, size)
+        }
+    }
+}
+
+/// How many least sets of a circuit's errors are unseen together, of which `distance` answers one; 0 if it answers that there is none;
+/// `None` if the number takes more than 64 bits. The time grows with the number of sets.
+///
+/// The only refusal is `OutOfMemory`.
+pub fn count_distance(
+    alloc: Global,
+    errors: &ErrorTable,
+    observable: Option<usize>,
+    answer: &Answer,
+) -> Result<Option<u64>, Refusal>
+    requires answer { (n : ℕ) × (items : Items) × (most : Option ℕ) × IsErrorTable n items errors.now × IsDistance false observable n items errors.now.errors most answer.now }
+    ensures count { IfOk result (λ c. (n : ℕ) (items : Items) (most : Option ℕ) → IsErrorTable n items errors.now → IsDistance false observable n items errors.now.errors most answer.now → IsSetCount observable n items errors.now.errors most c) }
+    ensures err { IfErr result (λ r. r ≡ OutOfMemory) }
+{
+    match answer {
+        Answer::Least(numbers) => count_sets(alloc, errors, observable, numbers.len()),
+        Answer::NoneWithin => Ok(Some(0)),
+        Answer::NoneAtAll => Ok(Some(0)),
     }
 }

@@ -42,7 +42,7 @@ impl Model for Pivots {
 }
 
 impl Pivots {
-    ghost use Rattle.std.specs.Prelude.{◌≡◌, ◌+◌, ◌≤◌, ◌<◌, ◌↔◌, [], ◌∷◌, ◌++◌, All, IsTrue, length, map, take, drop, slice_index_or, OnOk, OnErr, IfOk, IfErr};
+    ghost use Rattle.std.specs.Prelude.{◌≡◌, ◌+◌, ◌≤◌, ◌<◌, ◌↔◌, [], ◌∷◌, ◌++◌, All, IsTrue, length, map, drop, slice_index_or, OnOk, OnErr, IfOk, IfErr};
     ghost use Rattle.stab_io.specs.declared.refusal.Refusal.TheVariants.{OutOfMemory};
     ghost use Rattle.stab_frames.specs.Pivots.{kept_with, kept_again, cut_to, front_kept, own_strings};
     ghost use Rattle.stab_frames.specs.Limits.{most_strings as most_of};
@@ -166,25 +166,6 @@ impl Pivots {
             .as_slice()
             .split_at(from.min(other.strings.len()));
         self.append(rest)
-    }
-
-    /// Puts others after these, from the one with a number up to another's, as far as there may be as
-    /// many.
-    ///
-    /// Refusal `OutOfMemory` alone.
-    pub fn append_between(&mut self, other: &Pivots, from: usize, to: usize) -> Result<(), Refusal>
-        requires same_length { other.now.qubits ≡ self.old.qubits }
-        ensures qubits { self.new.qubits ≡ self.old.qubits }
-        ensures most { self.new.most ≡ self.old.most }
-        ensures strings { OnOk result (self.new.strings ≡ kept_with self.old.most self.old.strings (drop from (take to other.now.strings))) }
-        ensures err { IfErr result (λ r. r ≡ OutOfMemory) }
-    {
-        let (front, _) = other
-            .strings
-            .as_slice()
-            .split_at(to.min(other.strings.len()));
-        let (_, between) = front.split_at(from.min(front.len()));
-        self.append(between)
     }
 
     /// Puts strings of this list after the others again, from the one with a number up to another's, and lets it

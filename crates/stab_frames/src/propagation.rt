@@ -139,19 +139,6 @@ impl Propagation {
         }
     }
 
-    /// Goes back to the coin with this number, after this many free outcomes, with its letters and the
-    /// records that it has flipped.
-    pub fn begin_again(&mut self, coin: usize, number: usize)
-        requires within { number ≤ coin }
-        ensures value { self.new ≡ record self.old { flips = record nothing { records = self.old.flips.records }; coin = coin; number = number } }
-    {
-        self.outcomes.clear();
-        self.detectors.clear();
-        self.additions.clear();
-        self.coin = coin;
-        self.number = number;
-    }
-
     /// Flips further records, after those that it has passed: those at which one list differs from
     /// another of the same length.
     pub fn flip_records(&mut self, records: &[bool], others: &[bool]) -> Result<(), AllocError>

@@ -95,6 +95,8 @@ pub enum Command {
     },
     /// Writes the least number of errors that flip an observable and no detector, and that many such errors.
     Distance(DistanceOptions),
+    /// Writes what `Distance` does of all errors, and how many least sets there are.
+    CountedDistance(DistanceOptions),
     /// Writes what `Distance` does for each observable in turn.
     EachDistance(DistanceOptions),
     /// Writes the errors that `Distance` searches, and what each flips.
@@ -109,6 +111,8 @@ pub enum Command {
         qubits: Option<QubitCount>,
         stride: Stride,
     },
+    /// Writes what a Pauli string becomes that is put in, and what it flips.
+    Propagate,
 }
 
 /// What the words of a command line ask for: a command, and what every command has.
@@ -124,6 +128,10 @@ pub struct Job {
     pub in_path: Option<String>,
     /// The file that is written in place of standard output.
     pub out_path: Option<String>,
+    /// The place at which `Propagate` puts a string in, or no text.
+    pub at: String,
+    /// That string, or no text.
+    pub string: String,
 }
 
 // Written out, so that a proof sees the drop of a value as one call, and not one for each of its parts.
@@ -135,6 +143,8 @@ impl Drop for Job {
             coins_path: _,
             in_path: _,
             out_path: _,
+            at: _,
+            string: _,
         } = self;
     }
 }

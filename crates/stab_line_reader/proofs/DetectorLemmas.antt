@@ -1,5 +1,8 @@
--- Records of a detector that are read into a few places.
-use Rattle.stab_line_reader.proofs.Names.{◌≡◌, ◌<◌, ℕ, ◌+◌, true, List, [], ◌∷◌, length, take, set, All, Result, Ok, sym, ap, ◌∙◌, subst, take_more_set, All-nil, All-cons, All-append, Refusal, each, words, is_blank, IsLookback, lookback_of, BeginsWithTarget}
+-- A detector: its records, which are read into a few places, and what it does.
+use Rattle.stab_line_reader.proofs.Names.{◌≡◌, ◌<◌, ℕ, ◌+◌, true, false, List, [], ◌∷◌, length, take, set, list_all, All, Result, Ok, Err, refl, sym, ap, ◌∙◌, subst, take_more_set, All-nil, All-cons, All-append, Refusal, BadArguments, ◌>>=◌, Shape, each, words, arguments_of, kind_of, is_coordinate, after_coordinates, is_blank, IsLookback, lookback_of, BeginsWithTarget}
+use Rattle.stab_lines.specs.declared.name.Instruction.TheVariants as instruction
+use Rattle.stab_lines.specs.declared.operation.Kind.TheVariants as kind
+use Rattle.stab_line_reader.proofs.CoordinateLemmas.{each_coordinate, no_coordinate}
 use Rattle.stab_line_reader.proofs.ResultLemmas.{behind, behind_none, behind_next}
 use Rattle.stab_lines.proofs.PieceLemmas.{blank_words}
 use Rattle.stab_lines.proofs.TargetLemmas.{lookback_in_range}
@@ -22,3 +25,20 @@ found_more found count k bs rest room h =
 -- no record more
 pub found_all : (found bs : List ℕ) (given : Result (List ℕ) Refusal) → is_blank bs ≡ true → behind found (each lookback_of (words bs)) ≡ given → given ≡ Ok found
 found_all found bs given blank e = sym e ∙ ap (λ ws. behind found (each lookback_of ws)) (blank_words bs blank) ∙ behind_none found
+
+-- what a detector does, if its coordinates are written as coordinates are
+pub detector_kind : (s : Shape) → list_all is_coordinate (arguments_of s.arguments) ≡ true
+    → kind_of instruction.Detector s ≡ (after_coordinates s.arguments (each lookback_of (words s.targets)) >>= λ d. Ok (kind.Detector d))
+unfolding kind_of
+detector_kind s written =
+    ap (λ r. r >>= λ cs. each lookback_of (words s.targets) >>= λ ks. Ok (kind.Detector (cs, ks))) (each_coordinate (arguments_of s.arguments) written)
+    ∙ joined (arguments_of s.arguments) (each lookback_of (words s.targets))
+  where
+    joined : (cs : List (List ℕ)) (given : Result (List ℕ) Refusal) → (given >>= λ ks. Ok (kind.Detector (cs, ks))) ≡ (given >>= (λ ks. Ok (cs, ks)) >>= λ d. Ok (kind.Detector d))
+    joined cs (Ok ks) = refl
+    joined cs (Err r) = refl
+
+-- if they are not
+pub detector_refused : (s : Shape) → list_all is_coordinate (arguments_of s.arguments) ≡ false → kind_of instruction.Detector s ≡ Err BadArguments
+unfolding kind_of
+detector_refused s h = ap (λ r. r >>= λ cs. each lookback_of (words s.targets) >>= λ ks. Ok (kind.Detector (cs, ks))) (no_coordinate (arguments_of s.arguments) h)

@@ -5,7 +5,6 @@ mod CoordinateLemmas
 mod DetectorLemmas
 mod ProductLemmas
 mod FrontTargetLemmas
-mod ClearLemmas
 mod ControlLemmas
 mod AgainLemmas
 mod FactorLemmas
@@ -15,8 +14,6 @@ mod ShapeLemmas
 mod ContentLemmas
 mod PrintedLemmas
 mod MeaningLemmas
-mod DetectorContentLemmas
-mod DetectorLineLemmas
 mod SpacedTargetLemmas
 mod PlainLineLemmas
 mod EmptyLemmas

@@ -1,19 +1,37 @@
 -- The line of an instruction on numbers alone that is read off the front of a text.
-use Rattle.stab_line_reader.proofs.Names.{Bor, Option, Some, None, MatchOption, IfOk, ◌≡◌, ◌<◌, ℕ, Bool, true, false, ◌||◌, List, [], ◌∷◌, ◌++◌, length, take, drop, Result, Ok, Err, refl, sym, ap, subst, ◌∙◌, arith, append_assoc, append-nil, option_copied, list_all, list_any, slice_split, prefix_len, length-append, take-append-drop, Refusal, Gate, Axis, MeasureTarget, ControlledPair, Measurement, Instruction, Kind, ◌>>=◌, each, is_byte, is_letter, is_name_byte, is_brace, content_of, words, is_number, is_some_word, name_of, qubit_of, measure_target_of, pairs_of, controlled_of, kind_of, without_open, named_line, shape_meaning, meaning_of, head_text, BeginsWithInstruction, TellsInstruction, follows, EndsLine, paired_words, spaced_words, AreSpacedTargets, TellsTargets, plain_shape, BeginsWithKind, TellsKind}
+use Rattle.stab_line_reader.proofs.Names.{Bor, suc, ◌+◌, if◌then◌else◌, pieces_after, Option, Some, None, MatchOption, IfOk, ◌≡◌, ◌<◌, ℕ, Bool, true, false, ◌||◌, List, [], ◌∷◌, ◌++◌, length, take, drop, Result, Ok, Err, refl, sym, ap, subst, ◌∙◌, arith, append_assoc, append-nil, option_copied, list_all, list_any, slice_split, prefix_len, length-append, take-append-drop, Refusal, Gate, Axis, MeasureTarget, ControlledPair, Measurement, Instruction, Kind, ◌>>=◌, each, is_byte, is_letter, is_name_byte, is_brace, content_of, words, is_number, is_some_word, name_of, qubit_of, measure_target_of, pairs_of, controlled_of, kind_of, without_open, named_line, shape_meaning, meaning_of, head_text, BeginsWithInstruction, TellsInstruction, follows, EndsLine, paired_words, spaced_words, AreSpacedTargets, TellsTargets, plain_shape, BeginsWithKind, TellsKind}
 use Rattle.stab_lines.specs.declared.name.Instruction.TheVariants as instruction
 use Rattle.stab_lines.specs.declared.name.Name.TheVariants as name
 use Rattle.stab_lines.specs.declared.operation.Kind.TheVariants as kind
 use Rattle.stab_lines.specs.declared.operation.Line.TheVariants as line
-use Rattle.stab_lines.proofs.BoolLemmas.{and_left, and_right}
-use Rattle.stab_lines.proofs.FreeLemmas.{Each, Free, free-append, digits_free}
+use Rattle.stab_lines.proofs.BoolLemmas.{both, and_left, and_right}
+use Rattle.stab_lines.proofs.FreeLemmas.{Each, Free, free-append, split_free, split_last, digits_free}
 use Rattle.stab_line_reader.proofs.AgainLemmas.{AreWords, words_again, same_map, spacing_no}
 use Rattle.stab_line_reader.proofs.NeatLemmas.{IsNeat, content_again}
 use Rattle.stab_line_reader.proofs.ShapeLemmas.{IsName, name_is, shape_again}
 use Rattle.stab_line_reader.proofs.ContentLemmas.{IsClear, AreTargets, spaced_targets, ends_well}
 use Rattle.stab_line_reader.proofs.PrintedLemmas.{head_free, line_ends_outer, comments_outer, headed_solid, head_ends}
 use Rattle.stab_line_reader.proofs.MeaningLemmas.{headed_means, no_braces}
-use Rattle.stab_line_reader.proofs.DetectorContentLemmas.{all_front}
-use Rattle.stab_line_reader.proofs.DetectorLineLemmas.{line_split, take_none}
+
+take_none : (xs : List ℕ) → take 0 xs ≡ []
+take_none [] = refl
+take_none (x ∷ xs) = refl
+
+-- the bytes in front that pass, pass
+all_cut : (p : ℕ → Bool) (x : ℕ) (xs : List ℕ) (b : Bool) → p x ≡ b → list_all p (take (prefix_len p xs) xs) ≡ true → list_all p (take (if b then 1 + prefix_len p xs else 0) (x ∷ xs)) ≡ true
+all_cut p x xs true e h =
+    let one : 1 + prefix_len p xs ≡ suc (prefix_len p xs) = omega arith in
+    ap (λ n. list_all p (take n (x ∷ xs))) one ∙ both (p x) (list_all p (take (prefix_len p xs) xs)) e h
+all_cut p x xs false e h = refl
+
+all_front : (p : ℕ → Bool) (xs : List ℕ) → list_all p (take (prefix_len p xs) xs) ≡ true
+all_front p [] = refl
+all_front p (x ∷ xs) = all_cut p x xs (p x) refl (all_front p xs)
+
+-- a text is cut after its first line
+line_split : (first rest : List ℕ) (after : Option (List ℕ)) → Free (is_byte 10) first → EndsLine rest after → slice_split (is_byte 10) (first ++ rest) ≡ first ∷ pieces_after 10 after
+line_split first rest None f e = ap (λ l. slice_split (is_byte 10) (first ++ l)) e ∙ ap (slice_split (is_byte 10)) (append-nil first) ∙ split_last (is_byte 10) first f
+line_split first rest (Some after) f e = ap (λ l. slice_split (is_byte 10) (first ++ l)) e ∙ split_free (is_byte 10) first 10 after f refl
 
 -- numbers are words
 number_words : (ws : List (List ℕ)) → list_all is_number ws ≡ true → AreWords (λ w. w) ws

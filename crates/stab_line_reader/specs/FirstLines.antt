@@ -7,7 +7,6 @@ use Rattle.std.specs.List.{slice_split}
 use Rattle.stab_io.specs.declared.refusal.Refusal.{Refusal}
 use Rattle.stab_io.specs.declared.refusal.Refusal.TheVariants.{OutOfMemory}
 use Rattle.stab_lines.specs.declared.operation.Kind.{Kind}
-use Rattle.stab_lines.specs.declared.operation.Kind.TheVariants as kind
 use Rattle.stab_lines.specs.declared.operation.Line.TheVariants as line
 use Rattle.stab_lines.specs.Lines.{is_byte, content_of}
 use Rattle.stab_lines.specs.Words.{pieces_after}
@@ -18,10 +17,6 @@ abbrev pub BeginsWithInstruction : List ℕ → Kind → Option (List ℕ) → T
 BeginsWithInstruction text k after =
     (first : List ℕ) × (slice_split (is_byte 10) text ≡ first ∷ pieces_after 10 after)
     × (meaning_of (content_of first) ≡ Ok (line.Operation (record { kind = k; tag = [] })))
-
--- the first line means this detector, and these lines follow it
-abbrev pub BeginsWithDetector : List ℕ → List (List ℕ) × List ℕ → Option (List ℕ) → Type 0
-BeginsWithDetector text d after = BeginsWithInstruction text (kind.Detector d) after
 
 -- the call gave the instruction that the first line means and the lines after it, or said nothing, or failed for lack of memory
 abbrev pub TellsInstruction : List ℕ → Result (Option (Kind × Option (Bor (List ℕ)))) Refusal → Type 0

@@ -1,10 +1,8 @@
-ghost use Rattle.std.specs.Prelude.{◌≡◌, false, IfSome, Ok};
-ghost use Rattle.std.specs.List.{list_any};
+ghost use Rattle.std.specs.Prelude.{◌≡◌, IfSome, Ok};
 ghost use Rattle.stab_lines.specs.Results.{Gives, each};
-ghost use Rattle.stab_lines.specs.Lines.{is_brace};
 ghost use Rattle.stab_lines.specs.Words.{words, arguments_of};
 ghost use Rattle.stab_lines.specs.Targets.{lookback_of};
-ghost use Rattle.stab_line_reader.specs.inner.DetectorContents.{behind_coordinates};
+ghost use Rattle.stab_line_reader.specs.inner.Parts.{after_coordinates};
 
 use crate::target::{lookbacks, record_at_front};
 use stab_io::Refusal;
@@ -17,7 +15,7 @@ pub fn detector_targets(
     written: &[u8],
     words_text: &[u8],
 ) -> Result<DetectorTargets, Refusal>
-    ensures gives { Gives result (behind_coordinates written.now (each lookback_of (words words_text.now))) }
+    ensures gives { Gives result (after_coordinates written.now (each lookback_of (words words_text.now))) }
 {
     match short_records(written, words_text) {
         Some(targets) => Ok(targets),
@@ -26,12 +24,12 @@ pub fn detector_targets(
 }
 
 /// The same, in memory of their own.
-pub fn long_records(
+fn long_records(
     alloc: Global,
     written: &[u8],
     words_text: &[u8],
 ) -> Result<DetectorTargets, Refusal>
-    ensures gives { Gives result (behind_coordinates written.now (each lookback_of (words words_text.now))) }
+    ensures gives { Gives result (after_coordinates written.now (each lookback_of (words words_text.now))) }
 {
     let records = lookbacks(alloc, words_text)?;
     let coordinates = Coordinates::of(alloc, written)?;
@@ -39,11 +37,10 @@ pub fn long_records(
 }
 
 /// The same in place, if the coordinates and the records are few and a look at the words' bytes
-/// is enough to see it. There is no brace among such words.
-pub fn short_records(written: &[u8], words_text: &[u8]) -> Option<DetectorTargets>
+/// is enough to see it.
+fn short_records(written: &[u8], words_text: &[u8]) -> Option<DetectorTargets>
     ensures in_front { IfSome result (λ d. d.0 ≡ arguments_of written.now) }
-    ensures behind { IfSome result (λ d. each lookback_of (words words_text.now) ≡ Ok d.1) }
-    ensures clear { IfSome result (λ _. list_any is_brace words_text.now ≡ false) }
+    ensures after { IfSome result (λ d. each lookback_of (words words_text.now) ≡ Ok d.1) }
 {
     if written.len() > SHORT_COORDINATES {
         return None;

@@ -6,8 +6,7 @@
 //! - `line`: what is left of a line, and its shape.
 //! - `word`: words between spacing, and decimal numbers.
 //! - `target`, `argument`: the parts of an instruction.
-//! - `detector`: the records of a detector; `detector_content`, `detector_line`: the usual content of one and its
-//!   usual line, read at once.
+//! - `detector`: the records of a detector.
 //! - `spaced_target`, `plain_line`: targets that are numbers alone, and the line of an instruction on
 //!   such targets, read at once.
 //! - `factor`, `control`: the targets that are products, and those of controlled gates.
@@ -23,8 +22,6 @@
 mod argument;
 mod control;
 mod detector;
-mod detector_content;
-mod detector_line;
 mod factor;
 mod line;
 mod meanings;
@@ -33,7 +30,6 @@ mod spaced_target;
 mod target;
 mod word;
 
-pub use detector_line::detector_in_front;
 pub use factor::read_product;
 pub use line::{content, ends_with, starts_with};
 pub use meanings::{is_close, meaning};

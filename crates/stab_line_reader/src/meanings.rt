@@ -10,7 +10,6 @@ ghost use Rattle.stab_lines.specs.Meanings.{without_arguments, targets_alone as 
 use crate::argument::{are_coordinates, coordinates, observable, only_number};
 use crate::control::controlled_pairs;
 use crate::detector::detector_targets;
-use crate::detector_content::plain_detector;
 use crate::factor::ProductTargets;
 use crate::line::{Shape, starts_with};
 use crate::target::{
@@ -44,7 +43,7 @@ fn pairs_alone(alloc: Global, shape: &Shape) -> Result<Sequence<ControlledPair>,
     }
 }
 
-#[tactic(auto, using(crate::proofs::DetectorContentLemmas::detector_kind, crate::proofs::DetectorContentLemmas::detector_refused))]
+#[tactic(auto, using(crate::proofs::DetectorLemmas::detector_kind, crate::proofs::DetectorLemmas::detector_refused))]
 fn detector(alloc: Global, shape: &Shape) -> Result<Kind, Refusal>
     ensures gives { Gives result (kind_of Detector (shape_shown shape.now)) }
 {
@@ -172,12 +171,6 @@ pub fn meaning(alloc: Global, content: &[u8]) -> Result<Line, Refusal>
     }
     if is_close(content) {
         return Ok(Line::Close);
-    }
-    if let Some(targets) = plain_detector(alloc, content)? {
-        return Ok(Line::Operation(Operation {
-            kind: Kind::Detector(targets),
-            tag: Sequence::new(alloc),
-        }));
     }
     let shape = Shape::of(content)?;
     let name = Name::of(shape.name)?;

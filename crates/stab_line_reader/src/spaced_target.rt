@@ -1,12 +1,12 @@
 ghost use Rattle.std.specs.Prelude.{◌≡◌, ◌<◌, false, ℕ, List, [], ◌∷◌, length, Result, MatchOption};
+ghost use Rattle.std.specs.Option.{option_copied};
 ghost use Rattle.stab_io.specs.declared.refusal.Refusal.{Refusal};
 ghost use Rattle.stab_lines.specs.Results.{each};
 ghost use Rattle.stab_lines.specs.Targets.{qubit_of, measure_target_of};
 ghost use Rattle.stab_lines.specs.declared.control.ControlledPair.TheVariants.{Qubits};
 ghost use Rattle.stab_lines.specs.Controls.{controlled_of};
-ghost use Rattle.stab_line_reader.specs.inner.PlainLines.{paired_words, IsSpacedQubit, IsSpacedPair, AreSpacedTargets, TellsTargets};
+ghost use Rattle.stab_line_reader.specs.inner.PlainLines.{paired_words, EndsLine, IsSpacedQubit, IsSpacedPair, AreSpacedTargets, TellsTargets};
 
-use crate::detector_line::behind_line_end;
 use crate::line::starts_with;
 use crate::target::{MOST_QUBITS, MeasureTargets, QubitTargets};
 use crate::word::few_digits_in_front;
@@ -140,6 +140,17 @@ impl SpacedTarget for ControlledTargets {
     }
 }
 
+/// The lines after the end of a line, if it ends here and there are any.
+fn after_line_end(bytes: &[u8]) -> Option<Option<&[u8]>>
+    ensures value { MatchOption result (Unit {0}) (λ after. EndsLine bytes.now (option_copied after)) }
+{
+    match bytes.first() {
+        None => Some(None),
+        Some(first) if *first == b'\n' => Some(Some(bytes.split_at(1).1)),
+        Some(_) => None,
+    }
+}
+
 /// The targets up to the end of the line, and the lines after it, if there are any. They are read if they are
 /// written as numbers of few digits, with one space before each.
 pub fn targets_in_front<T: SpacedTarget>(
@@ -154,7 +165,7 @@ pub fn targets_in_front<T: SpacedTarget>(
         found.push(target)?;
         rest = after;
     }
-    match behind_line_end(rest) {
+    match after_line_end(rest) {
         Some(after) => Ok(Some((Sequence::of(found), after))),
         None => Ok(None),
     }

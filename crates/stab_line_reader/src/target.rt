@@ -1,6 +1,4 @@
 ghost use Rattle.std.specs.Prelude.{◌≡◌, ℕ, List, ◌≤◌, ◌<◌, length, Result, IsTrue, MatchOption};
-ghost use Rattle.std.specs.List.{list_any};
-ghost use Rattle.stab_lines.specs.Lines.{is_brace};
 ghost use Rattle.stab_io.specs.declared.refusal.Refusal.{Refusal};
 ghost use Rattle.stab_lines.specs.Results.{Gives, each};
 ghost use Rattle.stab_lines.specs.Words.{words};
@@ -163,11 +161,10 @@ impl Target for RecordTargets {
 }
 
 /// How far back the record of the first word is looked for, and what follows the word, if it is
-/// written as a record in range is. There is no brace in a record.
+/// written as a record in range is.
 pub fn record_at_front(bytes: &[u8]) -> Option<(u32, &[u8])>
     ensures value { MatchOption result (Unit {0}) (λ p. BeginsWithTarget lookback_of bytes.now p.0 p.1.now) }
     ensures shorter { MatchOption result (Unit {0}) (λ p. length p.1.now < length bytes.now) }
-    ensures clear { MatchOption result (Unit {0}) (λ p. list_any is_brace bytes.now ≡ list_any is_brace p.1.now) }
 {
     let bytes = without_spacing_in_front(bytes);
     if !bytes.starts_with(b"rec[-") {

@@ -78,35 +78,9 @@ impl Form {
 }
 
 impl DetectorTargets {
-    ghost use Rattle.std.specs.Prelude.{◌≡◌, ◌≤◌, length, take, All, IfOk};
+    ghost use Rattle.std.specs.Prelude.{◌≡◌, ◌≤◌, length, All, IfOk};
     ghost use Rattle.stab_lines.specs.Lookbacks.{IsLookback};
     ghost use Rattle.stab_lines.specs.Words.{arguments_of};
-
-    /// As many of the numbers as are given, from the first on, after coordinates, which are as many of the bytes as are given.
-    /// More bytes than these are copied, since a copy of a fixed number takes no call.
-    pub fn in_place(
-        bytes: &[u8],
-        len: usize,
-        count: usize,
-        records: [u32; FEW_RECORDS],
-    ) -> DetectorTargets
-        requires long { 13 ≤ length bytes.now }
-        requires short { len ≤ 13 }
-        requires few { count ≤ 2 }
-        requires each { All IsLookback (take count records) }
-        ensures value { result ≡ (arguments_of (take len bytes.now), take count records) }
-    {
-        let mut text = [0; SHORT_COORDINATES];
-        text.copy_from_slice(bytes.split_at(SHORT_COORDINATES).0);
-        DetectorTargets {
-            form: Form::Short {
-                bytes: len as u8,
-                numbers: count as u8,
-                text,
-                records,
-            },
-        }
-    }
 
     /// Few records after coordinates that are written with few bytes, which take no memory.
     pub fn few(written: &[u8], records: &[u32]) -> DetectorTargets

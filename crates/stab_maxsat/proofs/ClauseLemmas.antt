@@ -45,9 +45,6 @@ met-sums a (s ∷ ss) met =
     (four (a s.left) (a s.right) (a s.both) parts.0, met-sums a ss parts.1)
 
 -- the variables of parities, one after another
-pub variables-zero : (ps : List ℕ) → variables_of (zero ∷ ps) ≡ variables_of ps
-variables-zero ps = refl
-
 pub variables-more : (v : ℕ) (ps : List ℕ) → variables_of (suc v ∷ ps) ≡ suc v ∷ variables_of ps
 variables-more v ps = ap (λ t. cond t (suc v ∷ variables_of ps) (variables_of ps)) (lt-ltb 0 (suc v) (omega arith))
 

@@ -53,9 +53,6 @@ parities-more rows r v s p s' p' is are adds a sums i =
     adds.added a sums i ∙ ap (λ b. b ⊕ (a v && odd i r)) (are a (adds.kept a sums) i)
     ∙ ap (λ w. flipped_by a 1 rows i ⊕ (a w && odd i r)) (is ∙ omega arith) ∙ sym (flipped-append a 1 rows r i)
 
-pub parities-none : AreParities [] [] []
-parities-none a sums i = refl
-
 -- what is added at one number, by the variable that is put there
 pub adds-one : (v n w : ℕ) (s s' : List Sum) (p q : List ℕ) → n < length q → ((i : ℕ) → parity q i ≡ parity p i) → ((a : ℕ → Bool) → AreSums a s' → AreSums a s)
     → ((a : ℕ → Bool) → AreSums a s' → value a w ≡ value a (parity p n) ⊕ a v) → Adds v (n ∷ []) s p s' (set q n w)
@@ -71,12 +68,6 @@ adds-one v n w s s' p q less same kept sum = record {
     at a are i (inr other) =
         ap (value a) (get_or-set_other q n i w 0 other ∙ same i)
         ∙ sym (ap (λ b. value a (parity p i) ⊕ (a v && (b ⊕ false))) (ne_eqb n i (λ e. other (sym e))) ∙ ap (λ b. value a (parity p i) ⊕ b) (and-false (a v)) ∙ parity-false (value a (parity p i)))
-
--- the first error that flips a number: its own variable is put there
-pub adds-first : (v n : ℕ) (s : List Sum) (p q : List ℕ) → 0 < v → n < length q → ((i : ℕ) → parity q i ≡ parity p i) → parity q n ≡ 0 → Adds v (n ∷ []) s p s (set q n v)
-adds-first v n s p q positive less same none =
-    adds-one v n v s s p q less same (λ a are. are)
-    (λ a are. value-there a v positive ∙ sym (ap (λ x. value a x ⊕ a v) (sym (same n) ∙ none)))
 
 -- another error that flips it: a sum is put there
 pub adds-sum : (v n : ℕ) (s : List Sum) (p q : List ℕ) (new : Sum) → n < length q → ((i : ℕ) → parity q i ≡ parity p i) → 0 < new.left → 0 < new.both → new.left ≡ parity q n → new.right ≡ v

@@ -99,15 +99,15 @@ pub use Rattle.stab_recording.specs.Samplers.{SamplerState}
 pub use Rattle.stab_recording.specs.Spacing.{Near, last_of}
 pub use Rattle.stab_recording.specs.declared.checkpoint.Checkpoint.{Checkpoint}
 pub use Rattle.stab_recording.specs.declared.checkpoint.Meeting.{Meeting}
-pub use Rattle.stab_recording.specs.declared.earlier.Earlier.{Earlier}
-pub use Rattle.stab_recording.specs.declared.folding_again.Segment.{Segment}
+pub use Rattle.stab_recording.specs.declared.recurrence.Earlier.{Earlier}
+pub use Rattle.stab_recording.specs.declared.loop_folding.Segment.{Segment}
 pub use Rattle.stab_recording.specs.declared.replay.Arrival.{Arrival}
 pub use Rattle.stab_recording.specs.declared.replay.Arrival.TheVariants.{Between, Behind, Met}
 pub use Rattle.stab_recording.specs.declared.replay.End.TheVariants.{Last, Joined}
 pub use Rattle.stab_recording.specs.declared.replay.Plan.{Plan}
 pub use Rattle.stab_recording.specs.declared.replay.Replay.{Replay}
 pub use Rattle.stab_recording.specs.declared.rest_frame.RestFrame.{RestFrame}
-pub use Rattle.stab_recording.specs.declared.whole.Shot.{Shot}
+pub use Rattle.stab_recording.specs.declared.whole_run.Shot.{Shot}
 pub use Rattle.stab_recording.specs.inner.Advanced.{behind_rounds}
 pub use Rattle.stab_recording.specs.inner.Arrivals.{IsArrival}
 pub use Rattle.stab_recording.specs.inner.FoldedReplays.{IsRoundsBehind, IsAlike, MayComeAgain, IsFolding, IsSegment, HasCopied, MayGoOver, HasFramed, HasStringsAgain, with_folded, IsAsAt, DiffersFrom, IsOfOwn, StandsAs, IsFound, IsEndIn, HasGone}

@@ -1,4 +1,4 @@
--- Turned groups: what letters turn that turn the one of two groups which are the same.
+-- Conjugated groups: letters that conjugate one of two groups that are the same conjugate the other.
 use Rattle.stab_recording.proofs.Names.{ℕ, sym, ◌∙◌, Bool, List, Letter, Signed, with_sign, strings_anticommute, SameGroup, IsConjugated}
 
 -- letters that turn the one of two groups that are the same turn the other

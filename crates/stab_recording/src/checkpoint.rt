@@ -51,7 +51,7 @@ fn lengths_moved(lengths: Lengths, old: Lengths, new: Lengths) -> Lengths
 }
 
 impl Checkpoint {
-    /// The copy moved with the one at a meeting.
+    /// The checkpoint moved with the one at a meeting.
     fn moved(self, meeting: Meeting) -> Checkpoint
         ensures value { result ≡ moved_copy meeting self }
     {
@@ -68,7 +68,7 @@ impl Checkpoint {
     }
 }
 
-/// How many of the first copies are before a step.
+/// How many of the first checkpoints are before a step.
 pub fn count_before(copies: &[Checkpoint], step: usize) -> usize
     ensures within { result ≤ length copies.now }
     ensures before { All (λ c. c.step < step) (take result copies.now) }
@@ -81,7 +81,7 @@ pub fn count_before(copies: &[Checkpoint], step: usize) -> usize
     count
 }
 
-/// Puts a copy after others, in place of the last if that is no longer needed. It takes no
+/// Puts a checkpoint after others, in place of the last if that is no longer needed. It takes no
 /// memory.
 fn lay(copies: &mut Vec<Checkpoint>, copy: Checkpoint, stride: usize)
     requires room { length copies.old.items < vec_capacity copies.old }
@@ -95,7 +95,7 @@ fn lay(copies: &mut Vec<Checkpoint>, copy: Checkpoint, stride: usize)
     copies.push_reserved(copy);
 }
 
-/// Puts copies after others, the last of them first. It takes no memory.
+/// Puts checkpoints after others, the last of them first. It takes no memory.
 pub fn lay_all(copies: &mut Vec<Checkpoint>, others: &mut Vec<Checkpoint>, stride: usize)
     requires room { length copies.old.items + length others.old.items ≤ vec_capacity copies.old }
     ensures value { copies.new.items ≡ all_laid stride (reverse others.old.items) copies.old.items }
@@ -107,7 +107,7 @@ pub fn lay_all(copies: &mut Vec<Checkpoint>, others: &mut Vec<Checkpoint>, strid
     }
 }
 
-/// Takes the copies from this place on, the last first, and moves them with the one at a meeting. It
+/// Takes the checkpoints from this place on, the last first, and moves them with the one at a meeting. It
 /// takes no memory.
 pub fn take_moved(
     copies: &mut Vec<Checkpoint>,

@@ -13,8 +13,8 @@ use stab_run::Outputs;
 use stab_tableau::Tableau;
 use std::alloc::Global;
 
-/// How many of the newest records are compared where a frame begins that leads a run, which gave this much, from a copy on; none
-/// if it can't begin. This many records are those of the copy's run, whose steps look back no further than the lookback window.
+/// How many of the newest records are compared before a frame begins at a checkpoint, in a run that gave this much; none if no frame can
+/// begin there. This many of its records are those of the checkpoint's run, whose steps look back no further than the lookback window.
 fn records_compared(outputs: &Outputs, copy: &Checkpoint, base: usize, window: u32) -> Option<usize>
     requires within { base ≤ length outputs.now.records.items }
     ensures compared { IfSome result (AreCompared (output_of outputs.now) base window copy.now) }

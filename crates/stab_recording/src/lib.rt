@@ -1,22 +1,22 @@
-//! Recorded runs: checkpoints on the way, rounds that are given again, and frames over what is left of a run.
+//! Recorded runs: checkpoints on the way, rounds that are repeated, and frames over what is left of a run.
 //!
-//! In the order in which data flows; each module uses only those before it, except that `rest_frame`, `moved`, `laying`, `rhythm`,
-//! `earlier`, `folding_again` and `runs` add calls to the replay of `replay`:
+//! In the order in which data flows; each module uses only those before it, except that `rest_frame`, `differing_checkpoints`,
+//! `new_checkpoints`, `checkpoint_places`, `recurrence`, `loop_folding` and `runs` add calls to the replay of `replay`:
 //!
 //! - `recorded_steps`: steps that a run carries out, with pivots of its random outcomes.
 //! - `propagate`: steps on the way of a frame, until all are past, the frame is gone, or a string is missing.
 //! - `other_coins`: steps on its way from a run to one that has other coins there.
 //! - `checkpoint`: checkpoints, which are copies of the state before a step; when they are kept, and how they move.
 //! - `meeting`: whether another run agrees with a checkpoint, or a run with one of its own again.
-//! - `folding`: what a run gave, given again.
+//! - `repeated_output`: what a run gave, appended again.
 //! - `frames_between`: the frame by which a run differs from a checkpoint.
-//! - `framed_copies`: what a run gave, given again as a frame changes it.
+//! - `propagated_output`: what a run gave, repeated as a frame changes it.
 //! - `states`, `rest_of_run`: states that a frame changes, and a frame over the rest of a run.
-//! - `rest_frame`, `moved`, `laying`, `rhythm`, `earlier`, `folding_again`, `replay`: a run from a checkpoint on, up to a
-//!   checkpoint of an older run at which they agree, or from which a frame goes on; where its checkpoints are, and
+//! - `rest_frame`, `differing_checkpoints`, `new_checkpoints`, `checkpoint_places`, `recurrence`, `loop_folding`, `replay`: a run from a
+//!   checkpoint on, up to a checkpoint of an older run at which they agree, or from which a frame goes on; where its checkpoints are; and
 //!   loop folding: rounds of a block that come again in it, exactly or up to a frame.
-//! - `together`, `runs`: which rounds of blocks are looked at; runs, which are replays of all steps with no older run.
-//! - `whole`, `with_pivots`, `sampler`: what a run gives; the same with a pivot for each random outcome; one circuit made ready for
+//! - `round_grouping`, `runs`: which rounds of blocks are looked at; runs, which are replays of all steps with no older run.
+//! - `whole_run`, `with_pivots`, `sampler`: what a run gives; the same with a pivot for each random outcome; one circuit made ready for
 //!   many runs.
 //!
 //! Coins, one step and the laws of runs are `stab_run`'s, frames `stab_frames`'. What is recorded of a circuit, and how it follows
@@ -38,41 +38,41 @@
 #![tactic(auto)]
 
 mod checkpoint;
-mod earlier;
-mod folding;
-mod folding_again;
-mod framed_copies;
+mod checkpoint_places;
+mod differing_checkpoints;
 mod frames_between;
-mod laying;
+mod loop_folding;
 mod meeting;
-mod moved;
+mod new_checkpoints;
 mod other_coins;
 mod propagate;
+mod propagated_output;
 mod recorded_steps;
+mod recurrence;
+mod repeated_output;
 mod replay;
 mod rest_frame;
 mod rest_of_run;
-mod rhythm;
+mod round_grouping;
 mod runs;
 mod sampler;
 mod states;
-mod together;
-mod whole;
+mod whole_run;
 mod with_pivots;
 
 pub use checkpoint::{Checkpoint, Meeting, count_before, lay_all, shifted, take_moved};
-pub use folding::{give_again, part_between};
-pub use framed_copies::{append_framed, lengths_propagated, pivot_again};
 pub use frames_between::frame_between;
 pub use meeting::{are_fixed, comes_again, has_one, may_have_coin, meets};
 pub use other_coins::propagate_with_coins;
 pub use propagate::{Propagated, Stop, propagate_steps};
+pub use propagated_output::{append_framed, lengths_propagated, pivot_again};
 pub use recorded_steps::run_recording_pivots;
+pub use repeated_output::{give_again, part_between};
 pub use replay::{End, Plan, Replay};
 pub use rest_frame::RestFrame;
 pub use rest_of_run::propagate_rest;
+pub use round_grouping::{MOST_SINGLE, is_long, taken_together};
 pub use sampler::{Sampler, run_once};
 pub use states::{apply_frame, framed_checkpoint};
-pub use together::{MOST_SINGLE, is_long, taken_together};
-pub use whole::Shot;
+pub use whole_run::Shot;
 pub use with_pivots::{RunWithPivots, run_with_pivots};

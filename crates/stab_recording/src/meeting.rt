@@ -19,9 +19,9 @@ use std::alloc::Global;
 /// as this one would. That one gave this much in all, and its steps look back no further than the lookback window. What is cheap to compare
 /// comes first.
 ///
-/// If rows have other letters the copy is expanded into the spare tableau if there is one, and is then the spare itself; and
-/// the stabiliser of the state with the number that is given is asked first whether it distinguishes the states. If they are
-/// apart, the number is then that of the one that does.
+/// If rows have other letters the checkpoint is expanded into the spare tableau if there is one, and is then the spare itself; and
+/// the stabiliser of the state with the number that is given is asked first whether it distinguishes the states. If they
+/// differ, the number is then that of one that does.
 ///
 /// Refusal `OutOfMemory` alone.
 pub fn meets(
@@ -70,7 +70,7 @@ pub fn are_fixed(flags: &[bool], count: usize) -> bool
     !has_one(behind)
 }
 
-/// Whether the same strings stabilise a state and a copy, which is expanded into the spare tableau if its rows have other
+/// Whether the same strings stabilise a state and a checkpoint, which is expanded into the spare tableau if its rows have other
 /// letters. The stabiliser with the number that is given is asked first, and the number becomes that of one that distinguishes them.
 ///
 /// Refusal `OutOfMemory` alone.
@@ -98,7 +98,7 @@ fn has_group_of(
     Ok(same)
 }
 
-/// Whether the same strings stabilise a state and a copy, if their rows have the same letters: the states differ by a string,
+/// Whether the same strings stabilise a state and a checkpoint, if their rows have the same letters: the states differ by a string,
 /// which changes nothing if one of its signs stabilises them.
 ///
 /// Refusal `OutOfMemory` alone.
@@ -206,7 +206,7 @@ fn is_shared(
     }
 }
 
-/// Whether the next coin may have this number at a copy, in a run with these flags: it has it there, or no coin decides later.
+/// Whether the next coin may have this number at a checkpoint, in a run with these flags: it has it there, or no coin decides later.
 pub fn may_have_coin(copy: &Checkpoint, free: &[bool], coin: usize) -> bool
     ensures value { IsTrue result ↔ ((coin ≡ copy.now.lengths.free) ⊎ (ones (drop copy.now.lengths.free free.now) ≡ 0)) }
 {

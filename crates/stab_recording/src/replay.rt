@@ -39,7 +39,7 @@ pub struct Replay<'a> {
     pub applied: u64,
     /// How many a frame was propagated over.
     pub framed: u64,
-    /// The copies laid on the way.
+    /// The checkpoints kept on the way.
     pub laid: Vec<Checkpoint>,
 }
 
@@ -52,7 +52,7 @@ pub struct Plan {
     /// The end of what was changed, in the old steps and in the new ones.
     pub old_end: usize,
     pub new_end: usize,
-    /// The first old copy that may be met.
+    /// The first old checkpoint that may be met.
     pub next: usize,
     /// This many records are those of the old run.
     pub base: usize,
@@ -65,19 +65,19 @@ pub struct Plan {
 pub enum End {
     /// After the last step.
     Last,
-    /// At the old copy with this number, from which on the old run went on as the new one would.
+    /// At the old checkpoint with this number, from which on the old run went on as the new one would.
     Joined(usize),
-    /// At the old copy where a frame begins that was propagated over the rest of the old run.
+    /// At the old checkpoint where a frame begins that was propagated over the rest of the old run.
     Framed(RestFrame),
 }
 
 /// What a replay comes to where it stops.
 enum Arrival {
-    /// The old copy that might be met next, and it meets it.
+    /// The old checkpoint that might be met next, and it meets it.
     Met,
     /// The end: it is after the last step.
     Behind,
-    /// Neither, and the old copy with this number may be met next.
+    /// Neither, and the old checkpoint with this number may be met next.
     Between(usize),
 }
 
@@ -86,7 +86,7 @@ impl Plan {
     ghost use Rattle.std.specs.Option.{option_map};
     ghost use Rattle.stab_recording.specs.Replays.{step_among_new, spacing_of, next_stop};
 
-    /// Where the old copy with a number is among the new steps, if there is one.
+    /// Where the old checkpoint with a number is among the new steps, if there is one.
     pub(crate) fn place(self, copies: &[Checkpoint], number: usize) -> Option<usize>
         ensures value { result ≡ option_map (step_among_new self) (slice_get copies.now number) }
     {
@@ -96,7 +96,7 @@ impl Plan {
         }
     }
 
-    /// How far apart a replay lays copies at least.
+    /// How far apart a replay keeps checkpoints at least.
     pub(crate) fn spacing(self) -> usize
         requires stride { 1 ≤ self.stride }
         ensures value { result ≡ spacing_of self.stride }
@@ -106,7 +106,7 @@ impl Plan {
         self.stride - self.stride / 4
     }
 
-    /// Whether rounds come after what was changed, in which a replay may stand as it stood before.
+    /// Whether rounds come after what was changed, in which a replay may come to a state again.
     fn has_rounds_ahead(self, repeats: &[Repeat]) -> bool {
         for repeat in repeats {
             let steps = repeat.rounds.saturating_mul(repeat.length);
@@ -117,7 +117,7 @@ impl Plan {
         false
     }
 
-    /// Where a replay that is at a step stops next, before the place of an old copy or at it.
+    /// Where a replay that is at a step stops next, before the place of an old checkpoint or at it.
     pub(crate) fn stop(self, step: usize, place: Option<usize>) -> usize
         requires stride { 1 ≤ self.stride }
         requires within { step ≤ self.total }
@@ -190,7 +190,7 @@ impl<'a> Replay<'a> {
         Ok(())
     }
 
-    /// What the replay comes to at its step, if this old copy may be met next.
+    /// What the replay comes to at its step, if this old checkpoint may be met next.
     ///
     /// Refusal `OutOfMemory` alone.
     fn arrive(
@@ -230,7 +230,7 @@ impl<'a> Replay<'a> {
         }
     }
 
-    /// Carries out steps up to the next stop. Says which old copy may be met next.
+    /// Carries out steps up to the next stop. Says which old checkpoint may be met next.
     ///
     /// Refusal `OutOfMemory` alone.
     fn advance<C: Coins>(
@@ -273,10 +273,10 @@ impl<'a> Replay<'a> {
         Ok(next)
     }
 
-    /// Carries out steps until the replay meets an old copy, or a frame goes from one over the rest of the old run, or it is after the
-    /// last step, and lays copies on the way: one for each spacing, and one for each old copy that it passes, at most. In repeats of the
-    /// circuit's steps it gives again what it gave if it is as it was rounds before. The steps of a frame that went over the rest in vain
-    /// are counted.
+    /// Carries out steps until the replay meets an old checkpoint, or a frame goes from one over the rest of the old run, or it is
+    /// after the last step, and keeps checkpoints on the way: one for each spacing, and one for each old checkpoint that it passes,
+    /// at most. In repeats of the circuit's steps it repeats what it gave if it is as it was rounds before. The steps of a frame
+    /// that went over the rest in vain are counted.
     pub fn follow<C: Coins>(
         &mut self,
         alloc: Global,
@@ -323,9 +323,9 @@ impl<'a> Replay<'a> {
         ensures err { IfErr result (λ r. r ≡ OutOfMemory) }
     {
         let mut next = plan.next;
-        // The stabiliser that distinguished the state from a copy last, which most likely distinguishes it from the next one too.
+        // The stabiliser that distinguished the state from a checkpoint last, which most likely distinguishes it from the next one too.
         let mut telling = 0;
-        // What copies are expanded into, so that memory for it is asked for once at most.
+        // What checkpoints are expanded into, so that memory for it is asked for once at most.
         let mut spare: Option<Tableau> = None;
         // Whether frames are propagated, which is so until a string is missing for one. Where rounds lie ahead a state comes again
         // in less time.

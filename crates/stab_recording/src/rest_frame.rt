@@ -21,21 +21,21 @@ use stab_run::Outputs;
 use stab_tableau::{CompactTableau, Tableau};
 use std::alloc::Global;
 
-/// A frame that was propagated over the rest of an old run, from the place of one of its copies on.
+/// A frame that was propagated over the rest of an old run, from the place of one of its checkpoints on.
 #[derive(Drop)]
 pub struct RestFrame {
-    /// The number of that copy.
+    /// The number of that checkpoint.
     pub number: usize,
     /// Of this many records before that place it says whether they differ.
     pub compared: usize,
     /// The frame, with what it flipped since.
     pub propagation: Propagation,
-    /// The copies from that one on, conjugated, as far as it was propagated.
+    /// The checkpoints from that one on, conjugated, as far as it was propagated.
     pub conjugated: Vec<CompactTableau>,
 }
 
 impl<'a> Replay<'a> {
-    /// The frame by which the replay differs from the old copy with a number, if it is at the place of that and differs by one, and the
+    /// The frame by which the replay differs from the old checkpoint with a number, if it is at the place of that and differs by one, and the
     /// next coin has the same number.
     ///
     /// Refusal `OutOfMemory` alone.
@@ -77,9 +77,9 @@ impl<'a> Replay<'a> {
         Ok(found)
     }
 
-    /// Propagates a frame that begins at the old copy with a number, at whose place the replay is, over the rest of the old run. `None` if a
-    /// string is missing; the steps that it passed in vain are then counted. Copies are looked at in the memory of a spare tableau if there
-    /// is one.
+    /// Propagates a frame that begins at the old checkpoint with a number, at whose place the replay is, over the rest of the old
+    /// run. `None` if a string is missing; the steps that it passed in vain are then counted. Checkpoints are looked at in the
+    /// memory of a spare tableau if there is one.
     ///
     /// Refusal `OutOfMemory` alone.
     fn lead(
@@ -140,8 +140,9 @@ impl<'a> Replay<'a> {
         }))
     }
 
-    /// The frame that is propagated over the rest of the old run from the copy with a number on, if the replay is at its place and there is one.
-    /// If a string is missing for it, the steps that it passed are counted, and no other one is to be propagated.
+    /// The frame that is propagated over the rest of the old run from the checkpoint with a number on, if the replay is at its
+    /// place and there is one. If a string is missing for it, the steps that it passed are counted, and no other one is to be
+    /// propagated.
     ///
     /// Refusal `OutOfMemory` alone.
     pub(crate) fn frame_rest(

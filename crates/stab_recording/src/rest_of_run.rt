@@ -23,10 +23,10 @@ use std::alloc::Global;
 const MOST_TOGETHER: usize = usize::MAX;
 
 /// Propagates a frame over the steps that a cursor has left, from the place of one step of a run on, past
-/// copies of that run's state in order, until it is gone or after the last step. At each copy that it
-/// comes to it makes that copy, conjugated by the frame. If it flipped no record that later steps look
-/// back to, and its letters stabilise the copy with one of their signs, it flips no sign from there on,
-/// and ends; the copy is looked at in the memory of a spare tableau if there is one.
+/// checkpoints of that run's state in order, until it is gone or after the last step. At each checkpoint that it
+/// comes to it makes a copy of that one, conjugated by the frame. If it flipped no record that later steps look
+/// back to, and its letters stabilise the checkpoint with one of their signs, it flips no sign from there on,
+/// and ends; the checkpoint is looked at in the memory of a spare tableau if there is one.
 ///
 /// False if a string is missing. What it made so far is then irrelevant; the steps that it passed are counted like all others.
 ///
@@ -105,7 +105,7 @@ fn is_quiet(propagation: &Propagation, window: u32) -> bool
 }
 
 /// Makes all letters of a frame I if it flipped none of the newest records, as many as steps look back to, and
-/// its letters stabilise the state of a copy with one of their signs; and says whether that is so. The copy is looked
+/// its letters stabilise the state of a checkpoint with one of their signs; and says whether that is so. The checkpoint is looked
 /// at in the memory of a spare tableau if there is one, which is the spare then.
 ///
 /// Refusal `OutOfMemory` alone.

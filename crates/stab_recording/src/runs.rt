@@ -1,4 +1,4 @@
-//! Runs of all steps of a circuit: replays from the first step on, which lay copies in long blocks alone, while rounds of these are
+//! Runs of all steps of a circuit: replays from the first step on, which keep checkpoints in long blocks alone, while rounds of these are
 //! carried out one by one to see whether they come again.
 
 ghost use Rattle.std.specs.Prelude.{◌≡◌, ℕ, ◌+◌, ◌*◌, ◌≤◌, Bool, [], None, All, length, drop, OnOk, IfOk, IfErr};
@@ -13,10 +13,10 @@ ghost use Rattle.stab_run.specs.Points.{all_coins_of};
 ghost use Rattle.stab_run.specs.ProgramStates.{StepFits};
 ghost use Rattle.stab_recording.specs.inner.Runs.{IsOwnRun};
 
+use crate::checkpoint_places::end_of;
 use crate::meeting::are_fixed;
 use crate::replay::Replay;
-use crate::rhythm::end_of;
-use crate::together::{MOST_SINGLE, is_long, taken_together};
+use crate::round_grouping::{MOST_SINGLE, is_long, taken_together};
 use stab_edits::{Circuit, Cursor, Repeat};
 use stab_frames::{PivotRecorder, Pivots};
 use stab_io::Refusal;
@@ -28,7 +28,7 @@ use std::alloc::Global;
 /// How many rounds a block has at least for a frame to be propagated over some.
 const LEAST_FRAMED: usize = 4;
 
-/// If no coin decided, a run waits this many rounds for a state that comes again with its signs: what is given again then costs
+/// If no coin decided, a run waits this many rounds for a state that comes again with its signs: what is repeated then costs
 /// nothing.
 const MOST_AWAITED: usize = 8;
 
@@ -173,7 +173,7 @@ impl<'a> Replay<'a> {
         Ok(())
     }
 
-    /// Carries out all steps of a circuit. Rounds of long blocks that come again are given again, up to a frame if they come again so.
+    /// Carries out all steps of a circuit. Rounds of long blocks that come again are repeated, up to a frame if they come again so.
     ///
     /// Refusal `OutOfMemory` alone.
     pub fn run_all<C: Coins>(

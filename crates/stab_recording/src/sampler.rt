@@ -8,7 +8,7 @@ ghost use Rattle.stab_run.specs.Runs.{run_of};
 ghost use Rattle.stab_run.specs.Points.{all_coins_of};
 ghost use Rattle.stab_run.specs.Laws.{DependsOnCoinsAt};
 
-use crate::whole::{Shot, run_whole};
+use crate::whole_run::{Shot, run_whole};
 use stab_edits::{Circuit, Repeat};
 use stab_io::{Fault, Refusal};
 use stab_rounds::find_rounds;
@@ -136,6 +136,7 @@ impl<'a> Sampler<'a> {
     pub fn runs_are_sound(&self)
         ensures law { (coins : ℕ → Bool) → IsSoundRun self.now.qubits coins self.now.items }
     {
+        // A circuit's invariant, which a proof sees at a use, says that its steps fit.
         let _ = &self.circuit;
     }
 }

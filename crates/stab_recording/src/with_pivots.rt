@@ -8,7 +8,7 @@ ghost use Rattle.stab_edits.specs.Views.{circuit_items};
 ghost use Rattle.stab_recording.specs.RunsWithPivots.{IsRunWithPivots};
 
 use crate::replay::Replay;
-use crate::whole::{Shot, shot_of};
+use crate::whole_run::{Shot, shot_of};
 use stab_edits::Circuit;
 use stab_frames::{PivotRecorder, Pivots};
 use stab_io::Refusal;
@@ -26,7 +26,7 @@ pub struct RunWithPivots {
 }
 
 /// Runs a circuit that nothing refuses once on n qubits, as `run_once` does, and keeps a string for each random outcome, at most
-/// 16 MiB of them. Rounds that come again are given again, and so are their strings, which take a pointer each then.
+/// 16 MiB of them. Rounds that come again are repeated, and so are their strings, which take a pointer each then.
 ///
 /// Refusal `OutOfMemory` alone.
 pub fn run_with_pivots<C: Coins>(

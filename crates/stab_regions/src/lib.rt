@@ -4,7 +4,7 @@
 //! - `laws`, `fault_laws`: what regions say of the bits that runs give.
 //! - `parities`: some parities by their numbers, and those that are in one of two lists alone.
 //! - `rows`: for each qubit the parities that X flips there, and those that Z does.
-//! - `looks`: for each lookback the parities whose regions have that record.
+//! - `lookbacks`: for each lookback the parities whose regions have that record.
 //! - `gates`, `steps`, `products`: how these rows change from after a step to before it.
 //! - `marks`, `regions`: all of this for one place, moved a step backwards.
 //! - `sites`, `fault_rows`: where faults are asked for at a step, and what each of them flips.
@@ -29,7 +29,7 @@ mod fault_rows;
 mod fault_table;
 mod gates;
 pub mod laws;
-mod looks;
+mod lookbacks;
 mod marks;
 mod parities;
 mod products;

@@ -6,7 +6,7 @@ ghost use Rattle.stab_run.specs.Runs.{string_of};
 ghost use Rattle.stab_regions.specs.Regions.{times_where};
 ghost use Rattle.stab_regions.specs.Rows.{odd, ShowsLetters, MovesLetters, MovesRegion};
 
-use crate::looks::newest;
+use crate::lookbacks::newest;
 use crate::parities::Parities;
 use crate::rows::{flipped, multiply};
 use stab_lines::Factor;

@@ -3,7 +3,7 @@ ghost use Rattle.std.specs.List.{list_any};
 ghost use Rattle.stab_regions.specs.Rows.{odd};
 
 use crate::gates::{before_gate, before_pair};
-use crate::looks::look_each;
+use crate::lookbacks::look_each;
 use crate::marks::{invert, mark};
 use crate::parities::Parities;
 use crate::products::{before_product, flipped_by_product};

@@ -3,7 +3,7 @@ ghost use Rattle.stab_items.specs.Steps.{controlled, collapse};
 ghost use Rattle.stab_run.specs.Runs.{flip_of};
 ghost use Rattle.stab_regions.specs.Rows.{odd, row, bits_at, MovesRegion};
 
-use crate::looks::{look_back, newest};
+use crate::lookbacks::{look_back, newest};
 use crate::parities::Parities;
 use crate::rows::{flipped, multiply};
 use stab_pauli::Letter;

@@ -242,6 +242,7 @@ pub fn sweep_back(
     ensures fits { OnOk result (All (StepFits qubits) (unroll (circuit_items circuit.now))) }
     ensures err { IfErr result (λ r. r ≡ OutOfMemory) }
 {
+    // This shows a proof that the qubits of each pair differ.
     let _ = circuit.items();
     let detectors = circuit.detectors();
     check_few(detectors, circuit.observables())?;

@@ -33,13 +33,4 @@ pub drop-empty : (k : ℕ) (xs : List Step) → xs ≡ [] → drop k xs ≡ []
 drop-empty zero xs e = e
 drop-empty (suc k) xs e = ap (drop (suc k)) e
 
-take-whole : (k : ℕ) (xs : List Step) → length xs ≤ k → take k xs ≡ xs
-take-whole zero [] l = refl
-take-whole (suc k) [] l = refl
-take-whole zero (x ∷ xs) l = absurd (omega arith)
-take-whole (suc k) (x ∷ xs) l = ap (λ t. x ∷ t) (take-whole k xs (omega arith))
-
 -- all steps, if as many are to be carried out as are left
-
-pub take-all : (from count : ℕ) (all : List Step) → length all ≤ from + count → take (from + count) all ≡ all
-take-all from count all enough = take-whole (from + count) all enough

@@ -45,7 +45,7 @@ pub(crate) fn alone(rest: &[u8], request: FramedRequest) -> Option<FramedRequest
 }
 
 /// The number of a round that a word stands for.
-fn read_round(word: &[u8]) -> Option<u64>
+pub fn read_round(word: &[u8]) -> Option<u64>
     ensures value { result ≡ round_of word.now }
 {
     match place_number(word) {

@@ -42,8 +42,9 @@ mod watcher;
 
 pub use changes::{MarkedBits, push_changes};
 pub use editor::{Answer, Answered, Editor};
-pub use framed::FramedRequest;
+pub use framed::{FramedRequest, read_round};
 pub use logged_input::{KeepsLog, LoggedInput, LoggedRead};
+pub use place::read_place;
 pub use place_counts::show_place;
 pub use reader::ScriptReader;
 pub use reply::{Reply, SessionNumbers, memory};

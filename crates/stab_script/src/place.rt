@@ -43,7 +43,7 @@ pub(crate) fn place_number(word: &[u8]) -> Option<usize>
 
 /// The place that a word stands for.
 #[tactic(auto, unfolding(crate::specs::ScriptWords::place_of))]
-pub(crate) fn read_place(word: &[u8]) -> Option<Path>
+pub fn read_place(word: &[u8]) -> Option<Path>
     ensures value { MatchOption result (place_of word.now ≡ None) (λ p. place_of word.now ≡ Some p) }
 {
     let mut numbers = [0; MOST_NUMBERS];

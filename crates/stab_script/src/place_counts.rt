@@ -145,6 +145,7 @@ pub fn show_place(alloc: Global, circuit: &Circuit, place: Path) -> Result<Reply
     requires checked { check_of (circuit_items circuit.now) ≡ None }
     ensures shows { GivesText result (text_found (λ x. place_text place (circuit_items circuit.now)) (item_at place circuit.now)) }
 {
+    // A place without an item is refused before anything is counted.
     let _ = circuit.item(place)?;
     let (before, own) = place_counts(alloc, circuit, &place)?;
     memory(Reply::place(alloc, before, own))

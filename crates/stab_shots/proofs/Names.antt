@@ -39,7 +39,7 @@ pub use Rattle.stab_pauli.specs.Paulis.{Signed, single, strings_anticommute}
 pub use Rattle.stab_recording.proofs.AdvancedLemmas.{coins-on}
 pub use Rattle.stab_recording.proofs.AgainLemmas.{more-rounds, behind-later, repeat-here, repeats-behind, behind-more}
 pub use Rattle.stab_recording.specs.RunsWithPivots.{IsRunWithPivots}
-pub use Rattle.stab_recording.specs.declared.whole.Shot.{Shot}
+pub use Rattle.stab_recording.specs.declared.whole_run.Shot.{Shot}
 pub use Rattle.stab_recording.specs.inner.Advanced.{behind_rounds}
 pub use Rattle.stab_run.proofs.CoinLemmas.{coins-append, coins-are, coins-steps}
 pub use Rattle.stab_run.proofs.FitLemmas.{check-fits, check-steps, check-whole, counted-steps}

@@ -2,7 +2,7 @@
 -- Source: this project's own.
 use Rattle.std.specs.Prelude.{◌≡◌, ℕ, ◌<◌, Bool, false, List, length, replicate, slice_index_or}
 use Rattle.stab_items.specs.Items.{Items}
-use Rattle.stab_recording.specs.declared.whole.Shot.{Shot}
+use Rattle.stab_recording.specs.declared.whole_run.Shot.{Shot}
 use Rattle.stab_run.specs.Points.{RunOutput, with_additions}
 use Rattle.stab_run.specs.Runs.{run_of}
 use Rattle.stab_frames.specs.Flips.{flipped}

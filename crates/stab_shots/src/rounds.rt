@@ -11,8 +11,8 @@ ghost use Rattle.stab_lanes.specs.RecordedPivots.{HasAll};
 ghost use Rattle.stab_shots.specs.LaneCheckpoints.{IsCheckpoint, GoOn, StaysKept};
 ghost use Rattle.stab_lanes.specs.Differences.{ArePropagated};
 
-use crate::again::flip_again;
 use crate::checkpoints::{LaneCheckpoint, are_deterministic, comes_again};
+use crate::repeated_flips::flip_again;
 use stab_edits::{Circuit, Repeat};
 use stab_io::Refusal;
 use stab_lanes::{Draw, Lanes, RecordedPivots, Word, propagate_along};

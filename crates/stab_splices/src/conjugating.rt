@@ -45,7 +45,7 @@ struct PastPlaces {
     from: Lengths,
     /// The frame, with what it flipped from there on.
     propagation: Propagation,
-    /// The copies that are between the places, conjugated, where they are now.
+    /// The checkpoints that are between the places, conjugated, where they are now.
     copies: Vec<Checkpoint>,
 }
 
@@ -54,13 +54,13 @@ struct PastPlaces {
 struct Conjugating {
     /// How long the lists are where the frame begins.
     from: Lengths,
-    /// The copies between the places of the change, conjugated, where they are now.
+    /// The checkpoints between the places of the change, conjugated, where they are now.
     passed: Vec<Checkpoint>,
     /// The run after them, with the frame and what it flipped from where it began.
     rest: OldRest,
 }
 
-/// How many of some copies are before a step, if this many of the first are.
+/// How many of some checkpoints are before a step, if this many of the first are.
 fn count_within(copies: &[Checkpoint], before: usize, step: usize) -> usize
     requires in_range { before ≤ length copies.now }
     ensures order { before ≤ result }
@@ -72,7 +72,7 @@ fn count_within(copies: &[Checkpoint], before: usize, step: usize) -> usize
     before + count_before(behind, step)
 }
 
-/// The last of a step and those of copies, if each is at least the one before, and at most a stride
+/// The last of a step and those of checkpoints, if each is at least the one before, and at most a stride
 /// after it.
 fn last_near(step: usize, copies: &[Checkpoint], stride: usize) -> Option<usize>
     ensures near { IfSome result (λ last. Near stride (step ∷ checkpoint_steps copies.now)) }
@@ -88,7 +88,7 @@ fn last_near(step: usize, copies: &[Checkpoint], stride: usize) -> Option<usize>
     Some(last)
 }
 
-/// Whether the copy with a number, once it has moved with a span after which it is, or the last
+/// Whether the checkpoint with a number, once it has moved with a span after which it is, or the last
 /// step if there is none, is at most a stride from a step that is not after the span.
 fn stays_near(
     step: usize,
@@ -139,8 +139,8 @@ fn framed_between(begin: usize, end: usize) -> Followed
 }
 
 impl Recording {
-    /// Propagates a frame past the places of a change of Pauli gates within a span, from the copy before it on,
-    /// which has the number one less than the one count of copies; those up to the other count are within
+    /// Propagates a frame past the places of a change of Pauli gates within a span, from the checkpoint before it on,
+    /// which has the number one less than the one count of checkpoints; those up to the other count are within
     /// the span. `None` if it can't give the run there. The steps that it passes are counted either way.
     ///
     /// Refusal `OutOfMemory` alone.
@@ -197,7 +197,7 @@ impl Recording {
     }
 
     /// Propagates a frame that went past the places of a change on over the steps after its span, past the
-    /// copies from a number on. `None` if it can't give the run after it. Copies are looked at in the
+    /// checkpoints from a number on. `None` if it can't give the run after it. Checkpoints are looked at in the
     /// memory of a spare tableau if there is one. The steps that it passes are counted either way.
     ///
     /// Refusal `OutOfMemory` alone.
@@ -280,7 +280,7 @@ impl Recording {
 
     /// Makes this the run of an edited circuit, whose steps differ within the span by Pauli gates alone,
     /// as a change says, by conjugating it where it lies. `None`, and nothing has changed, where a frame
-    /// can't give the new run, or a copy must be laid; the steps that it passed are then counted. Copies are looked at
+    /// can't give the new run, or a checkpoint must be kept; the steps that it passed are then counted. Checkpoints are looked at
     /// in the memory of a spare tableau if there is one.
     ///
     /// Refusal `OutOfMemory` alone; then nothing has changed either.
@@ -343,7 +343,7 @@ impl Recording {
 
     /// Makes this the run of an edited circuit, whose steps differ within the span, and says how
     /// many steps were carried out for it, how many others it passed, and how many frames went over in vain. In repeats of its steps
-    /// what rounds gave is given again, if they come again. The run is as before if memory is refused.
+    /// what rounds gave is repeated, if they come again. The run is as before if memory is refused.
     ///
     /// If old and new steps differ by Pauli gates alone, they differ as the given change says. A frame then conjugates
     /// the run in place, and no step is carried out. Else, and if that can't be, steps are carried out anew, in

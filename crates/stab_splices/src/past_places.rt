@@ -92,7 +92,7 @@ fn behind_place(step: usize, place: usize, least: usize, most: usize) -> Option<
 
 /// Propagates a frame over the steps of a gap, which a cursor has next. They come after `old` steps of the old run
 /// and `new` steps of the new one, and are the same in both. It goes past copies of the old run that are among them. It
-/// makes each such copy one of the new run, after others. False if a string is missing, or a copy
+/// makes each such checkpoint one of the new run, after others. False if a string is missing, or a checkpoint
 /// is elsewhere. The steps that it passes are counted either way.
 ///
 /// Refusal `OutOfMemory` alone.
@@ -145,7 +145,7 @@ fn propagate_piece(
     Ok(propagate_exactly(propagation, strings, free, cursor, gap - gone, framed)?)
 }
 
-/// The first copies of some, after this many, that are before a step or at it.
+/// The first checkpoints of some, after this many, that are before a step or at it.
 fn copies_until(copies: &[Checkpoint], from: usize, step: usize) -> &[Checkpoint]
     requires in_range { from ≤ length copies.now }
     ensures value { (count : ℕ) × (result.now ≡ take count (drop from copies.now)) }
@@ -159,9 +159,9 @@ fn copies_until(copies: &[Checkpoint], from: usize, step: usize) -> &[Checkpoint
 /// Propagates a frame that begins before a step, which both runs have, past the places of a change of Pauli
 /// gates, the first of which is at that step, and over what is between them and after the
 /// last. A cursor is at that step of the new run. At each place the frame is multiplied by the string
-/// of the change. Copies of the old run that are there are made copies of the new one, in order.
+/// of the change. Checkpoints of the old run that are there are made copies of the new one, in order.
 ///
-/// False if a string is missing, or a copy is among the gates of a place, or after all. What it
+/// False if a string is missing, or a checkpoint is among the gates of a place, or after all. What it
 /// made so far is then irrelevant. The steps that it passes are counted either way.
 ///
 /// Refusal `OutOfMemory` alone.

@@ -57,7 +57,7 @@ struct Prepared {
     observables: Vec<bool>,
     strings: Pivots,
     window: u32,
-    // The copies laid on the way, the last first.
+    // The checkpoints kept on the way, the last first.
     laid: Vec<Checkpoint>,
     rest: Rest,
 }
@@ -67,7 +67,7 @@ struct Prepared {
 enum Rest {
     /// Nothing: this is the state after the last step.
     Nothing(Tableau),
-    /// The old run from a copy on.
+    /// The old run from a checkpoint on.
     Old(OldRest),
 }
 
@@ -114,7 +114,7 @@ impl Recording {
         })
     }
 
-    /// A replay from the copy with a number on, in the memory of a spare tableau if there is one.
+    /// A replay from the checkpoint with a number on, in the memory of a spare tableau if there is one.
     fn resume<'a>(
         &self,
         alloc: Global,
@@ -149,7 +149,7 @@ impl Recording {
 
     /// Makes this the run of an edited circuit, whose steps differ within the span, by carrying out
     /// steps anew, and says how many were, how many others it passed, and how many frames went over in vain, with those of an attempt
-    /// before. In repeats of the circuit's steps what rounds gave is given again, if they come again. The run is as before if memory is
+    /// before. In repeats of the circuit's steps what rounds gave is repeated, if they come again. The run is as before if memory is
     /// refused.
     ///
     /// The replay goes on in the memory of a spare tableau if there is one, and one of the two
@@ -305,8 +305,8 @@ impl Recording {
         }
     }
 
-    /// The run from an old copy on, as a frame flips it that is propagated on from there, to come after a replay that ended before a step
-    /// with these outputs and these strings, to which those after it are appended.
+    /// The run from an old checkpoint on, as a frame flips it that is propagated on from there, to come after a replay that ended
+    /// before a step with these outputs and these strings, to which those after it are appended.
     ///
     /// Refusal `OutOfMemory` alone.
     fn old_rest(

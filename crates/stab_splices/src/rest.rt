@@ -15,22 +15,22 @@ use stab_io::Refusal;
 use stab_recording::{Checkpoint, End, Meeting, apply_frame, lay_all, shifted, take_moved};
 use stab_tableau::CompactTableau;
 
-/// The run from a kept copy on, which a frame conjugates, and which moves to another place.
+/// The run from a checkpoint on, which a frame conjugates, and which moves to another place.
 #[derive(Drop)]
 pub(crate) struct OldRest {
-    /// The number of that copy.
+    /// The number of that checkpoint.
     pub number: usize,
     /// Where it is, and where it moves to.
     pub meeting: Meeting,
     /// The frame after the last step.
     pub propagation: Propagation,
-    /// The first copies, conjugated.
+    /// The first checkpoints, conjugated.
     pub conjugated: Vec<CompactTableau>,
-    // Where copies are while they move.
+    // Where checkpoints are while they move.
     pub room: Vec<Checkpoint>,
 }
 
-/// Where a copy is among the new steps once it has moved with a span, or the end where there is none.
+/// Where a checkpoint is among the new steps once it has moved with a span, or the end where there is none.
 pub(crate) fn end_place(copies: &[Checkpoint], number: usize, span: Span, total: usize) -> usize
     ensures value { result ≡ conjugated_end span total (slice_get copies.now number) }
 {
@@ -40,7 +40,7 @@ pub(crate) fn end_place(copies: &[Checkpoint], number: usize, span: Span, total:
     }
 }
 
-/// Puts states in place of those of copies, from a place on. It takes no memory.
+/// Puts states in place of those of checkpoints, from a place on. It takes no memory.
 fn put_states(copies: &mut Vec<Checkpoint>, from: usize, states: &mut Vec<CompactTableau>)
     requires in_range { from + length states.old.items ≤ length copies.old.items }
     ensures value { copies.new.items ≡ take from copies.old.items ++ with_states states.old.items (drop from copies.old.items) }
@@ -68,7 +68,7 @@ impl Recording {
         }
     }
 
-    /// Lays copies, the last of them first, after this many of those that are kept. It takes no
+    /// Keeps checkpoints, the last of them first, after this many of those that are kept. It takes no
     /// memory.
     pub(crate) fn lay_behind(&mut self, before: usize, laid: &mut Vec<Checkpoint>, stride: usize)
         requires room { before + length laid.old.items ≤ vec_capacity self.old.checkpoints }
@@ -85,7 +85,7 @@ impl Recording {
         lay_all(&mut self.checkpoints, laid, stride);
     }
 
-    /// Puts the rest of the run in place, after copies, the last of them first, that come after this many of those that are kept. It
+    /// Puts the rest of the run in place, after checkpoints, the last of them first, that come after this many of those that are kept. It
     /// takes no memory.
     pub(crate) fn put_rest(
         &mut self,

@@ -1,5 +1,5 @@
 -- Laws of error lines: the parts that are written of an error, one after another.
-use Rattle.stab_texts.proofs.Names.{◌≡◌, ◌+◌, ◌-◌, suc, arith, flat_map, range_with_len, refl, sym, ap, ◌∙◌, ℕ, ◌<◌, false, List, [], ◌∷◌, ◌++◌, length, get_or, append_assoc, append-nil, codes, decimal, Some, get_or_default, length-map, letter_text, Items, Path, path_text, Kinds, FaultPlace, row, Error, first_fault, ErrorTableState, IsErrorTable, error_at, kinds_of, path_at, texts_joined, letter_name, where_text, what_text, numbered_line, line_end, up_to, missing_line}
+use Rattle.stab_texts.proofs.Names.{◌≡◌, ◌+◌, ◌-◌, suc, arith, flat_map, range_with_len, refl, sym, ap, ◌∙◌, ℕ, ◌<◌, false, List, [], ◌∷◌, ◌++◌, length, get_or, append_assoc, append-nil, codes, decimal, Some, get_or_default, length-map, letter_text, Items, Path, path_text, Kinds, FaultPlace, row, Error, first_fault, ErrorTableState, IsErrorTable, error_at, kinds_of, path_at, texts_joined, letter_name, where_text, what_text, numbered_line, line_end, up_to, count_line, missing_line}
 
 -- a letter and its qubit, by their two parts
 pub joined-letter : (f : FaultPlace) (symbol digits : List ℕ) → symbol ≡ letter_text f.letter → digits ≡ decimal f.qubit → texts_joined (symbol ∷ digits ∷ []) ≡ letter_name f
@@ -23,6 +23,10 @@ joined-count count digits is = rw (is, append-nil (decimal count)) refl
 -- up to how many errors there is no set, by its three parts
 pub joined-none : (most : ℕ) (digits : List ℕ) → digits ≡ decimal most → texts_joined (codes "none" ∷ codes " up to " ∷ digits ∷ []) ≡ codes "none" ++ up_to (Some most)
 joined-none most digits is = rw (is, append-nil (decimal most)) refl
+
+-- how many least sets there are, by its three parts
+pub joined-sets : (count : ℕ) (digits : List ℕ) → digits ≡ decimal count → texts_joined (codes "count " ∷ digits ∷ codes "\n" ∷ []) ≡ count_line (Some count)
+joined-sets count digits is = rw is refl
 
 -- the end of a first line that names an observable, by its four parts
 pub joined-end : (errors : List ℕ) (observable : ℕ) (digits : List ℕ) → digits ≡ decimal observable → texts_joined (errors ∷ codes " for L" ∷ digits ∷ codes "\n" ∷ []) ≡ line_end errors (Some observable)

@@ -41,7 +41,7 @@ pub use Rattle.stab_texts.specs.Places.{path_at, bit_of, adds_to, steps_before_a
 pub use Rattle.stab_texts.specs.Texts.{row_head, texts_joined, placed_coin, texts_from}
 pub use Rattle.stab_texts.specs.declared.random.Random.{Random}
 pub use Rattle.stab_texts.specs.Deterministic.{kinds_of}
-pub use Rattle.stab_texts.specs.Distances.{letter_name, where_text, what_text, numbered_line, line_end, error_lines, up_to, error_name}
+pub use Rattle.stab_texts.specs.Distances.{letter_name, where_text, what_text, numbered_line, line_end, count_line, error_lines, up_to, error_name}
 pub use Rattle.stab_texts.specs.MissingObservables.{missing_line}
 pub use Rattle.stab_texts.specs.declared.fault_sites.Site.{Site as SiteValue}
 pub use Rattle.stab_texts.specs.declared.random.Bit.{Bit}

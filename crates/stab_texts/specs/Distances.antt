@@ -26,7 +26,7 @@ use Rattle.stab_jobs.specs.declared.job.SearchedLayout.TheVariants.{Table, Wcnf}
 use Rattle.stab_errors.specs.Errors.{Error, letter, letters, wrong_record, first_fault, errors_of}
 use Rattle.stab_errors.specs.Parts.{AreSearched}
 use Rattle.stab_errors.specs.ErrorTables.{ErrorTableState, IsErrorTable}
-use Rattle.stab_errors.specs.Unseen.{IsDistance, TellsUnseen, error_at}
+use Rattle.stab_errors.specs.Unseen.{IsDistance, IsSetCount, TellsUnseen, error_at}
 use Rattle.stab_texts.specs.declared.random.Random.{Random}
 use Rattle.stab_texts.specs.Deterministic.{kinds_of}
 use Rattle.stab_texts.specs.Endings.{Ends}
@@ -111,6 +111,24 @@ pub record IsDistanceOf (options : DistanceOptions) (items : Items) (t : ErrorTa
 abbrev pub IsDistanceText : DistanceOptions → Items → List ℕ → Type 0
 IsDistanceText options items bytes = (t : ErrorTableState) × (answer : Answer) × IsDistanceOf options items t answer × (bytes ≡ answer_text options items t answer)
 
+-- the line of how many least sets there are
+abbrev pub count_line : Option ℕ → List ℕ
+count_line (Some count) = codes "count " ++ (decimal count ++ codes "\n")
+count_line None = codes "count 18446744073709551616 or more\n"
+
+-- the same options, for all errors
+abbrev pub of_all : DistanceOptions → DistanceOptions
+of_all options = record options { graphlike = false }
+
+-- the bytes are those of an answer about all errors, and of how many least sets there are of these
+pub record IsCountedText (options : DistanceOptions) (items : Items) (bytes : List ℕ) : Type 0 where
+  pub t : ErrorTableState
+  pub answer : Answer
+  pub distance : IsDistanceOf (of_all options) items t answer
+  pub count : Option ℕ
+  pub counted : IsSetCount options.observable (qubits_of items) items t.errors options.most count
+  pub text : bytes ≡ answer_text (of_all options) items t answer ++ count_line count
+
 -- the lines of all errors
 abbrev pub error_lines : Items → ErrorTableState → List ℕ
 error_lines items t = flat_map (numbered_line items t) (range_with_len 0 (length t.errors))
@@ -156,6 +174,10 @@ IsRefusedFor deterministic_only items None fault = fault ≡ whole OutOfMemory
 abbrev pub EndsDistance : {T : Type 0} → DistanceOptions → InputView → InputView → OutputView → OutputView → Result T Fault → Option Random → Type 0
 EndsDistance options i i' o o' r random = EndsOrNames (IsDistanceText options) options.deterministic_only i i' o o' r random
 
+-- How a call ends that writes a distance of all errors and how many least sets there are.
+abbrev pub EndsCounted : {T : Type 0} → DistanceOptions → InputView → InputView → OutputView → OutputView → Result T Fault → Option Random → Type 0
+EndsCounted options i i' o o' r random = EndsOrNames (IsCountedText options) options.deterministic_only i i' o o' r random
+
 -- How a call ends that writes the errors that are searched.
 abbrev pub EndsSearched : {T : Type 0} → SearchedLayout → DistanceOptions → InputView → InputView → OutputView → OutputView → Result T Fault → Option Random → Type 0
 EndsSearched layout options i i' o o' r random = EndsOrNames (IsSearchedText layout options) options.deterministic_only i i' o o' r random
@@ -180,10 +202,10 @@ HearsDistance options items old new (Err f) = (new ≡ old) ⊎ ((answer : Resul
 abbrev pub TellsDistance : {T : Type 0} → DistanceOptions → InputView → InputView → Option (List Heard) → Option (List Heard) → Result T Fault → Type 0
 TellsDistance options i i' old new r = Ends (λ _. new ≡ old) (λ items. HearsDistance options items old new) i i' r
 
--- what is heard of a call with the items of a circuit that searches for each observable: nothing, or how many errors it searches
+-- what is heard of a call with the items of a circuit that searches for each observable, or not at all: nothing, or how many errors it looks at
 abbrev pub HearsErrors : DistanceOptions → Items → Option (List Heard) → Option (List Heard) → Type 0
 HearsErrors options items old new = (new ≡ old) ⊎ ((t : ErrorTableState) × AreErrorsOf options items t × Hears old new (begins (length t.errors) ∷ []))
 
--- What is heard of a call that writes the distance of each observable in turn, over an input.
-abbrev pub TellsEach : {T : Type 0} → DistanceOptions → InputView → InputView → Option (List Heard) → Option (List Heard) → Result T Fault → Type 0
-TellsEach options i i' old new r = Ends (λ _. new ≡ old) (λ items _. HearsErrors options items old new) i i' r
+-- What is heard of a call that writes the distance of each observable in turn, or the errors that are searched, over an input.
+abbrev pub TellsErrors : {T : Type 0} → DistanceOptions → InputView → InputView → Option (List Heard) → Option (List Heard) → Result T Fault → Type 0
+TellsErrors options i i' old new r = Ends (λ _. new ≡ old) (λ items _. HearsErrors options items old new) i i' r

@@ -43,7 +43,7 @@ fn write_name<O: Output>(out: &mut O, error: Error) -> Result<(), Refusal>
 }
 
 /// Writes how many steps are in front, and the path of the item.
-fn write_where<O: Output>(out: &mut O, before: usize, path: &Path) -> Result<(), Refusal>
+pub fn write_where<O: Output>(out: &mut O, before: usize, path: &Path) -> Result<(), Refusal>
     ensures writes { WritesAll (O.seen out.old) (O.seen out.new) (where_text before path.now) result }
 {
     let mut digits = Buffer::new();

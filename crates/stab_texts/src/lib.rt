@@ -32,7 +32,7 @@ mod random;
 mod writing;
 
 pub use doubt_lines::tell_doubts;
-pub use error_lines::{write_all_errors, write_errors};
+pub use error_lines::{write_all_errors, write_errors, write_where};
 pub use fault_bits::{write_row, write_shots};
 pub use fault_line::{write_decider, write_fault, write_refused};
 pub use fault_lines::write_lines;

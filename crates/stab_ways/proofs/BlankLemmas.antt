@@ -1,5 +1,5 @@
 -- Blank frames: the identity goes over steps as the identity, and flips no record.
-use Rattle.stab_ways.proofs.Names.{◌≡◌, ℕ, ◌+◌, refl, sym, ◌∙◌, ap, Bool, true, false, ◌&&◌, List, [], ◌∷◌, ◌++◌, replicate, set, arith, append-nil, replicate_more, Letter, I, single, strings_anticommute, strings_anticommute-blank, get_or-blank, set-blank, letter_image, pair_letters, letter_at, image, image_pair, Gate, PairGate, Step, one, two, controlled, collapse, product, detector, observable, makes, records_of, looked_up-zeros, when, string_of, flip_of, coins_of, plus, times_where, identity_frame, frame_after, frame_over, by_letters}
+use Rattle.stab_ways.proofs.Names.{◌≡◌, ℕ, ◌+◌, refl, sym, ◌∙◌, ap, Bool, true, false, ◌&&◌, List, [], ◌∷◌, ◌++◌, replicate, set, arith, append-nil, replicate_more, Letter, I, single, strings_anticommute, strings_anticommute-blank, get_or-blank, set-blank, letter_image, pair_letters, letter_at, image, image_pair, Gate, PairGate, Step, one, two, controlled, collapse, product, detector, observable, makes, records_of, looked_up-zeros, when, string_of, flip_of, plus, times_where, Frame, identity_frame, frame_after, by_letters, acts, not, letter_product, X, Y, Z, string_product, string_product-blank, length-replicate, reset_leaves, step_leaves, way_over}
 use Rattle.stab_gates.specs.declared.gate.Gate.TheVariants as on
 use Rattle.stab_gates.specs.declared.gate.PairGate.TheVariants as pair
 
@@ -81,10 +81,33 @@ step-blank n (product factors inverted) c r = λ i. record {
 step-blank n (detector ks) c r = λ i. record { letters = replicate n I; flips = none-more r i }
 step-blank n (observable j ks) c r = λ i. record { letters = replicate n I; flips = none-more r i }
 
-pub blank-over : (n : ℕ) (xs : List Step) (c r : ℕ) → frame_over n by_letters xs c (identity_frame n r) ≡ identity_frame n (r + records_of xs)
-blank-over n [] c r = let none : r ≡ r + 0 = omega arith in ap (identity_frame n) none
-blank-over n (x ∷ xs) c r =
+-- nothing is left out of none
+
+leaves-blank : (n : ℕ) (resets : Bool) (l : Letter) (q : ℕ) → reset_leaves n resets l q (replicate n I) ≡ replicate n I
+leaves-blank n resets l q =
+    ap (λ x. times_where (resets && not (acts (letter_product x l))) (single n q l).letters (replicate n I)) (get_or-blank n q) ∙ by_letter resets l
+  where
+    by_letter : (resets : Bool) (l : Letter) → times_where (resets && not (acts l)) (single n q l).letters (replicate n I) ≡ replicate n I
+    by_letter false l = refl
+    by_letter true I = ap (string_product (replicate n I)) (set-blank n q) ∙ string_product-blank n (replicate n I) (length-replicate n I)
+    by_letter true X = refl
+    by_letter true Y = refl
+    by_letter true Z = refl
+
+step-leaves : (n : ℕ) (x : Step) → step_leaves n x (replicate n I) ≡ replicate n I
+step-leaves n (one g q) = refl
+step-leaves n (two g a b) = refl
+step-leaves n (controlled l k q) = refl
+step-leaves n (collapse l q recorded inverted resets) = leaves-blank n resets l q
+step-leaves n (product factors inverted) = refl
+step-leaves n (detector ks) = refl
+step-leaves n (observable j ks) = refl
+
+pub blank-over : (n : ℕ) (xs : List Step) (r : ℕ) → way_over n xs (identity_frame n r) ≡ identity_frame n (r + records_of xs)
+blank-over n [] r = let none : r ≡ r + 0 = omega arith in ap (identity_frame n) none
+blank-over n (x ∷ xs) r =
     let sum : (r + makes x) + records_of xs ≡ r + (makes x + records_of xs) = omega arith in
-    ap (frame_over n by_letters xs (c + coins_of x)) (step-blank n x c r)
-    ∙ blank-over n xs (c + coins_of x) (r + makes x)
+    ap (λ (f : Frame). way_over n xs (record f { letters = step_leaves n x f.letters })) (step-blank n x 0 r)
+    ∙ ap (λ s. way_over n xs (record { letters = s; flips = replicate (r + makes x) false })) (step-leaves n x)
+    ∙ blank-over n xs (r + makes x)
     ∙ ap (identity_frame n) sum

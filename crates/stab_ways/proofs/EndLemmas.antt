@@ -1,5 +1,5 @@
 -- Ends: what a walk over a whole circuit comes to, once the string is put in.
-use Rattle.stab_ways.proofs.Names.{◌≡◌, ℕ, ◌+◌, ◌<◌, ◌≤◌, sym, ◌∙◌, ap, subst, List, [], length, take, drop, replicate, arith, ◌⊎◌, inl, inr, cases_lt, take_all, drop_all, Some, Letter, I, string_product, string_product-blank, Items, unroll, Step, records_of, nothing, joined, Frame, frame_of, identity_frame, frame_over, flips_over, PropagationState, frame_at, by_letters, frame_begun, string_after, string_flips, parts_of, parts_after, string_turns, Turn, turns, passed, WalkState, put_in, ended, walked}
+use Rattle.stab_ways.proofs.Names.{◌≡◌, ℕ, ◌+◌, ◌<◌, ◌≤◌, sym, ◌∙◌, ap, subst, List, [], length, take, drop, replicate, arith, ◌⊎◌, inl, inr, cases_lt, take_all, drop_all, Some, Letter, I, string_product, string_product-blank, Items, unroll, Step, records_of, nothing, joined, Frame, frame_of, identity_frame, PropagationState, frame_at, way_over, way_flips, frame_begun, string_after, string_flips, parts_of, parts_after, string_turns, Turn, turns, passed, WalkState, put_in, ended, walked}
 use Rattle.stab_ways.proofs.BlankLemmas.{blank-over}
 use Rattle.stab_ways.proofs.WalkedLemmas.{frame-passed, passed-none, under_way, waiting, with_letters, put_at, walked-put, walked-past, none-after, steps_in}
 use Rattle.stab_ways.proofs.ItemLemmas.{steps-unrolled}
@@ -11,7 +11,7 @@ begin n = record { letters = replicate n I; flips = nothing; coin = 0; number = 
 -- the frame that begins
 put-begins : (n k : ℕ) (string : List Letter) (xs : List Step) → length string ≡ n → frame_at 0 (put_at n string k xs (begin n)) ≡ frame_begun k string xs
 put-begins n k string xs size =
-    ap (λ (f : Frame). record { letters = string_product f.letters string; flips = f.flips }) (frame-passed n (take k xs) (begin n) ∙ blank-over n (take k xs) 0 0 ∙ ap (identity_frame n) none)
+    ap (λ (f : Frame). record { letters = string_product f.letters string; flips = f.flips }) (frame-passed n (take k xs) (begin n) ∙ blank-over n (take k xs) 0 ∙ ap (identity_frame n) none)
     ∙ ap (λ s. frame_of s (records_of (take k xs))) (string_product-blank n string size)
   where
     none : 0 + records_of (take k xs) ≡ records_of (take k xs)
@@ -34,10 +34,10 @@ module _ (n k : ℕ) (string : List Letter) (items : Items) (size : length strin
       → IsEnd n k string items w
   whole w is = record {
     turns = ap (λ (v : WalkState). v.turns) is ∙ ap (λ f. turns n k f (parts_after k (parts_of items))) begins;
-    flips = ap (λ (v : WalkState). v.frame.flips) is ∙ ap (λ f. joined (flips_over n by_letters (take k xs) 0 (identity_frame n 0)) (flips_over n by_letters (drop k xs) 0 f)) begins;
+    flips = ap (λ (v : WalkState). v.frame.flips) is ∙ ap (λ f. joined (way_flips n (take k xs) (identity_frame n 0)) (way_flips n (drop k xs) f)) begins;
     left = ap (λ (v : WalkState). v.frame.letters) is
-        ∙ ap (λ f. (frame_over n by_letters (drop k xs) 0 f).letters) begins
-        ∙ ap (λ ys. (frame_over n by_letters (drop k ys) 0 (frame_begun k string xs)).letters) (sym (take_all (length xs) xs (omega arith)));
+        ∙ ap (λ f. (way_over n (drop k xs) f).letters) begins
+        ∙ ap (λ ys. (way_over n (drop k ys) (frame_begun k string xs)).letters) (sym (take_all (length xs) xs (omega arith)));
   }
     where
       begins : frame_at 0 put ≡ frame_begun k string xs

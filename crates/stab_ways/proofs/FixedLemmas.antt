@@ -1,5 +1,5 @@
 -- Fixed outcomes: if no pivot is known, a frame goes the same way whichever coins differ and whatever their numbers.
-use Rattle.stab_ways.proofs.Names.{◌≡◌, ℕ, ◌+◌, refl, ◌∙◌, ap, false, ◌&&◌, List, [], ◌∷◌, ◌++◌, None, single, Step, one, two, controlled, collapse, product, detector, observable, when, string_of, flip_of, nothing, joined, coins_of, all_coins_of, Frame, times_where, RunPivots, flipped_by, letters_by, frame_after, flips_given, frame_over, flips_over, frame-append, flips-append, by_letters}
+use Rattle.stab_ways.proofs.Names.{◌≡◌, ℕ, ◌+◌, refl, sym, ◌∙◌, ap, false, ◌&&◌, List, [], ◌∷◌, ◌++◌, None, single, Step, one, two, controlled, collapse, product, detector, observable, when, string_of, flip_of, nothing, joined, coins_of, Frame, times_where, RunPivots, flipped_by, letters_by, frame_after, flips_given, frame_over, flips_over, joined-assoc, by_letters, way_after, way_over, way_flips}
 
 module _ (n : ℕ) (pivots : RunPivots) (none : (t : ℕ) → pivots.strings t ≡ None) where
   pub fixed-after : (x : Step) (c d : ℕ) (f : Frame) → frame_after n pivots x c f ≡ frame_after n by_letters x d f
@@ -18,7 +18,7 @@ module _ (n : ℕ) (pivots : RunPivots) (none : (t : ℕ) → pivots.strings t �
   fixed-after (detector ks) c d f = refl
   fixed-after (observable j ks) c d f = refl
 
-  fixed-given : (x : Step) (c d : ℕ) (f : Frame) → flips_given n pivots x c f ≡ flips_given n by_letters x d f
+  pub fixed-given : (x : Step) (c d : ℕ) (f : Frame) → flips_given n pivots x c f ≡ flips_given n by_letters x d f
   fixed-given (one g q) c d f = refl
   fixed-given (two g p q) c d f = refl
   fixed-given (controlled l k q) c d f = refl
@@ -49,13 +49,14 @@ module _ (n : ℕ) (pivots : RunPivots) (none : (t : ℕ) → pivots.strings t �
       (λ i. joined (fixed-given x c d f i) (flips_over n pivots xs (c + coins_of x) (fixed-after x c d f i)))
       ∙ ap (joined (flips_given n by_letters x d f)) (fixed-flips xs (c + coins_of x) (d + coins_of x) (frame_after n by_letters x d f))
 
--- steps one after another
+-- the way of a string over steps one after another
 
-pub frame-more : (n : ℕ) (xs ys : List Step) (f : Frame) → frame_over n by_letters (xs ++ ys) 0 f ≡ frame_over n by_letters ys 0 (frame_over n by_letters xs 0 f)
-frame-more n xs ys f = frame-append n by_letters xs ys 0 f ∙ fixed-frame n by_letters (λ t. refl) ys (0 + all_coins_of xs) 0 (frame_over n by_letters xs 0 f)
+pub way-more : (n : ℕ) (xs ys : List Step) (f : Frame) → way_over n (xs ++ ys) f ≡ way_over n ys (way_over n xs f)
+way-more n [] ys f = refl
+way-more n (x ∷ xs) ys f = way-more n xs ys (way_after n x f)
 
-pub flips-more : (n : ℕ) (xs ys : List Step) (f : Frame)
-    → flips_over n by_letters (xs ++ ys) 0 f ≡ joined (flips_over n by_letters xs 0 f) (flips_over n by_letters ys 0 (frame_over n by_letters xs 0 f))
-flips-more n xs ys f =
-    flips-append n by_letters xs ys 0 f
-    ∙ ap (joined (flips_over n by_letters xs 0 f)) (fixed-flips n by_letters (λ t. refl) ys (0 + all_coins_of xs) 0 (frame_over n by_letters xs 0 f))
+pub flips-more : (n : ℕ) (xs ys : List Step) (f : Frame) → way_flips n (xs ++ ys) f ≡ joined (way_flips n xs f) (way_flips n ys (way_over n xs f))
+flips-more n [] ys f = refl
+flips-more n (x ∷ xs) ys f =
+    ap (joined (flips_given n by_letters x 0 f)) (flips-more n xs ys (way_after n x f))
+    ∙ sym (joined-assoc (flips_given n by_letters x 0 f) (way_flips n xs (way_after n x f)) (way_flips n ys (way_over n xs (way_after n x f))))

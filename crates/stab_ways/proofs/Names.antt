@@ -1,36 +1,43 @@
 -- What the proofs of this crate take from std, from crates below and from its definitions.
-pub use Rattle.std.proofs.Common.{◌≡◌, ℕ, zero, suc, ◌+◌, ◌-◌, ◌*◌, refl, sym, ◌∙◌, ap, subst, Bool, true, false, ◌&&◌, ◌||◌, List, [], ◌∷◌, ◌++◌, length, take, drop, All, replicate, nat_lt, arith, ◌<◌, ◌≤◌, map, get_or, set, append_assoc, append-nil, le-ltb, ltb-true, ltb-false, ◌⊎◌, inl, inr}
+pub use Rattle.std.proofs.Common.{◌≡◌, ℕ, zero, suc, ◌+◌, ◌-◌, ◌*◌, refl, sym, ◌∙◌, ap, subst, Bool, true, false, ◌&&◌, ◌||◌, not, List, [], ◌∷◌, ◌++◌, length, take, drop, All, replicate, nat_lt, arith, ◌<◌, ◌≤◌, map, get_or, set, append_assoc, append-nil, le-ltb, ltb-true, ltb-false, ◌⊎◌, inl, inr}
 pub use Rattle.std.proofs.Math.Seq.{take-add, take-take, take-append_seam, drop-append_seam}
-pub use Rattle.std.proofs.lemmas.List.{take-append-drop, length-replicate, length-append, length-take, length-drop, replicate_more, take_more, drop_all, take_all, drop-drop}
-pub use Rattle.std.proofs.lemmas.List.Elements.{All-take, All-nil, All-cons, All-drop}
+pub use Rattle.std.proofs.lemmas.List.{map_more, length-map, map-append, take-append-drop, length-replicate, length-append, length-take, length-drop, replicate_more, take_more, drop_all, take_all, drop-drop}
+pub use Rattle.std.proofs.lemmas.List.Elements.{All-take, All-nil, All-cons, All-drop, All-head, All-tail, All-append}
 pub use Rattle.std.proofs.lemmas.Bool.{cases_lt}
 pub use Rattle.std.specs.List.{list_any, flat_map}
 pub use Rattle.std.specs.Prelude.{Option, Some, None, if◌then◌else◌}
 pub use Rattle.stab_gates.specs.declared.letter.Letter.{Letter}
 pub use Rattle.stab_gates.specs.declared.letter.Letter.TheVariants.{I, X, Y, Z}
-pub use Rattle.stab_gates.specs.Letters.{◌⊕◌}
-pub use Rattle.stab_pauli.specs.Paulis.{single, string_product, strings_anticommute}
+pub use Rattle.stab_gates.specs.Letters.{◌⊕◌, letter_product, letters_anticommute}
+pub use Rattle.stab_pauli.specs.Paulis.{Signed, single, with_sign, anticommute, identity, string_product, strings_anticommute}
 pub use Rattle.stab_gates.proofs.LetterLemmas.{letter_product-I}
-pub use Rattle.stab_tableau.proofs.OneLetterLemmas.{length-one_letter}
-pub use Rattle.stab_pauli.proofs.StringLemmas.{length-string_product, string_product-blank, string_product-blank_right, string_product-assoc, string_product-self, strings_anticommute-blank}
-pub use Rattle.stab_tableau.specs.Traces.{member, is_free}
+pub use Rattle.stab_tableau.proofs.OneLetterLemmas.{length-one_letter, one_letter-anticommute}
+pub use Rattle.stab_pauli.proofs.StringLemmas.{length-string_product, string_product-blank, string_product-blank_right, string_product-assoc, string_product-self, strings_anticommute-blank, strings_anticommute-self, strings_anticommute-comm}
+pub use Rattle.stab_tableau.specs.Traces.{Event, projected, member, is_free}
+pub use Rattle.stab_tableau.specs.Groups.{IsStabiliserGroup}
+pub use Rattle.stab_pauli.proofs.SignedLemmas.{product-self}
 pub use Rattle.stab_gates.specs.declared.gate.Gate.{Gate}
 pub use Rattle.stab_gates.specs.declared.gate.PairGate.{PairGate}
 pub use Rattle.stab_tableau.proofs.PlaceLemmas.{get_or-blank, set-blank}
 pub use Rattle.stab_tableau.specs.Gates.{image, image_pair, letter_image, pair_letters, letter_at}
 pub use Rattle.stab_tableau.specs.Conjugations.{IsConjugated}
-pub use Rattle.stab_items.specs.Steps.{steps_of, Step, one, two, controlled, collapse, product, detector, observable, makes, records_of}
-pub use Rattle.stab_run.specs.Runs.{gate_of, flip_of, string_of, when, State, start, run}
+pub use Rattle.stab_lines.specs.declared.axis.Axis.{Axis}
+pub use Rattle.stab_lines.specs.declared.operation.Measurement.{Measurement}
+pub use Rattle.stab_lines.specs.declared.range.MeasureTarget.{MeasureTarget}
+pub use Rattle.stab_lines.specs.declared.control.ControlledPair.{ControlledPair}
+pub use Rattle.stab_lines.specs.Axes.{letter_of}
+pub use Rattle.stab_items.specs.Steps.{steps_of, controlled_step, measured, Step, one, two, controlled, collapse, product, detector, observable, makes, records_of}
+pub use Rattle.stab_run.specs.Runs.{gate_of, flip_of, string_of, when, applied_where, outcome_at, State, start, run}
 pub use Rattle.stab_run.specs.Points.{Point, RunOutput, origin, nothing, joined, coins_of, all_coins_of, next_point, point_after, outputs}
 pub use Rattle.stab_run.specs.ProgramStates.{StepFits}
 pub use Rattle.stab_run.proofs.CoinLemmas.{coins-few, coins-are, coins-append}
 pub use Rattle.stab_run.proofs.PointLemmas.{flags-counted}
-pub use Rattle.stab_run.proofs.RunLemmas.{outputs-append, joined-assoc, joined-nothing}
+pub use Rattle.stab_run.proofs.RunLemmas.{after-append, outputs-append, joined-assoc, joined-nothing}
 pub use Rattle.stab_run.proofs.StateLemmas.{run-state}
-pub use Rattle.stab_run.proofs.LookbackLemmas.{looked_up-zeros}
+pub use Rattle.stab_run.proofs.LookbackLemmas.{looked_up-zeros, or-left, or-right}
 pub use Rattle.stab_frames.specs.Frames.{Frame, frame_of, identity_frame, plus, times_where}
-pub use Rattle.stab_frames.specs.RunPivots.{RunPivots, no_strings}
-pub use Rattle.stab_frames.specs.FrameSteps.{flipped_by, letters_by, frame_after, flips_given, frame_over, flips_over}
+pub use Rattle.stab_frames.specs.RunPivots.{RunPivots, no_strings, changed}
+pub use Rattle.stab_frames.specs.FrameSteps.{flipped_by, letters_by, letters_after, frame_after, flips_given, frame_over, flips_over}
 pub use Rattle.stab_frames.specs.PivotsOfSteps.{IsEnoughAt, AreEnough}
 pub use Rattle.stab_frames.specs.Fronts.{AreFronts, IsFlippedRun}
 pub use Rattle.stab_frames.specs.Pivots.{pivot_at}
@@ -42,15 +49,18 @@ pub use Rattle.stab_frames.proofs.FreeLemmas.{pivot-none}
 pub use Rattle.stab_frames.proofs.StepsPropagatedLemmas.{propagation-same, fits-over}
 pub use Rattle.stab_frames.proofs.OverLemmas.{frame-append, flips-append}
 pub use Rattle.stab_frames.proofs.StartLemmas.{framed-same}
-pub use Rattle.stab_frames.proofs.EditLemmas.{fronts-flip, fronts-go-on, fronts-take-paulis}
-pub use Rattle.stab_frames.proofs.PivotLemmas.{enough-before}
-pub use Rattle.stab_ways.specs.PutIn.{letter_gates, with_string, by_letters, frame_begun, string_after, string_flips}
+pub use Rattle.stab_frames.proofs.EditLemmas.{flipped-run, fronts-go-on, fronts-take-paulis}
+pub use Rattle.stab_frames.proofs.GoesOverLemmas.{fits-mapped}
+pub use Rattle.stab_frames.proofs.FrontLemmas.{group-origin}
+pub use Rattle.stab_frames.proofs.FramedLemmas.{conjugated-over, conjugated-comm, conjugated-stabiliser}
+pub use Rattle.stab_frames.proofs.SignLemmas.{sign-twice, back-letter}
+pub use Rattle.stab_ways.specs.PutIn.{letter_gates, with_string, by_letters, reset_leaves, step_leaves, way_after, way_over, way_flips, frame_begun, string_after, string_flips}
 pub use Rattle.stab_ways.specs.Laws.{coins_with, StringsFlipRuns, FixedOutcomesKeepCoins}
 pub use Rattle.stab_ways.specs.Ways.{Turn, placed, differ, turned, turns, part_rounds, parts_of, parts_after, string_turns, turn_shown}
-pub use Rattle.stab_ways.specs.inner.Walks.{passed, WalkState, put_in, ended, past_steps, told, over_part, walked, walk_shown, IsWalk}
+pub use Rattle.stab_ways.specs.inner.Walks.{EndsTogether, IsFront, has_letter_at, steps_leave, passed, WalkState, put_in, ended, past_steps, told, over_part, walked, walk_shown, IsWalk}
 pub use Rattle.stab_ways.specs.declared.way.PlacedLetter.{PlacedLetter}
 pub use Rattle.stab_run.specs.Records.{ones}
-pub use Rattle.stab_items.specs.StepValues.{steps_shown}
+pub use Rattle.stab_items.specs.StepValues.{lookbacks_of, step_shown, steps_shown}
 pub use Rattle.stab_frames.specs.inner.Propagates.{IsMissing}
 pub use Rattle.std.proofs.lemmas.List.Concat.{flat_map-append}
 pub use Rattle.stab_items.specs.Items.{Items, OneItem, next, block, done, before, listed, join, repeat, depth, depth_of as nested_in}

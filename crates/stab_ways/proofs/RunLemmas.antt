@@ -1,8 +1,8 @@
 -- Runs: what a string that is put in flips in them.
-use Rattle.stab_ways.proofs.Names.{◌≡◌, ℕ, ◌+◌, ◌-◌, ◌<◌, ◌≤◌, refl, sym, ◌∙◌, ap, subst, Bool, false, ◌&&◌, List, [], ◌∷◌, ◌++◌, length, take, drop, All, replicate, get_or, arith, zero, suc, take-take, take-append-drop, All-take, All-nil, All-drop, Letter, I, string_product, string_product-blank, ◌⊕◌, member, IsConjugated, Step, records_of, State, start, run, Point, RunOutput, origin, nothing, joined, all_coins_of, point_after, outputs, StepFits, coins-are, flags-counted, outputs-append, run-state, length-replicate, Frame, frame_of, identity_frame, RunPivots, no_strings, frame_over, flips_over, AreEnough, AreFronts, IsFlippedRun, framed-same, fronts-flip, fronts-go-on, enough-before, letter_gates, with_string, by_letters, frame_begun, string_after, string_flips, coins_with, StringsFlipRuns, FixedOutcomesKeepCoins}
-use Rattle.stab_ways.proofs.FixedLemmas.{fixed-frame, fixed-flips}
-use Rattle.stab_ways.proofs.EnoughLemmas.{Differ, differ-enough, get_or-behind, get_or-front, long-flips}
+use Rattle.stab_ways.proofs.Names.{◌≡◌, ℕ, ◌+◌, ◌-◌, ◌<◌, ◌≤◌, refl, sym, ◌∙◌, ap, subst, Bool, false, ◌&&◌, List, [], ◌∷◌, ◌++◌, length, take, drop, All, replicate, get_or, arith, zero, suc, take-take, take-append-drop, All-take, All-nil, All-drop, Letter, I, string_product, string_product-blank, ◌⊕◌, member, IsConjugated, Step, records_of, State, start, run, Point, RunOutput, origin, nothing, all_coins_of, point_after, outputs, StepFits, coins-are, flags-counted, outputs-append, run-state, length-replicate, Frame, frame_of, identity_frame, AreFronts, IsFlippedRun, framed-same, flipped-run, letter_gates, with_string, way_over, way_flips, frame_begun, string_after, string_flips, coins_with, StringsFlipRuns, FixedOutcomesKeepCoins}
+use Rattle.stab_ways.proofs.EnoughLemmas.{Differ, differ-front, get_or-behind, get_or-front, long-flips}
 use Rattle.stab_ways.proofs.BlankLemmas.{blank-over}
+use Rattle.stab_ways.proofs.FrontLemmas.{fronts-way}
 use Rattle.stab_ways.proofs.GateLemmas.{product-whole, letters-put}
 
 -- steps after the first k, up to the first k + j
@@ -28,7 +28,7 @@ module _ (n k : ℕ) (string : List Letter) (xs : List Step) (coins : ℕ → Bo
   back = drop k xs
 
   abbrev front_flips : RunOutput
-  front_flips = flips_over n by_letters front 0 (identity_frame n 0)
+  front_flips = way_flips n front (identity_frame n 0)
 
   abbrev begun : Frame
   begun = frame_begun k string xs
@@ -41,9 +41,6 @@ module _ (n k : ℕ) (string : List Letter) (xs : List Step) (coins : ℕ → Bo
 
   abbrev changes : ℕ → Bool
   changes t = get_or flags t false && get_or flips t false
-
-  abbrev pivots : RunPivots
-  pivots = no_strings changes
 
   abbrev others : ℕ → Bool
   others = coins_with n k string xs coins
@@ -64,51 +61,37 @@ module _ (n k : ℕ) (string : List Letter) (xs : List Step) (coins : ℕ → Bo
       ∙ ap (λ ys. (outputs n coins ys origin).free) (sym (take-append-drop k xs))
       ∙ ap (λ (o : RunOutput). o.free) (outputs-append n coins front back origin)
 
-  differ-front : Differ n coins changes front 0 (identity_frame n 0) origin
-  differ-front t lt =
+  differ-begin : Differ n coins changes front (identity_frame n 0) origin
+  differ-begin t lt =
       let none : 0 + t ≡ t = omega arith in
       ap changes none
       ∙ (λ i. (ap (λ fs. get_or fs t false) flags-parts ∙ get_or-front (outputs n coins front origin).free (outputs n coins back there).free t
       (subst (λ m. t < m) (sym (long-flags n coins front)) lt)) i
-      && get_or-front front_flips.outcomes (flips_over n by_letters back 0 begun).outcomes t (subst (λ m. t < m) (sym (long-flips n by_letters front 0 (identity_frame n 0))) lt) i)
+      && get_or-front front_flips.outcomes (way_flips n back begun).outcomes t (subst (λ m. t < m) (sym (long-flips n front (identity_frame n 0))) lt) i)
 
-  differ-back : Differ n coins changes back 0 begun there
+  differ-back : Differ n coins changes back begun there
   differ-back t lt =
       ap (λ c. changes (c + t)) coin
       ∙ (λ i. (ap (λ fs. get_or fs (all_coins_of front + t) false) flags-parts
       ∙ get_or-behind (outputs n coins front origin).free (outputs n coins back there).free (all_coins_of front) t (long-flags n coins front)) i
-      && get_or-behind front_flips.outcomes (flips_over n by_letters back 0 begun).outcomes (all_coins_of front) t (long-flips n by_letters front 0 (identity_frame n 0)) i)
+      && get_or-behind front_flips.outcomes (way_flips n back begun).outcomes (all_coins_of front) t (long-flips n front (identity_frame n 0)) i)
     where
       coin : there.coin ≡ all_coins_of front
       coin = omega (arith, coins-are n coins front origin)
 
-  enough-front : AreEnough n coins pivots front (identity_frame n 0) origin
-  enough-front = differ-enough n coins changes front 0 (identity_frame n 0) origin differ-front
-
-  enough-back : AreEnough n coins pivots back begun there
-  enough-back = differ-enough n coins changes back 0 begun there differ-back
-
   -- where the string is put in
 
-  before : AreFronts n coins others front front (frame_over n pivots front 0 (identity_frame n 0)) (flips_over n pivots front 0 (identity_frame n 0))
+  before : AreFronts n coins others front front (way_over n front (identity_frame n 0)) front_flips
   before =
-      fronts-go-on n coins pivots [] [] front (identity_frame n 0) nothing (All-nil (StepFits n)) fits-front
+      fronts-way n coins changes front [] [] (identity_frame n 0) nothing (All-nil (StepFits n)) fits-front
       (record { framed = framed-same n origin; given = refl; matches = record { records = refl; free = refl; outcomes = refl; detectors = refl; observables = refl } })
-      enough-front
+      differ-begin
 
   none-more : 0 + records_of front ≡ records_of front
   none-more = omega arith
 
-  blank : frame_over n pivots front 0 (identity_frame n 0) ≡ identity_frame n (records_of front)
-  blank = fixed-frame n pivots (λ t. refl) front 0 0 (identity_frame n 0) ∙ blank-over n front 0 0 ∙ ap (identity_frame n) none-more
-
-  same-flips : flips_over n pivots front 0 (identity_frame n 0) ≡ front_flips
-  same-flips = fixed-flips n pivots (λ t. refl) front 0 0 (identity_frame n 0)
-
   before-blank : AreFronts n coins others front front (identity_frame n (records_of front)) front_flips
-  before-blank =
-      subst (AreFronts n coins others front front (identity_frame n (records_of front))) same-flips
-      (subst (λ f. AreFronts n coins others front front f (flips_over n pivots front 0 (identity_frame n 0))) blank before)
+  before-blank = subst (λ f. AreFronts n coins others front front f front_flips) (blank-over n front 0 ∙ ap (identity_frame n) none-more) before
 
   put : AreFronts n coins others front (front ++ letter_gates 0 string) begun front_flips
   put =
@@ -124,9 +107,11 @@ module _ (n k : ℕ) (string : List Letter) (xs : List Step) (coins : ℕ → Bo
   part-is : (m : ℕ) → k ≤ m → part m ≡ take (m - k) back
   part-is m le = let whole : m ≡ k + (m - k) = omega (arith, le) in ap part whole ∙ drop-taken k (m - k) xs
 
-  enough-part : (m : ℕ) → k ≤ m → AreEnough n coins pivots (part m) begun there
-  enough-part m le =
-      subst (λ ys. AreEnough n coins pivots ys begun there) (sym (part-is m le)) (enough-before n coins pivots (m - k) back begun there enough-back)
+  differ-part : (m : ℕ) → k ≤ m → Differ n coins changes (part m) begun there
+  differ-part m le =
+      subst (λ ys. Differ n coins changes ys begun there) (sym (part-is m le))
+      (differ-front n coins changes (take (m - k) back) (drop (m - k) back) begun there
+      (subst (λ ys. Differ n coins changes ys begun there) (sym (take-append-drop (m - k) back)) differ-back))
 
   fits-part : (m : ℕ) → All (StepFits n) (part m)
   fits-part m = All-drop (StepFits n) k (take m xs) (All-take (StepFits n) m xs fits)
@@ -137,20 +122,17 @@ module _ (n k : ℕ) (string : List Letter) (xs : List Step) (coins : ℕ → Bo
   states : (m : ℕ) → k ≤ m → IsConjugated n (string_after n k string xs m) (member (point_after n coins (take m xs) origin).trace)
       (member (point_after n others (with_string k string (take m xs)) origin).trace)
   states m le =
-      let shown = (fronts-flip n coins pivots front (front ++ letter_gates 0 string) (part m) begun front_flips fits-front (fits-part m) put (enough-part m le)).1.group in
+      let shown = (fronts-way n coins changes (part m) front (front ++ letter_gates 0 string) begun front_flips fits-front (fits-part m) put (differ-part m le)).framed.group in
       subst (λ ys. IsConjugated n (string_after n k string xs m) (member (point_after n coins ys origin).trace) (member (point_after n others (with_string k string (take m xs)) origin).trace))
       (ap (λ us. us ++ part m) (front-is m le) ∙ take-append-drop k (take m xs))
       (subst (λ us. IsConjugated n (string_after n k string xs m) (member (point_after n coins (front ++ part m) origin).trace)
-      (member (point_after n others ((us ++ letter_gates 0 string) ++ part m) origin).trace)) (front-is m le)
-      (subst (λ s. IsConjugated n s (member (point_after n coins (front ++ part m) origin).trace)
-      (member (point_after n others ((front ++ letter_gates 0 string) ++ part m) origin).trace))
-      (ap (λ (f : Frame). f.letters) (fixed-frame n pivots (λ t. refl) (part m) there.coin 0 begun)) shown))
+      (member (point_after n others ((us ++ letter_gates 0 string) ++ part m) origin).trace)) (front-is m le) shown)
 
   whole : IsFlippedRun n coins others xs (with_string k string xs) (string_flips n k string xs)
   whole =
+      let all = fronts-way n coins changes back front (front ++ letter_gates 0 string) begun front_flips fits-front fits-back put differ-back in
       subst (λ ys. IsFlippedRun n coins others ys (with_string k string xs) (string_flips n k string xs)) (take-append-drop k xs)
-      (subst (λ o. IsFlippedRun n coins others (front ++ back) (with_string k string xs) (joined front_flips o)) (fixed-flips n pivots (λ t. refl) back there.coin 0 begun)
-      (fronts-flip n coins pivots front (front ++ letter_gates 0 string) back begun front_flips fits-front fits-back put enough-back).0)
+      (flipped-run n coins others (front ++ back) (with_string k string xs) (string_flips n k string xs) all.given all.matches)
 
 pub strings-flip : StringsFlipRuns
 strings-flip n k string xs coins fits size = record { run = whole n k string xs coins fits size; states = states n k string xs coins fits size }

@@ -15,11 +15,5 @@ DifferBy old new q found = differ old new ≡ (found || differ (drop q old) (dro
 
 -- letters in two parts
 
-pub placed-first : (q : ℕ) (l : Letter) (letters : List Letter) → placed q (l ∷ letters) ≡ placed q (l ∷ []) ++ placed (q + 1) letters
-placed-first q I letters = refl
-placed-first q X letters = refl
-placed-first q Y letters = refl
-placed-first q Z letters = refl
-
 abbrev pub AreFound : List Letter → ℕ → List PlacedLetter → Type 0
 AreFound letters q found = placed 0 letters ≡ found ++ placed q (drop q letters)

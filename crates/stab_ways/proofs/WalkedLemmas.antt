@@ -1,19 +1,18 @@
 -- Walked: instructions one after another on the way of a string, and what the walk comes to.
-use Rattle.stab_ways.proofs.Names.{◌≡◌, ℕ, zero, suc, ◌+◌, ◌-◌, ◌<◌, ◌≤◌, refl, sym, ◌∙◌, ap, Bool, true, false, List, [], ◌∷◌, ◌++◌, length, take, drop, replicate, nat_lt, le-ltb, ltb-true, ltb-false, arith, append_assoc, append-nil, length-append, length-take, length-drop, Some, None, if◌then◌else◌, flat_map, list_any, Letter, I, acts, string_product, string_product-self, Step, joined, joined-assoc, joined-nothing, coins_of, all_coins_of, coins-append, Frame, flips_given, frame_after, frame_over, flips_over, PropagationState, frame_at, by_letters, Turn, placed, turned, turns, parts_after, passed, WalkState, put_in, past_steps, told, over_part, walked}
-use Rattle.stab_ways.proofs.FixedLemmas.{frame-more, flips-more}
+use Rattle.stab_ways.proofs.Names.{◌≡◌, ℕ, zero, suc, ◌+◌, ◌-◌, ◌<◌, ◌≤◌, refl, sym, ◌∙◌, ap, Bool, true, false, List, [], ◌∷◌, ◌++◌, length, take, drop, replicate, nat_lt, le-ltb, ltb-true, ltb-false, arith, append_assoc, append-nil, length-append, length-take, length-drop, Some, None, if◌then◌else◌, flat_map, list_any, Letter, I, acts, string_product, string_product-self, Step, joined, joined-assoc, joined-nothing, all_coins_of, coins-append, Frame, flips_given, PropagationState, frame_at, by_letters, way_after, way_over, way_flips, Turn, placed, turned, turns, parts_after, passed, WalkState, put_in, past_steps, told, over_part, walked}
+use Rattle.stab_ways.proofs.FixedLemmas.{way-more, flips-more}
 
 -- a frame's flips are the records that it flipped
 
-pub frame-flips : (n : ℕ) (xs : List Step) (c : ℕ) (f : Frame) → (frame_over n by_letters xs c f).flips ≡ f.flips ++ (flips_over n by_letters xs c f).records
-frame-flips n [] c f = sym (append-nil f.flips)
-frame-flips n (x ∷ xs) c f =
-    frame-flips n xs (c + coins_of x) (frame_after n by_letters x c f)
-    ∙ append_assoc f.flips (flips_given n by_letters x c f).records (flips_over n by_letters xs (c + coins_of x) (frame_after n by_letters x c f)).records
+pub frame-flips : (n : ℕ) (xs : List Step) (f : Frame) → (way_over n xs f).flips ≡ f.flips ++ (way_flips n xs f).records
+frame-flips n [] f = sym (append-nil f.flips)
+frame-flips n (x ∷ xs) f =
+    frame-flips n xs (way_after n x f) ∙ append_assoc f.flips (flips_given n by_letters x 0 f).records (way_flips n xs (way_after n x f)).records
 
-pub frame-passed : (n : ℕ) (ys : List Step) (p : PropagationState) → frame_at 0 (passed n ys p) ≡ frame_over n by_letters ys 0 (frame_at 0 p)
+pub frame-passed : (n : ℕ) (ys : List Step) (p : PropagationState) → frame_at 0 (passed n ys p) ≡ way_over n ys (frame_at 0 p)
 frame-passed n ys p = λ i. record {
-  letters = (frame_over n by_letters ys 0 (frame_at 0 p)).letters;
-  flips = sym (frame-flips n ys 0 (frame_at 0 p)) i;
+  letters = (way_over n ys (frame_at 0 p)).letters;
+  flips = sym (frame-flips n ys (frame_at 0 p)) i;
 }
 
 pub passed-none : (n : ℕ) (p : PropagationState) → passed n [] p ≡ p
@@ -29,11 +28,11 @@ passed-none n p = λ i. record {
 
 pub passed-more : (n : ℕ) (xs ys : List Step) (p : PropagationState) → passed n (xs ++ ys) p ≡ passed n ys (passed n xs p)
 passed-more n xs ys p = λ i. record {
-  letters = (ap (λ (f : Frame). f.letters) (frame-more n xs ys (frame_at 0 p)) ∙ ap (λ f. (frame_over n by_letters ys 0 f).letters) (sym (frame-passed n xs p))) i;
+  letters = (ap (λ (f : Frame). f.letters) (way-more n xs ys (frame_at 0 p)) ∙ ap (λ f. (way_over n ys f).letters) (sym (frame-passed n xs p))) i;
   flips =
       (ap (joined p.flips) (flips-more n xs ys (frame_at 0 p))
-      ∙ sym (joined-assoc p.flips (flips_over n by_letters xs 0 (frame_at 0 p)) (flips_over n by_letters ys 0 (frame_over n by_letters xs 0 (frame_at 0 p))))
-      ∙ ap (λ f. joined (joined p.flips (flips_over n by_letters xs 0 (frame_at 0 p))) (flips_over n by_letters ys 0 f)) (sym (frame-passed n xs p))) i;
+      ∙ sym (joined-assoc p.flips (way_flips n xs (frame_at 0 p)) (way_flips n ys (way_over n xs (frame_at 0 p))))
+      ∙ ap (λ f. joined (joined p.flips (way_flips n xs (frame_at 0 p))) (way_flips n ys f)) (sym (frame-passed n xs p))) i;
   coin = coins i;
   number = p.number;
 }

@@ -8,11 +8,10 @@ use Rattle.stab_pauli.specs.Paulis.{string_product}
 use Rattle.stab_items.specs.Items.{Items, done, next, block}
 use Rattle.stab_items.specs.Steps.{Step, steps_of, unroll}
 use Rattle.stab_frames.specs.Frames.{Frame}
-use Rattle.stab_frames.specs.FrameSteps.{frame_over}
 use Rattle.stab_frames.specs.inner.Touches.{acts}
 use Rattle.stab_ways.specs.declared.way.PlacedLetter.{PlacedLetter}
 use Rattle.stab_ways.specs.declared.way.Turn.{Turn as TurnValue}
-use Rattle.stab_ways.specs.PutIn.{by_letters, frame_begun}
+use Rattle.stab_ways.specs.PutIn.{frame_begun, way_over}
 
 -- the instructions as they are carried out, each by its steps, those of a block as often as it counts
 abbrev pub part_rounds : ℕ → List (List Step) → List (List Step)
@@ -54,7 +53,7 @@ turned t old new = if differ old new then record { after = t; string = placed 0 
 abbrev pub turns : ℕ → ℕ → Frame → List (List Step) → List Turn
 turns n t f [] = []
 turns n t f (ys ∷ parts) =
-    turned (t + length ys) f.letters (frame_over n by_letters ys 0 f).letters ++ turns n (t + length ys) (frame_over n by_letters ys 0 f) parts
+    turned (t + length ys) f.letters (way_over n ys f).letters ++ turns n (t + length ys) (way_over n ys f) parts
 
 -- the same of a string that is put in after k steps of a circuit
 abbrev pub string_turns : ℕ → ℕ → List Letter → Items → List Turn

@@ -3,11 +3,12 @@
 //! - `laws`: what runs show of it; each function does nothing, and its contract is a law.
 //! - `way`: where a string becomes another one, and the frame at the end.
 //! - `strings`: letters of strings with their qubits, and whether strings differ.
+//! - `resets`: what resets leave of a string.
 //! - `walk`: a string on its way over instructions. `rounds`: over items, and rounds of blocks.
 //! - `whole`: the call.
 //!
 //! `specs/PutIn` says what a string becomes and flips, `specs/Ways` where it becomes another one, `specs/Laws` what that
-//! means for runs. A measurement that anticommutes with the string is flipped, whether its outcome is random
+//! means for runs. A reset leaves no letter on its qubit. A measurement that anticommutes with the string is flipped, whether its outcome is random
 //! or not. So the answer depends on the text alone, and no run is made.
 //!
 //! Source: Pauli frames, as in C. Gidney, Stim: a fast stabilizer circuit simulator (2021). That the coins of random outcomes that
@@ -18,11 +19,13 @@
 #![tactic(auto)]
 
 pub mod laws;
+mod resets;
 mod rounds;
 mod strings;
 mod walk;
 mod way;
 mod whole;
 
+pub use strings::placed;
 pub use way::{PlacedLetter, Turn, Way};
 pub use whole::way_of;

@@ -23,7 +23,7 @@ pub(crate) fn differ(old: &[Letter], new: &[Letter]) -> bool
 }
 
 /// The letters of a string that are not I, by qubit.
-pub(crate) fn placed(alloc: Global, letters: &[Letter]) -> Result<Vec<PlacedLetter>, AllocError>
+pub fn placed(alloc: Global, letters: &[Letter]) -> Result<Vec<PlacedLetter>, AllocError>
     ensures value { IfOk result (λ v. v.items ≡ placed_from 0 letters.now) }
 {
     let mut found = Vec::new(alloc);

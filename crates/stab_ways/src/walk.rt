@@ -1,12 +1,15 @@
 //! A string on its way over the instructions of a circuit.
 
-ghost use Rattle.std.specs.Prelude.{◌≡◌, ◌+◌, ◌-◌, ◌^◌, ◌<◌, ◌≤◌, [], None, Some, All, length, take, drop, map, ◌++◌, OnOk};
+ghost use Rattle.std.specs.Prelude.{◌≡◌, ℕ, true, ◌+◌, ◌-◌, ◌^◌, ◌<◌, ◌≤◌, [], None, Some, All, length, take, drop, map, ◌++◌, OnOk};
 ghost use Rattle.stab_items.specs.Steps.{steps_of, most_steps};
 ghost use Rattle.stab_run.specs.ProgramStates.{StepFits};
 ghost use Rattle.stab_frames.specs.Propagations.{IsPlaced};
+ghost use Rattle.stab_frames.specs.Frames.{Frame};
+ghost use Rattle.stab_ways.specs.PutIn.{way_over};
 ghost use Rattle.stab_ways.specs.Ways.{turned, turn_shown};
 ghost use Rattle.stab_ways.specs.inner.Walks.{passed, told, put_in as put_in_of, past_steps as past_of, over_part, ended, walk_shown, IsWalk};
 
+use crate::resets::{at_once, leave_out_reset};
 use crate::strings::{differ, placed};
 use crate::way::Turn;
 use stab_frames::{Known, Pivots, Propagation, SameCoins, propagate_instruction};
@@ -61,7 +64,9 @@ fn pass(
         let Some(steps) = steps_from(kind, place, to - place) else {
             return Ok(());
         };
-        let went = propagate_instruction(propagation, known, &mut none, steps, framed)?;
+        let front = at_once(propagation.letters(), steps);
+        let went = propagate_instruction(propagation, known, &mut none, front, framed)?;
+        leave_out_reset(propagation, front);
         place += went;
     }
     Ok(())
@@ -106,6 +111,17 @@ fn tell(
     Ok(())
 }
 
+/// Whether no step of an instruction changes a string.
+fn keeps_strings(kind: &Kind) -> bool
+    ensures keeps { result ≡ true → (n j k : ℕ) (f : Frame) → (way_over n (take j (drop k (steps_of kind.now))) f).letters ≡ f.letters }
+{
+    match kind {
+        Kind::Detector(_) => true,
+        Kind::ObservableInclude(_, _) => true,
+        _ => false,
+    }
+}
+
 /// Passes the steps of an instruction from one on, and notes the string if it is another one after them.
 fn tell_steps(
     alloc: Global,
@@ -122,6 +138,11 @@ fn tell_steps(
     ensures walks { OnOk result (IsWalk (length walk.old.propagation.letters) walk.new) }
     ensures told { OnOk result (walk_shown walk.new ≡ told (length walk.old.propagation.letters) (take (to - from) (drop from (steps_of kind.now))) (walk_shown walk.old)) }
 {
+    // Most instructions of a circuit are detectors, and then no letters need to be compared.
+    if keeps_strings(kind) {
+        past_steps(walk, kind, from, to)?;
+        return Ok(());
+    }
     let before = Vec::from_slice(alloc, walk.propagation.letters())?;
     past_steps(walk, kind, from, to)?;
     tell(

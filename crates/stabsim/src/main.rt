@@ -231,13 +231,13 @@ fn run_on<E: Output>(
 /// Whether a command reports how far its search is.
 fn shows_progress(command: Command) -> bool {
     match command {
-        Command::Distance(options) => options.progress,
+        Command::Distance(options) | Command::CountedDistance(options) => options.progress,
         _ => false,
     }
 }
 
-/// Whether a command looked at marked places alone, and shows that there are none: `distance` by a search over no
-/// errors, also for each observable, and its table and `faults` by no byte, except in the format b8, in which a fault may be of no byte.
+/// Whether a command looked at marked places alone, and shows that there are none: `distance` by the number of errors that it searches or
+/// writes, and `faults` by no byte, except in the format b8, in which a fault may be of no byte.
 fn is_on_no_marks(command: Command, is_over_nothing: bool, is_empty: bool) -> bool {
     match command {
         Command::Faults {
@@ -245,10 +245,10 @@ fn is_on_no_marks(command: Command, is_over_nothing: bool, is_empty: bool) -> bo
             everywhere,
             ..
         } => is_empty && !everywhere && layout != FaultLayout::Shots(Format::B8),
-        Command::Distance(options) | Command::EachDistance(options) => {
-            is_over_nothing && !options.everywhere
-        }
-        Command::SearchedErrors { options, .. } => is_empty && !options.everywhere,
+        Command::Distance(options)
+        | Command::CountedDistance(options)
+        | Command::EachDistance(options)
+        | Command::SearchedErrors { options, .. } => is_over_nothing && !options.everywhere,
         _ => false,
     }
 }
@@ -257,6 +257,7 @@ fn is_on_no_marks(command: Command, is_over_nothing: bool, is_empty: bool) -> bo
 fn no_marks(command: Command) -> &'static str {
     match command {
         Command::Distance(options)
+        | Command::CountedDistance(options)
         | Command::EachDistance(options)
         | Command::SearchedErrors { options, .. } => match options.letters {
             ErrorLetters::XAndZ => NO_LETTERS,

@@ -37,6 +37,7 @@ const JOBS: &str =
 stabsim detect|Detect { format: F01, shots: Shots { first: 0, number: 1 }, append: false } Seed(0) None None
 stabsim sample --shots 12 --out_format dets --seed 34 --in a.stim --out b/c.dets|Sample { format: Dets, shots: Shots { first: 0, number: 12 } } Seed(34) Some("a.stim") Some("b/c.dets")
 stabsim detect --out b/c.dets --append_observables --in=a.stim --seed=34 --out_format=dets --shots=12|Detect { format: Dets, shots: Shots { first: 0, number: 12 }, append: true } Seed(34) Some("a.stim") Some("b/c.dets")
+stabsim propagate --at 3/0 X0*Z1 --in a.stim|Propagate Seed(0) Some("a.stim") None
 stabsim sample --first_shot 5 --shots=2|Sample { format: F01, shots: Shots { first: 5, number: 2 } } Seed(0) None None
 stabsim detect --first_shot=18446744073709551615|Detect { format: F01, shots: Shots { first: 18446744073709551615, number: 1 }, append: false } Seed(0) None None
 stabsim sample --out_format 01|Sample { format: F01, shots: Shots { first: 0, number: 1 } } Seed(0) None None
@@ -92,6 +93,7 @@ stabsim distance --observable 4095|Distance(DistanceOptions { everywhere: false,
 stabsim distance --each --most 3 --graphlike|EachDistance(DistanceOptions { everywhere: false, letters: All, graphlike: true, observable: None, most: Some(3), deterministic_only: false, progress: false }) Seed(0) None None
 stabsim distance --table --everywhere|SearchedErrors { layout: Table, options: DistanceOptions { everywhere: true, letters: All, graphlike: false, observable: None, most: None, deterministic_only: false, progress: false } } Seed(0) None None
 stabsim distance --wcnf --letters XZ|SearchedErrors { layout: Wcnf, options: DistanceOptions { everywhere: false, letters: XAndZ, graphlike: false, observable: None, most: None, deterministic_only: false, progress: false } } Seed(0) None None
+stabsim distance --count --observable 0 --most=9|CountedDistance(DistanceOptions { everywhere: false, letters: All, graphlike: false, observable: Some(0), most: Some(9), deterministic_only: false, progress: false }) Seed(0) None None
 stabsim distance --sure_only|Distance(DistanceOptions { everywhere: false, letters: All, graphlike: false, observable: None, most: None, deterministic_only: true, progress: false }) Seed(0) None None"#;
 
 #[test]

@@ -69,6 +69,14 @@ const CASES: &[Case] = &[
     ),
     ("MR 0\nM 0", 0, X0, &[(1, &[])], &[0], &[], &[], &[]),
     ("MR 0\nM 0", 1, X0, &[], &[1], &[], &[], X0),
+    // Also the letter that stabilises there, and what is left of Y: neither comes through.
+    ("R 0\nH 0\nM 0", 0, Z0, &[(1, &[])], &[], &[], &[], &[]),
+    ("R 0\nH 0\nM 0", 0, Y0, &[(1, &[])], &[], &[], &[], &[]),
+    ("MR 0\nH 0\nM 0", 0, Y0, &[(1, &[])], &[0], &[], &[], &[]),
+    ("MR 0\nM 0", 0, Z0, &[(1, &[])], &[], &[], &[], &[]),
+    // A second measurement of the qubit finds it reset, also if others are between them.
+    ("MR 0 0 1 0", 0, Y0, &[(4, &[])], &[0], &[], &[], &[]),
+    ("MR 1 1 0 1 0", 0, X0, &[(5, &[])], &[2], &[], &[], &[]),
     // Z anticommutes with X X, and commutes with Z Z.
     ("MPP X0*X1 Z0*Z1", 0, Z0, &[], &[0], &[], &[], Z0),
     // A flipped record puts X on another qubit, where its own measurement shows it.

@@ -17,8 +17,8 @@ from stabsim.circuit.detecting import regions_by_name
 from stabsim.diagrams import Diagram, Kind, Ticks, diagram_of, model_diagram, ticks_of_detectors
 from stabsim.errors import Refused, UnsupportedNoise
 from stabsim.formats import bits
-from stabsim.noise import noisy_shots
 from stabsim.noise.models import ErrorModel, error_model
+from stabsim.noise.noisy_records import RecordNoise, record_noise_of
 from stabsim.questions.coins import CoinTable
 from stabsim.questions.distances import Distance, Letters
 from stabsim.questions.faults import FaultTable
@@ -182,14 +182,19 @@ class Circuit(Described):
         except UnsupportedNoise:
             return error_model(self, approximate_disjoint_errors=True)
 
+    @functools.cached_property
+    def record_noise(self) -> RecordNoise:
+        """What the noise flips among records."""
+        return record_noise_of(self.profile)
+
     # Shots.
 
     def packed(self, what: shot_parts.What, width: int, shots: int, seed: int, first_shot: int, executor: Executor | None,
                parts: int) -> NDArray[np.uint8]:
-        """Shots of this many bits, packed: records with noise, which the program writes shot by shot, and all else without it."""
-        if what == "sample" and self.noise:
-            return bits.packed(noisy_shots.records(self.noisy_items(), shots, seed, first_shot, executor))
-        return super().packed(what, width, shots, seed, first_shot, executor, parts)
+        """Shots of this many bits, packed: records with noise, and all else without it."""
+        shots, first_shot = chunks.checked(shots, first_shot)
+        quiet = super().packed(what, width, shots, seed, first_shot, executor, parts)
+        return quiet ^ self.record_noise.drawn(shots, seed, first_shot) if what == "sample" and self.noise else quiet
 
     def detected(self, both: bool, width: int, shots: int, seed: int, first_shot: int, executor: Executor | None, parts: int,
                  flips: bool) -> tuple[NDArray[np.uint8], Bits]:
@@ -224,7 +229,7 @@ class Circuit(Described):
                         coins=tuple(coin._replace(path=cut_path(coin.path, self.made)) for coin in bit.coins)) for bit in super().explain()]
 
     def distance(self, *, everywhere: bool = False, letters: Letters = "all", most: int | None = None, graphlike: bool = False,
-                 sure_only: bool = False) -> Distance:
+                 sure_only: bool = False, count: bool = False) -> Distance:
         """The least number of errors that flip an observable and no detector: exact, for any circuit.
 
         Of a circuit with noise, errors are those of the noise: `ErrorModel.distance`, for which chances don't count, so disjoint errors are
@@ -232,24 +237,27 @@ class Circuit(Described):
         alone, and I[pairs] all fifteen products on each pair of its targets. With everywhere they are those of circuit-level noise,
         whatever the circuit has: after gates and resets, before measurements, and each record wrong by itself. letters: with XZ only
         errors of X alone and of Z alone, of marks or everywhere. most: the most errors that are looked for. graphlike: only errors that
-        flip at most two detectors, after any other gave way to the X and the Z at each of its qubits, which takes less time. Raises
-        stabsim.Refused, 18 NotDeterministic, as `faults` does; with sure_only random bits are left out.
+        flip at most two detectors, after any other gave way to the X and the Z at each of its qubits, which takes less time. count:
+        `Distance.count` says how many such sets there are, which takes longer the more there are. Raises stabsim.Refused,
+        18 NotDeterministic, as `faults` does; with sure_only random bits are left out.
 
         >>> import stabsim
         >>> c = stabsim.Circuit("R 0 1 2\\nI[X] 0 1 2\\nMPP Z0*Z1 Z1*Z2\\nDETECTOR rec[-1]\\nDETECTOR rec[-2]\\nM 0\\nOBSERVABLE_INCLUDE(0) rec[-1]")
         >>> print(c.distance(), c.distance(most=2), sep="; ")
         distance 3 of all marked errors; none up to 2 of all marked errors
+        >>> c.distance(count=True).count, c.distance(most=2, count=True).count
+        (1, 0)
         >>> c = stabsim.Circuit("R 0 1\\nX_ERROR(0.1) 0 1\\nM 0\\nM(0.1) 1\\nDETECTOR rec[-1] rec[-2]\\nOBSERVABLE_INCLUDE(0) rec[-1]")
         >>> [f"{error} of item {error.path}" for error in c.distance().errors]
         ['X0 of item 1', 'X1 of item 1']
         """
         if everywhere or not self.noise:
-            found = super().distance(everywhere=everywhere, letters=letters, most=most, graphlike=graphlike, sure_only=sure_only)
+            found = super().distance(everywhere=everywhere, letters=letters, most=most, graphlike=graphlike, sure_only=sure_only, count=count)
             return replace(found, errors=tuple(replace(error, path=cut_path(error.path, self.made)) for error in found.errors))
         if letters != "all":
             checking.one_of("letters", letters, get_args(Letters))
             raise ValueError(f"letters is {letters!r}: give everywhere=True with it, since errors here are those of the noise")
-        return error_model(self, approximate_disjoint_errors=True, sure_only=sure_only).distance(most=most, graphlike=graphlike)
+        return error_model(self, approximate_disjoint_errors=True, sure_only=sure_only).distance(most=most, graphlike=graphlike, count=count)
 
     def diagram(self, kind: Kind, *, tick: Ticks | None = None, detectors: Iterable[int | str] | None = None) -> Diagram:
         """A picture, which a notebook shows and `save` writes as SVG, in light and dark colours.

@@ -9,9 +9,8 @@ from stabsim.diagrams.marks import marks_of
 from stabsim.diagrams.numbering import Numbering
 from stabsim.diagrams.shapes import table
 from stabsim.diagrams.targets import Action, actions_of
-from stabsim.noise.noisy_shots import without_channels
 from stabsim.text import names
-from stabsim.text.reading import Block, Instruction, Item
+from stabsim.text.reading import Block, Instruction, Item, without
 from stabsim.text.sizes import observable_of, sizes_of
 
 ROW, COLUMN, SIDE = 44.0, 40.0, 26.0
@@ -61,14 +60,14 @@ class Timeline:
                 now = self.block(item, now)
             else:
                 self.instruction(item, now)
-                now = now.behind(sizes_of(without_channels((item,))), 1)
+                now = now.behind(sizes_of(without((item,), names.NOISE)), 1)
         return now
 
     def block(self, block: Block, now: Numbering) -> Numbering:
         """Draws one round of a block, in a frame."""
         self.end_part()
         left, self.x = self.x, self.x + FRAME
-        once = sizes_of(without_channels(block.items))
+        once = sizes_of(without(block.items, names.NOISE))
         self.items(block.items, now.within(once, block.repeat))
         self.end_part()
         words = f"REPEAT {block.repeat}" + (f", round {now.letter}" if block.repeat > 1 else "")

@@ -44,6 +44,17 @@ def packed(shots: NDArray[np.bool_]) -> NDArray[np.uint8]:
     return np.packbits(shots, axis=1, bitorder="little")
 
 
+def transposed(packed: NDArray[np.uint8]) -> NDArray[np.uint8]:
+    """Packed rows, uint8 (8 rows, columns), as packed columns, uint8 (8 columns, rows): eight bytes of eight rows are turned at once, bit
+    by bit, pair by pair, and four by four."""
+    rows, columns = packed.shape[0] // 8, packed.shape[1]
+    words = np.ascontiguousarray(packed.reshape(rows, 8, columns).transpose(2, 0, 1)).view("<u8")[..., 0]
+    for shift, mask in ((7, 0x00AA00AA00AA00AA), (14, 0x0000CCCC0000CCCC), (28, 0x00000000F0F0F0F0)):
+        turned = (words ^ words >> np.uint64(shift)) & np.uint64(mask)
+        words = words ^ turned ^ turned << np.uint64(shift)
+    return np.ascontiguousarray(words[..., None].view(np.uint8).transpose(0, 2, 1)).reshape(8 * columns, rows)
+
+
 def table_of(shots: NDArray[np.bool_] | NDArray[np.uint8], bits: int, name: str) -> NDArray[np.bool_]:
     """Shots that a user gave by this name, as a bool array (shots, bits): they are one, or they are packed, uint8."""
     if not isinstance(shots, np.ndarray):

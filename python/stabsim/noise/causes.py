@@ -1,18 +1,23 @@
 """Which part of a circuit's noise makes a mechanism of its error model."""
 
 import functools
+import re
 from dataclasses import dataclass, replace
 from typing import NamedTuple
 
 import numpy as np
 from numpy.typing import NDArray
 
-from stabsim.formats.combining import starts_of
+from stabsim.formats.combining import Chances, Numbers, starts_of
 from stabsim.noise.marking import Source
 from stabsim.noise.placing import placed
 from stabsim.questions.circuit_errors import CircuitError
+from stabsim.text.names import FED_BACK
 from stabsim.text.profile import profile_of
 from stabsim.text.reading import Item, items_of, walk
+
+# A line whose gate a record may control.
+CONTROLLED = re.compile(rf"\n[ \t]*(?:{'|'.join(FED_BACK)})\b[^\n]*")
 
 
 class Cause(NamedTuple):
@@ -56,6 +61,26 @@ class Causes:
         """For each line of an item of the user's the path of that."""
         return {item.line: item.path for item in walk(items_of(self.text))}
 
+    @functools.cached_property
+    def firsts(self) -> Numbers:
+        """The first error of each source, and how many there are of all, int64 (sources + 1,)."""
+        return starts_of(np.array([source.times() for source in self.sources], dtype=np.int64))
+
+    @functools.cached_property
+    def is_fed_back(self) -> bool:
+        """Whether records control gates in the circuit."""
+        return is_fed_back(self.text)
+
+    @functools.cached_property
+    def lines(self) -> list[str]:
+        """The lines of the circuit's text."""
+        return self.text.split("\n")
+
+    def chances_of(self, errors: Numbers) -> Chances:
+        """The chances of errors with these numbers."""
+        found: Chances = np.array([source.chance for source in self.sources])[np.searchsorted(self.firsts, errors, side="right") - 1]
+        return found
+
     def renumbered(self, mechanisms: NDArray[np.int64]) -> "Causes":
         """The same of a model that has mechanisms of other numbers, which are given for each."""
         return replace(self, mechanisms=np.where(self.mechanisms < 0, -1, mechanisms[self.mechanisms]).astype(np.int32))
@@ -73,15 +98,19 @@ class Causes:
 
     def times_of(self, mechanism: int) -> list[tuple[Source, list[int], int]]:
         """The errors that make a mechanism: of which source, in which rounds of the blocks around it, and which of its times in these."""
-        firsts = starts_of(np.array([source.times() for source in self.sources], dtype=np.int64))
         errors = np.flatnonzero(self.mechanisms == mechanism)
         found = []
-        for error, number in zip(errors.tolist(), (np.searchsorted(firsts, errors, side="right") - 1).tolist()):
+        for error, number in zip(errors.tolist(), (np.searchsorted(self.firsts, errors, side="right") - 1).tolist()):
             source = self.sources[number]
             shape = (*(count for count, _ in reversed(source.blocks)), len(source.marks))
-            *rounds, at = map(int, np.unravel_index(error - int(firsts[number]), shape))
+            *rounds, at = map(int, np.unravel_index(error - int(self.firsts[number]), shape))
             found.append((source, rounds, at))
         return found
+
+
+def is_fed_back(text: str) -> bool:
+    """Whether records control gates in a text."""
+    return any("rec[" in found[0] for found in CONTROLLED.finditer(f"\n{text}"))
 
 
 def cause_of(source: Source, rounds: list[int], at: int) -> Cause:

@@ -3,7 +3,7 @@
 import functools
 import re
 from collections.abc import Sequence
-from dataclasses import dataclass
+from dataclasses import dataclass, replace
 from typing import NamedTuple
 
 from stabsim.text import names
@@ -24,11 +24,24 @@ OBSERVABLE = re.compile(r"OBSERVABLE_INCLUDE[^(]*\(\s*(\d+)")
 
 @dataclass(frozen=True)
 class Change:
-    """Which lines of a text are others: from `first` on there were `old`, and now there are `new`, each with spacing around it."""
+    """Which lines of a text are others: from `first` on there were `old`, and now there are `new`, each with spacing around it; before, after:
+    all lines there were, and all there are."""
 
     first: int
     old: Sequence[str]
     new: Sequence[str]
+    before: Sequence[str]
+    after: Sequence[str]
+
+    @property
+    def above(self) -> Sequence[str]:
+        """The lines in front of these."""
+        return self.after[: self.first]
+
+    @property
+    def below(self) -> Sequence[str]:
+        """The lines after them."""
+        return self.after[self.first + len(self.new) :]
 
 
 class Counts(NamedTuple):
@@ -81,13 +94,12 @@ def quiet_lines(lines: Sequence[str]) -> list[str]:
     return [it for line in lines for it in quiet(line)]
 
 
-def change_of(before: str, after: str) -> Change:
+def change_of(old: Sequence[str], new: Sequence[str]) -> Change:
     """The lines that changed, from the first one to the last."""
-    old, new = before.split("\n"), after.split("\n")
     least = min(len(old), len(new))
     first = next((place for place in range(least) if old[place] != new[place]), least)
     last = next((place for place in range(least - first) if old[-1 - place] != new[-1 - place]), least - first)
-    return Change(first, old[first : len(old) - last], new[first : len(new) - last])
+    return Change(first, old[first : len(old) - last], new[first : len(new) - last], old, new)
 
 
 def is_of_no_region(change: Change) -> bool:
@@ -97,13 +109,13 @@ def is_of_no_region(change: Change) -> bool:
     return quiet_lines(change.old) == quiet_lines(change.new)
 
 
-def with_blocks(change: Change, before: str) -> Change:
-    """The change with all of the outermost block that it begins in, and of that in which it ends; before: the text before it."""
-    lines = before.split("\n")
+def with_blocks(change: Change) -> Change:
+    """The change with all of the outermost block that it begins in, and of that in which it ends."""
+    lines = change.before
     first = list_begin(lines, change.first)
     end = list_end(lines, change.first + len(change.old))
     above, below = lines[first : change.first], lines[change.first + len(change.old) : end]
-    return Change(first, [*above, *change.old, *below], [*above, *change.new, *below])
+    return replace(change, first=first, old=[*above, *change.old, *below], new=[*above, *change.new, *below])
 
 
 def list_begin(lines: Sequence[str], place: int) -> int:
@@ -133,13 +145,13 @@ def list_end(lines: Sequence[str], place: int) -> int:
 def blocks_around(lines: Sequence[str]) -> list[int]:
     """How many rounds each block has that is open after some lines, the outermost first."""
     opened: list[int] = []
-    for line in lines:
-        if line.endswith("{"):
+    for line in [line for line in lines if line.endswith(("{", "}"))]:
+        if line.endswith("}"):
+            opened.pop()
+        else:
             parts = parts_of(content_of(line))
             assert parts, "a block has a count"
             opened.append(int(parts.targets[0]))
-        elif line.endswith("}"):
-            opened.pop()
     return opened
 
 
@@ -148,8 +160,7 @@ def counts_of(lines: Sequence[str]) -> Counts:
     if any(line.endswith("{") for line in lines):
         sizes = sizes_of(items_of("\n".join(lines)))
         return Counts(sizes.records, sizes.detectors)
-    found = list(map(counts_of_line, lines))
-    return Counts(sum(records for records, _ in found), sum(detectors for _, detectors in found))
+    return Counts(sum(records_of_line(line) for line in lines if line.startswith("M")), sum(line.startswith("DETECTOR") for line in lines))
 
 
 def counts_of_line(line: str) -> Counts:

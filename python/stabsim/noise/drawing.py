@@ -52,6 +52,14 @@ def blocks_of(shots: int, seed: int, first_shot: int) -> range:
     return range(first_shot // BLOCK, -(-(first_shot + shots) // BLOCK))
 
 
+def parts_of_shots(shots: int, first_shot: int, most: int) -> Iterator[tuple[int, int]]:
+    """The first of each part of some shots, and how many it has: parts end at multiples of some number."""
+    end = first_shot + shots
+    for block in range(first_shot // most, -(-end // most)):
+        first = max(first_shot, block * most)
+        yield first, min(end, (block + 1) * most) - first
+
+
 def words_of(seed: int, block: int, stream: int) -> np.random.Philox:
     """A stream of random words of a block."""
     return np.random.Philox(key=seed, counter=[0, 0, block, stream])

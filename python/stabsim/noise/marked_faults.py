@@ -31,10 +31,16 @@ def faults_of(profile: Profile, approximate: bool, sure_only: bool, basis: Basis
     try:
         return circuit, table_with_gauges(circuit.text, basis) if basis else Asked(circuit.text).faults(sure_only=sure_only)
     except Refused as refused:
-        # Its places are those of the text with marks. What a coin decides is refused of the judged text too, by the user's items.
+        # Its places are those of the text with marks.
         if refused.name == "NotDeterministic":
-            try:
-                Asked(profile.judged.text).faults()
-            except Refused as again:
-                raise in_users_words(again, profile) from None
+            raise undetermined(profile) from None
         raise Refused(refused.number, refused.name, None, MARKS_COUNT if refused.name == "TooManySteps" else "") from None
+
+
+def undetermined(profile: Profile) -> Refused:
+    """The refusal of a circuit of which coins decide a detector or observable: as of the judged text, by the user's items."""
+    try:
+        Asked(profile.judged.text).faults()
+    except Refused as refused:
+        return in_users_words(refused, profile)
+    raise ValueError("no coin decides a bit of this circuit")

@@ -1,8 +1,8 @@
 """A circuit with noise as one without, in which `I` marks each qubit that an error may meet, and the channels on these marks."""
 
-import math
 from collections.abc import Iterator, Sequence
 from dataclasses import dataclass, replace
+from typing import NamedTuple
 
 import numpy as np
 from numpy.typing import NDArray
@@ -19,8 +19,7 @@ Marks = NDArray[np.int64]
 OTHER = {"X": "Z", "Y": "X", "Z": "X"}
 
 
-@dataclass(frozen=True)
-class Source:
+class Source(NamedTuple):
     """One independent error of one instruction, each time that it is met.
 
     letters: a Pauli for each of the marks of one time, as XI; chance: float; marks: int64 (times, len(letters)), the numbers of the
@@ -42,7 +41,10 @@ class Source:
 
     def times(self) -> int:
         """How often it is met in all rounds."""
-        return len(self.marks) * math.prod(rounds for rounds, _ in self.blocks)
+        times = len(self.marks)
+        for rounds, _ in self.blocks:
+            times *= rounds
+        return times
 
     def all_marks(self) -> Marks:
         """The marks of all rounds, int64 (times, len(letters)): as many as the circuit has steps, so it is judged before."""
@@ -92,7 +94,7 @@ class Marker:
         sources, end = self.items(block.items, first)
         self.lines.append("}")
         each = end - first
-        again = [replace(it, blocks=(*it.blocks, (block.repeat, each))) for it in sources]
+        again = [it._replace(blocks=(*it.blocks, (block.repeat, each))) for it in sources]
         return again, first + each * block.repeat
 
     def instruction(self, item: Instruction, first: int) -> tuple[list[Source], int]:
@@ -121,15 +123,17 @@ class Marker:
 
     def errors(self, item: Instruction) -> tuple[Errors, bool]:
         """The independent errors of a channel, and whether they are disjoint ones that are taken for such."""
-        chances = item.numbers()
+        chances, letters = item.numbers(), ONE if item.name.endswith("1") else TWO
         if item.name in FLIPS:
             return {FLIPS[item.name]: chances[0]}, False
         if item.name.startswith("DEPOLARIZE"):
             found = depolarising(chances[0], int(item.name[-1]))
-            if found is None:
+            if found is not None:
+                return found, False
+            if not self.approximate:
                 raise UnsupportedNoise(item.line, f"{item.name}({item.arguments[0]}) is stronger than full depolarising")
-            return found, False
-        return self.independent_of(dict(zip(ONE if item.name.endswith("1") else TWO, chances)), [item])
+            chances = [chances[0] / len(letters)] * len(letters)
+        return self.independent_of(dict(zip(letters, chances)), [item])
 
     def independent_of(self, disjoint: Errors, items: list[Instruction]) -> tuple[Errors, bool]:
         """The independent errors that make disjoint ones of some lines, or these themselves if they may be taken for such, and which it is."""
@@ -187,7 +191,7 @@ class Marker:
 def sources_of(errors: Errors, is_disjoint: bool, one: Source) -> list[Source]:
     """A source for each error that has a chance, which has all else of one that is given."""
     some = [(letters, chance) for letters, chance in errors.items() if chance]
-    return [replace(one, letters=letters, chance=chance, place=place if is_disjoint else None) for place, (letters, chance) in enumerate(some)]
+    return [one._replace(letters=letters, chance=chance, place=place if is_disjoint else None) for place, (letters, chance) in enumerate(some)]
 
 
 def joined(sources: list[Source]) -> list[Source]:
@@ -196,7 +200,7 @@ def joined(sources: list[Source]) -> list[Source]:
     for letters in sorted({source.letters for source in sources}):
         alike = [source for source in sources if source.letters == letters]
         targets = tuple(target for source in alike for target in source.targets)
-        found.append(replace(alike[0], marks=np.concatenate([source.marks for source in alike]), targets=targets))
+        found.append(alike[0]._replace(marks=np.concatenate([source.marks for source in alike]), targets=targets))
     return found
 
 

@@ -62,7 +62,7 @@ def sat_problem_of_model(model: "ErrorModel") -> str:
     return sat_problem([its.tolist() for its in flipping], len(numbers), model.num_detectors)
 
 
-def distance_of_model(model: "ErrorModel", most: int | None, graphlike: bool) -> Distance:
+def distance_of_model(model: "ErrorModel", most: int | None, graphlike: bool, count: bool) -> Distance:
     """The distance over the mechanisms that have a chance, or over their parts if the model is decomposed and graph-like errors are asked
     for: with the numbers of the mechanisms. Its errors are left to be placed."""
     numbers = np.flatnonzero(model.chances > 0)
@@ -75,7 +75,7 @@ def distance_of_model(model: "ErrorModel", most: int | None, graphlike: bool) ->
         rows, columns = rows_of(numbers, model.indptr, model.indices)
     flipping = flipping_of(rows, columns, model.num_detectors + model.num_observables)
     text = circuit_text(flipping, model.num_detectors, len(numbers))
-    found = distance_of(program.run(["distance", *option_words(most, graphlike)], text).decode())
+    found = distance_of(program.run(["distance", *option_words(most, graphlike, count)], text).decode())
     places = sorted((error.steps - STEPS_BEFORE) // STEPS_OF_EACH for error in found.errors)
     searched = PARTS if is_of_parts else "graph-like errors" if graphlike else "all errors"
     mechanisms = tuple(sorted(numbers[places].tolist())) if places else ()

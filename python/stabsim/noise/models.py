@@ -20,10 +20,9 @@ from stabsim.noise.disjoint import Noise, noise_of, together
 from stabsim.noise.marked_faults import faults_of, profile_of
 from stabsim.noise.marking import Marked
 from stabsim.noise.model_distance import distance_of_model, sat_problem_of_model
-from stabsim.noise.sourced import errors_of
+from stabsim.noise.sourced import Rows, errors_of
 from stabsim.questions.circuit_errors import CircuitError
 from stabsim.questions.distances import Distance
-from stabsim.questions.faults import FaultTable
 from stabsim.questions.gauges import gauges_of, with_gauges
 from stabsim.shots import chunks
 from stabsim.shots.seeds import SeededBits, SeededBytes, drawn_seed, seeded
@@ -193,11 +192,12 @@ class ErrorModel:
             raise ValueError("this model was read, and not made of a circuit, so what makes its mechanisms is not known")
         return self.causes.of(mechanism)
 
-    def distance(self, *, most: int | None = None, graphlike: bool = False) -> Distance:
+    def distance(self, *, most: int | None = None, graphlike: bool = False, count: bool = False) -> Distance:
         """The least number of mechanisms that flip an observable and together no detector, by the program: of those that have a chance,
         each counts as one error. `Distance.mechanisms` has their numbers; of a model that was made of a circuit, `Distance.errors` has
-        an error for each, with the path of its item of noise, and its step. most: as of `Circuit.distance`. graphlike: only mechanisms that
-        flip at most two detectors; of a decomposed model only such parts, as Stim does, each with the number of a mechanism that has it.
+        an error for each, with the path of its item of noise, and its step. most and count: as of `Circuit.distance`, of sets of mechanisms.
+        graphlike: only mechanisms that flip at most two detectors; of a decomposed model only such parts, as Stim does, each with the
+        number of a mechanism that has it.
 
         >>> import stabsim
         >>> c = stabsim.from_stim("R 0 1\\nX_ERROR(0.1) 0 1\\nM 0 1\\nDETECTOR rec[-1] rec[-2]\\nOBSERVABLE_INCLUDE(0) rec[-1]")
@@ -205,7 +205,7 @@ class ErrorModel:
         >>> print(found, found.mechanisms, [(str(error), error.steps) for error in found.errors])
         distance 2 of all errors (0, 1) [('X0', 2), ('X1', 2)]
         """
-        found = distance_of_model(self, most, graphlike)
+        found = distance_of_model(self, most, graphlike, count)
         if self.causes is None or not all(self.causes.of(it) for it in found.mechanisms):
             # It was read, or a coin makes one.
             return found
@@ -343,10 +343,10 @@ def error_model(circuit: "str | Circuit", *, decompose: bool = False, ignore_dec
 
     decompose: name for each mechanism that flips more than two detectors others that flip the same together, for decoders by
     matching; stabsim.NotDecomposed names one that has none, or with ignore_decomposition_failures it stays whole.
-    approximate_disjoint_errors: if a PAULI_CHANNEL, heralded errors, or E with ELSE_CORRELATED_ERROR, are no product of independent errors,
-    take the disjoint errors for such; the model names these lines, and `collect` draws their shots as they are. sure_only: leave out
-    detectors and observables that coins decide, which else are refused. allow_gauge_detectors: take what coins flip, if that is detectors
-    alone, for errors of chance a half.
+    approximate_disjoint_errors: if a PAULI_CHANNEL, heralded errors, E with ELSE_CORRELATED_ERROR, or depolarising that is more than full,
+    are no product of independent errors, take the disjoint errors for such; the model names these lines, and `collect` draws their shots
+    as they are. sure_only: leave out detectors and observables that coins decide, which else are refused. allow_gauge_detectors: take what
+    coins flip, if that is detectors alone, for errors of chance a half.
 
     >>> import stabsim
     >>> print(stabsim.error_model("R 0\\nX_ERROR(0.25) 0\\nM 0\\nDETECTOR(1) rec[-1]\\n").dem, end="")
@@ -368,7 +368,7 @@ def decomposed(model: ErrorModel, ignore_failures: bool) -> ErrorModel:
     return replace(model, parts=Parts.of_mechanisms(numbered, model.indptr, model.indices))
 
 
-def model_of(circuit: Marked, table: FaultTable, coordinates: NDArray[np.float64], profile: Profile) -> ErrorModel:
+def model_of(circuit: Marked, table: Rows, coordinates: NDArray[np.float64], profile: Profile) -> ErrorModel:
     """The model of a marked circuit, whose table of faults has X and Z of each mark, one after the other, and which was made of a profile."""
     parts = [errors_of(source, table) for source in circuit.sources]
     firsts = combining.starts_of(np.array([len(chances) for chances, _, _ in parts], dtype=np.int64))

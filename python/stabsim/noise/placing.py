@@ -4,10 +4,9 @@ from collections.abc import Sequence
 from dataclasses import replace
 
 from stabsim.noise.marking import Source, paulis_of
-from stabsim.noise.noisy_shots import without_channels
 from stabsim.questions.circuit_errors import CircuitError
-from stabsim.text.names import FIRST
-from stabsim.text.reading import Block, Instruction, Item
+from stabsim.text.names import FIRST, NOISE
+from stabsim.text.reading import Block, Instruction, Item, without
 from stabsim.text.sizes import total
 
 
@@ -20,13 +19,13 @@ def placed(items: Sequence[Item], source: Source, rounds: Sequence[int], at: int
     for item in items:
         if isinstance(item, Block) and item.line < source.line < item.end:
             inner = placed(item.items, source, rounds[1:], at)
-            steps += rounds[0] * total(without_channels(item.items), False)
-            records += rounds[0] * total(without_channels(item.items), True)
+            steps += rounds[0] * total(without(item.items, NOISE), False)
+            records += rounds[0] * total(without(item.items, NOISE), True)
             record = None if inner.record is None else records + inner.record
             return replace(inner, steps=steps + inner.steps, path=f"{place}/{inner.path}", record=record)
         if isinstance(item, Instruction) and is_of(item, source):
             return at_item(item, source, at, CircuitError(steps, str(place), record=records))
-        quiet = list(without_channels([item]))
+        quiet = list(without([item], NOISE))
         steps, records, place = steps + total(quiet, False), records + total(quiet, True), place + len(quiet)
     raise ValueError(f"there is no noise in line {source.line}")
 

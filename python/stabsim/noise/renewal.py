@@ -7,7 +7,7 @@ from typing import TYPE_CHECKING
 
 import numpy as np
 
-from stabsim.formats.combining import Chances, Numbers, odd_chances, rows_of, starts_of
+from stabsim.formats.combining import Numbers, odd_chances, rows_of, starts_of
 from stabsim.noise.causes import Causes
 from stabsim.noise.marking import Source
 
@@ -65,30 +65,24 @@ class Renewal:
         begins = np.flatnonzero(np.diff(mechanisms[errors], prepend=-1))
         chances = np.append(model.chances, np.zeros(len(self.indptr)))
         chances[is_renewed[:-1]] = -1.0
-        chances[mechanisms[errors[begins]]] = odd_chances(chances_at(sources, errors), begins)
+        causes = Causes(tuple(sources), mechanisms.astype(np.int32), text)
+        chances[mechanisms[errors[begins]]] = odd_chances(causes.chances_of(errors), begins)
         # New rows go where they are in the order of what is flipped; mechanisms that no error makes any more go.
         order = np.insert(np.arange(len(model)), self.places, np.arange(len(model), count))
         order = order[chances[order] >= 0]
         if len(order) == len(model) == count:
-            return replace(model, chances=chances, causes=Causes(tuple(sources), mechanisms.astype(np.int32), text))
+            return replace(model, chances=chances, causes=causes)
         rank = np.full(count + 1, -1, dtype=np.int32)
         rank[order] = np.arange(len(order))
         indptr = np.append(model.indptr, model.indptr[-1] + self.indptr)
         _, indices = rows_of(order, indptr, np.append(model.indices, self.indices))
-        return replace(model, chances=chances[order], causes=Causes(tuple(sources), rank[mechanisms], text),
+        return replace(model, chances=chances[order], causes=replace(causes, mechanisms=rank[mechanisms]),
                        indptr=starts_of(indptr[order + 1] - indptr[order]), indices=indices)
-
-
-def chances_at(sources: Sequence[Source], errors: Numbers) -> Chances:
-    """The chances of errors with these numbers among all of sources."""
-    firsts = starts_of(np.array([source.times() for source in sources], dtype=np.int64))
-    found: Chances = np.array([source.chance for source in sources], dtype=np.float64)[np.searchsorted(firsts, errors, side="right") - 1]
-    return found
 
 
 def moved_by(sources: Sequence[Source], lines: int) -> Sequence[Source]:
     """Sources that are this many lines further down."""
-    return [replace(source, line=source.line + lines) for source in sources] if lines else sources
+    return [source._replace(line=source.line + lines) for source in sources] if lines else sources
 
 
 def rows_as_tuples(indptr: Numbers, indices: Numbers) -> list[Row]:

@@ -10,29 +10,27 @@ The program is asked for the errors of the lines that changed, which alone are m
 errors make or made which flip something else.
 """
 
-import re
 from collections.abc import Sequence
 from typing import TYPE_CHECKING
 
 import numpy as np
 
 from stabsim.errors import Refused, UnsupportedNoise
-from stabsim.formats.combining import Numbers, starts_of
-from stabsim.noise.causes import Causes
+from stabsim.formats.combining import Numbers
+from stabsim.noise.causes import Causes, is_fed_back
 from stabsim.noise.changed_lines import CHAINED, Change, blocks_around, change_of, is_of_no_region, noisy_items, quiet_lines
 from stabsim.noise.flipped import Flipped, rows_of_errors
+from stabsim.noise.marked_faults import undetermined
 from stabsim.noise.marking import Marker, Source
 from stabsim.noise.renewal import NONE, Renewal, moved_by
 from stabsim.noise.renewing_circuit import renewed_circuit
 from stabsim.noise.renewing_rounds import in_blocks, renewed_in_rounds
+from stabsim.text.judging import judged
 from stabsim.text.reading import Line
 from stabsim.text.rewriting import WrongWord
 
 if TYPE_CHECKING:
     from stabsim.noise.models import ErrorModel
-
-CONTROLLED_BY_RECORD = re.compile(r"^[ \t]*(?:CX|CY|CZ|XCZ|YCZ)\b[^\n]*rec\[", re.MULTILINE)
-
 
 def renewed(model: "ErrorModel", text: str, sure_only: bool, qubits: int | None = None) -> "ErrorModel | None":
     """The model of a text, from that of the text before edits; None if that is not seen, or if disjoint errors are taken for independent
@@ -41,17 +39,21 @@ def renewed(model: "ErrorModel", text: str, sure_only: bool, qubits: int | None 
     if causes is None or model.approximated or model.parts is not None or CHAINED in text or CHAINED in causes.text:
         return None
     try:
-        change = change_of(causes.text, text)
+        change = change_of(causes.lines, text.split("\n"))
         if is_of_no_region(change):
             return after_change(model, causes, change, text, sure_only)
         # Which detectors coins decided before is not known of a model that leaves them out.
-        if not qubits or sure_only or CONTROLLED_BY_RECORD.search(text) or CONTROLLED_BY_RECORD.search(causes.text):
+        if not qubits or sure_only or causes.is_fed_back or is_fed_back("\n".join(change.new)):
             return None
         found = renewed_in_rounds(model, causes, change, text, qubits)
         return renewed_circuit(model, causes, change, text, qubits) if found is None else found
-    except (ValueError, WrongWord, Refused, UnsupportedNoise):
-        # It is said of the whole text.
-        return None
+    except Refused as refused:
+        # It is said of the whole text; of a circuit that coins decide by what the program said.
+        if refused.name == "NotDeterministic":
+            raise undetermined(judged(text)) from None
+    except (ValueError, WrongWord, UnsupportedNoise):
+        pass
+    return None
 
 
 def after_change(model: "ErrorModel", causes: Causes, change: Change, text: str, sure_only: bool) -> "ErrorModel | None":
@@ -60,18 +62,17 @@ def after_change(model: "ErrorModel", causes: Causes, change: Change, text: str,
     begin, end = np.searchsorted(lines, [change.first, change.first + len(change.old)]).tolist()
     marker = Marker(False)
     items, each = marker.items(noisy_items(change.new, change.first + 1), 0)
-    opened = blocks_around(text.split("\n")[: change.first])
+    opened = blocks_around(change.above)
     sources = [in_blocks(source, opened, each) for source in items]
     moved = moved_by(causes.sources[end:], len(change.new) - len(change.old))
     old = causes.sources[begin:end]
-    firsts = starts_of(np.array([source.times() for source in causes.sources], dtype=np.int64))
-    start, stop = int(firsts[begin]), int(firsts[end])
+    start, stop = int(causes.firsts[begin]), int(causes.firsts[end])
     gone = causes.mechanisms[start:stop].astype(np.int64)
     renewal: Renewal | None
     if are_alike(change) and [(its.letters, its.times()) for its in sources] == [(its.letters, its.times()) for its in old]:
         renewal = Renewal.of_known(model, gone)
     else:
-        renewal = Renewal.of_rows(model, *rows_of_sources(marker, sources, text, change, model, sure_only))
+        renewal = Renewal.of_rows(model, *rows_of_sources(marker, sources, change, model, sure_only))
     if renewal is None:
         return None
     mechanisms: Numbers = np.concatenate([causes.mechanisms[:start], renewal.mechanisms, causes.mechanisms[stop:]])
@@ -83,12 +84,10 @@ def are_alike(change: Change) -> bool:
     return [Line(0, it, "").without_arguments() for it in change.old] == [Line(0, it, "").without_arguments() for it in change.new]
 
 
-def rows_of_sources(marker: Marker, sources: Sequence[Source], text: str, change: Change, model: "ErrorModel",
-                    sure_only: bool) -> tuple[Numbers, Numbers]:
+def rows_of_sources(marker: Marker, sources: Sequence[Source], change: Change, model: "ErrorModel", sure_only: bool) -> tuple[Numbers, Numbers]:
     """What the errors of sources flip, as a CSR matrix, of the program."""
     if not sources:
         return np.zeros(1, dtype=np.int64), NONE
-    lines = text.split("\n")
-    marked = [*quiet_lines(lines[: change.first]), *marker.lines, *quiet_lines(lines[change.first + len(change.new) :])]
+    marked = [*quiet_lines(change.above), *marker.lines, *quiet_lines(change.below)]
     flipped = Flipped.of(marked, model.num_detectors, model.num_observables, sure_only)
     return rows_of_errors([(source, np.arange(source.times())) for source in sources], flipped)

@@ -7,7 +7,6 @@ those errors flip something else that flip, or flipped, something whose region j
 """
 
 import re
-from collections.abc import Sequence
 from concurrent.futures import ThreadPoolExecutor
 from dataclasses import dataclass, replace
 from functools import cached_property
@@ -39,14 +38,12 @@ LINES_BEFORE, NOISE_AROUND = 20, 3
 
 @dataclass(frozen=True)
 class Edit:
-    """An edit of the circuit: its lines with all of the blocks that they are in, in the texts before it and after it.
+    """An edit of the circuit: its lines with all of the blocks that they are in.
 
     qubits: how many there are; detectors, observables: how many there were.
     """
 
     change: Change
-    before: Sequence[str]
-    after: Sequence[str]
     qubits: int
     detectors: int
     observables: int
@@ -54,7 +51,7 @@ class Edit:
     @cached_property
     def quiet(self) -> tuple[list[str], list[str], list[str]]:
         """Without noise: the lines that the edit took out, those that it put in, and those after it."""
-        return quiet_lines(self.change.old), quiet_lines(self.change.new), quiet_lines(self.before[self.change.first + len(self.change.old) :])
+        return quiet_lines(self.change.old), quiet_lines(self.change.new), quiet_lines(self.change.below)
 
     @cached_property
     def counts(self) -> tuple[Counts, Counts]:
@@ -64,7 +61,7 @@ class Edit:
     @cached_property
     def detectors_above(self) -> int:
         """How many detectors are declared before the edit."""
-        return counts_of(quiet_lines(self.before[: self.change.first])).detectors
+        return counts_of(quiet_lines(self.change.before[: self.change.first])).detectors
 
     @cached_property
     def detectors_after(self) -> int:
@@ -112,9 +109,9 @@ class Edit:
 
     def cut_with(self, records: int, at: int) -> int:
         """The place of a cut, in front of a line or further back, after which this many records are made before the edit."""
-        at = list_begin(self.before, at)
-        while at and counts_of(quiet_lines(self.before[at : self.change.first])).records < records:
-            at = list_begin(self.before, max(at - LINES_BEFORE, 0))
+        at = list_begin(self.change.before, at)
+        while at and counts_of(quiet_lines(self.change.before[at : self.change.first])).records < records:
+            at = list_begin(self.change.before, max(at - LINES_BEFORE, 0))
         return at
 
 
@@ -138,12 +135,12 @@ class Asked:
     def of(cls, edit: Edit, cut: int) -> "Asked":
         """Asks the program about both texts at once."""
         first, mark = edit.change.first, " ".join(["I", *map(str, range(edit.qubits))])
-        above, below = quiet_lines(edit.before[:cut]), edit.quiet[2]
+        above, below = quiet_lines(edit.change.before[:cut]), edit.quiet[2]
         marker = Marker(False)
-        between, number = marker.items(noisy_items(edit.after[cut:first], cut + 1), edit.qubits)
+        between, number = marker.items(noisy_items(edit.change.after[cut:first], cut + 1), edit.qubits)
         marker.lines.append(mark)
         added, _ = marker.items(noisy_items(edit.change.new, first + 1), number + edit.qubits)
-        old_lines = [*above, mark, *quiet_lines(edit.before[cut:first]), mark, *edit.quiet[0], *below]
+        old_lines = [*above, mark, *quiet_lines(edit.change.before[cut:first]), mark, *edit.quiet[0], *below]
         with ThreadPoolExecutor(1) as thread:
             old = thread.submit(Flipped.of, old_lines, edit.detectors, edit.observables)
             new = Flipped.of([*above, mark, *marker.lines, *below], edit.detectors_after, edit.observables)
@@ -176,7 +173,7 @@ class Renewing:
     def __init__(self, model: "ErrorModel", causes: Causes, edit: Edit) -> None:
         self.model, self.causes, self.edit = model, causes, edit
         self.lines = [source.line - 1 for source in causes.sources]
-        self.firsts = starts_of(np.array([source.times() for source in causes.sources], dtype=np.int64))
+        self.firsts = causes.firsts
         first = edit.change.first
         self.begin, self.end = np.searchsorted(self.lines, [first, first + len(edit.change.old)]).tolist()
 
@@ -257,7 +254,7 @@ class Renewing:
         found = renewal.model_of(np.concatenate([above, renewal.mechanisms[len(errors) :], below]), gone, sources, text)
         if [it for it in change.old if it.lstrip().startswith(PLACING)] == [it for it in change.new if it.lstrip().startswith(PLACING)]:
             return found
-        return replace(found, coordinates=detector_coordinates("\n".join(quiet_lines(self.edit.after))))
+        return replace(found, coordinates=detector_coordinates("\n".join(quiet_lines(self.edit.change.after))))
 
     def with_columns(self) -> tuple["ErrorModel", Numbers]:
         """The model with detectors numbered as after the edit, without mechanisms that flip one which is no more; and of each error the
@@ -283,7 +280,7 @@ def bounds_of(errors: Numbers, firsts: Numbers) -> list[tuple[int, int]]:
 
 def renewed_circuit(model: "ErrorModel", causes: Causes, change: Change, text: str, qubits: int) -> "ErrorModel | None":
     """The model of a text, from that of the text before an edit of the circuit; None if it is not seen how, or if too much is another."""
-    edit = Edit(with_blocks(change, causes.text), causes.text.split("\n"), text.split("\n"), qubits, model.num_detectors, model.num_observables)
+    edit = Edit(with_blocks(change), qubits, model.num_detectors, model.num_observables)
     if observables_in(edit.quiet[0]) != observables_in(edit.quiet[1]) or edit.looks is None:
         return None
     renewing = Renewing(model, causes, edit)
@@ -296,5 +293,5 @@ def renewed_circuit(model: "ErrorModel", causes: Causes, change: Change, text: s
         asked = Asked.of(edit, cut)
         if asked.is_as_before(edit):
             return renewing.with_rows(asked, text)
-        cut = list_begin(edit.before, max(0, 2 * cut - edit.change.first - LINES_BEFORE))
+        cut = list_begin(edit.change.before, max(0, 2 * cut - edit.change.first - LINES_BEFORE))
     return None

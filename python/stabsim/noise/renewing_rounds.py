@@ -7,12 +7,11 @@ records as before, and declares or places nothing.
 
 from collections.abc import Sequence
 from concurrent.futures import ThreadPoolExecutor
-from dataclasses import replace
 from typing import TYPE_CHECKING
 
 import numpy as np
 
-from stabsim.formats.combining import Numbers, rows_of, starts_of
+from stabsim.formats.combining import Numbers, rows_of
 from stabsim.noise.causes import Causes
 from stabsim.noise.changed_lines import ALWAYS_QUIET, Change, blocks_around, counts_of, noisy_items, quiet_lines
 from stabsim.noise.flipped import Flipped, rows_of_errors
@@ -31,12 +30,11 @@ def renewed_in_rounds(model: "ErrorModel", causes: Causes, change: Change, text:
     old, new = quiet_lines(change.old), quiet_lines(change.new)
     if any(line.endswith(("{", "}")) or line.startswith(ALWAYS_QUIET) for line in (*old, *new)) or counts_of(old) != counts_of(new):
         return None
-    before = text.split("\n")[: change.first]
-    above, below = quiet_lines(before), quiet_lines(text.split("\n")[change.first + len(change.new) :])
+    above, below = quiet_lines(change.above), quiet_lines(change.below)
     mark = " ".join(["I", *map(str, range(qubits))])
     marker = Marker(False)
     items, each = marker.items(noisy_items(change.new, change.first + 1), qubits)
-    opened = blocks_around(before)
+    opened = blocks_around(change.above)
     sources = [in_blocks(source, opened, each) for source in items]
     if sum(source.times() for source in sources) > MOST_ASKED:
         return None
@@ -49,8 +47,7 @@ def renewed_in_rounds(model: "ErrorModel", causes: Causes, change: Change, text:
         return None
     lines = [source.line - 1 for source in causes.sources]
     begin, end = np.searchsorted(lines, [change.first, change.first + len(change.old)]).tolist()
-    firsts = starts_of(np.array([source.times() for source in causes.sources], dtype=np.int64))
-    start, stop = int(firsts[begin]), int(firsts[end])
+    start, stop = int(causes.firsts[begin]), int(causes.firsts[end])
     renewal = Renewal.of_rows(model, *rows_of_errors([(source, np.arange(source.times())) for source in sources], flipped))
     if renewal is None:
         return None
@@ -65,7 +62,7 @@ def in_blocks(source: Source, opened: Sequence[int], each: int) -> Source:
     for rounds in reversed(opened):
         blocks.append((rounds, each))
         each *= rounds
-    return replace(source, blocks=tuple(blocks))
+    return source._replace(blocks=tuple(blocks))
 
 
 def rows_of_marks(cut: Source, flipped: Flipped) -> tuple[Numbers, Numbers]:

@@ -66,6 +66,8 @@ def node_of(item: str) -> Node:
 
 def nodes_of(text: str) -> list[Node]:
     """The nodes of a text whose blocks are whole."""
+    if "{" not in text:
+        return list(filter(None, map(str.strip, text.split("\n"))))
     open_lists: list[list[Node]] = [[]]
     for line in map(str.strip, text.split("\n")):
         if line == "}":

@@ -1,9 +1,7 @@
 """What all tabs see: one session, the edits made so far, and what they changed."""
 
 import dataclasses
-import os
 import pathlib
-import tempfile
 import time
 from collections.abc import Iterator, Sequence
 from typing import Any
@@ -19,6 +17,8 @@ from stabsim.page.following import following
 from stabsim.page.lines import LineEdits, between
 from stabsim.page.opening import Opened
 from stabsim.page.room import may_name, qubits_named, room_for
+from stabsim.page.saving import write_whole
+from stabsim.session.history import Change
 from stabsim.text.coordinates import coordinates_of, detector_rows, qubit_rows
 
 Message = dict[str, Any]
@@ -37,8 +37,9 @@ class Entry:
     changed: list[str]
     seconds: float
     moves_bits: bool
-    # The texts whose lines are kept before it and after it.
+    # The texts whose lines are kept before it and after it, and what the session did for it, if that is in its history.
     texts: tuple[Opened, Opened] | None = None
+    changes: list[Change] = dataclasses.field(default_factory=list)
 
     def message(self) -> Message:
         return {"text": self.name, "changed": self.changed, "seconds": self.seconds}
@@ -132,7 +133,7 @@ class Board:
             raise ValueError("no such place in the history")
         forward = position > self.position
         passed = self.entries[self.position:position] if forward else self.entries[position:self.position][::-1]
-        made = self._carry_out("", [edit for entry in passed for edit in (entry.forth if forward else entry.back)])
+        made = self._retrace(passed, forward)
         self.position = position
         if passed and (texts := passed[-1].texts):
             self.kept_text = texts[forward]
@@ -179,20 +180,10 @@ class Board:
         return [line.decode() for line in self.session.process.ask(f"show distance {most}\n".encode())]
 
     def save(self) -> str:
-        """Writes the circuit to the file that may be written, and answers with its name. The file is the old one or the new one,
-        and never a part: the new one is written beside it, and takes its name."""
+        """Writes the circuit to the file that may be written, and answers with its name."""
         if self.save_to is None:
             raise ValueError("no file was named to save to")
-        with tempfile.NamedTemporaryFile("w", dir=self.save_to.parent, prefix=f".{self.save_to.name}.", delete=False) as file:
-            try:
-                file.write(self.written())
-                file.flush()
-                os.fsync(file.fileno())
-                os.chmod(file.name, mode_of(self.save_to))
-                os.replace(file.name, self.save_to)
-            except BaseException:
-                os.unlink(file.name)
-                raise
+        write_whole(self.save_to, self.written())
         return str(self.save_to)
 
     def _splitting(self, place: str, number: int) -> Edit:
@@ -224,6 +215,7 @@ class Board:
         self.session.mark()
         begun = time.perf_counter()
         made = Made()
+        session, done = self.session, len(self.session.history.done)
         try:
             self._make_all(first, made)
             self._make_all(list(self._followed(edits)) if keep else edits, made)
@@ -233,7 +225,29 @@ class Board:
             raise
         seconds = time.perf_counter() - begun
         changed = names_of(self.session.changed()) if made.changed is None else made.changed
-        return Entry(name, made.forth, made.back, changed, seconds, made.moves_bits)
+        changes = session.history.done[done:] if session is self.session else []
+        return Entry(name, made.forth, made.back, changed, seconds, made.moves_bits, changes=changes)
+
+    def _retrace(self, passed: Sequence[Entry], forward: bool) -> Entry:
+        """Undoes or redoes entries: by the session's history, if what it did last, or took back last, was made for these, and else by their edits."""
+        edits = [edit for entry in passed for edit in (entry.forth if forward else entry.back)]
+        history = self.session.history
+        changes = [change for entry in passed for change in (entry.changes if forward else entry.changes[::-1])]
+        last = (history.to_redo if forward else history.done)[::-1][:len(changes)]
+        if not all(entry.changes for entry in passed) or list(map(id, changes)) != list(map(id, last)):
+            return self._carry_out("", edits)
+        self.lost, self.split_off = (), ()
+        self.session.mark()
+        step, step_back = (self.session.redo, self.session.undo) if forward else (self.session.undo, self.session.redo)
+        made = 0
+        try:
+            for made in range(len(changes)):
+                step()
+        except Exception:
+            for _ in range(made):
+                step_back()
+            raise
+        return Entry("", edits, [], names_of(self.session.changed()), 0.0, False)
 
     def _make_all(self, edits: Sequence[Edit], made: Made) -> None:
         """Makes edits one by one, or if they are many all at once."""
@@ -363,15 +377,6 @@ def lists_of(places: NDArray[np.float64]) -> list[list[float]]:
 def names_of(changed: stabsim.Changed) -> list[str]:
     """What changed, as `D3` for detectors and `L0` for observables."""
     return [f"D{number}" for number in changed.detectors] + [f"L{number}" for number in changed.observables]
-
-
-def mode_of(file: pathlib.Path) -> int:
-    """The rights of a file, or those that a new one gets."""
-    if file.exists():
-        return file.stat().st_mode & 0o7777
-    mask = os.umask(0)
-    os.umask(mask)
-    return 0o666 & ~mask
 
 
 def place_of(name: str) -> tuple[str, int]:

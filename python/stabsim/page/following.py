@@ -5,6 +5,7 @@ from dataclasses import dataclass
 
 import stabsim
 from stabsim.page.edits import Edit, Kind
+from stabsim.page.nearby import Nearby, nearby
 from stabsim.session.retargeting import of_items
 from stabsim.text import names
 from stabsim.text.reading import items_of, walk
@@ -29,9 +30,20 @@ def following(session: stabsim.Session, edits: Sequence[Edit]) -> Followed:
     records are as they are."""
     if not any(changes_records(session, edit, len(edits) > 1) for edit in edits):
         return Followed(edits)
-    made = of_items(items_of(session.circuit()), [(edit.kind, edit.place, edit.item) for edit in edits])
-    found = [Edit(SESSIONS[kind], place, words[0] if words else "") for kind, place, *words in made.edits]
-    return Followed(found, made.lost, tuple(edit.place for edit in found if edit.kind == "split"))
+    return followed(session.circuit(), edits)
+
+
+def followed(circuit: str, edits: Sequence[Edit]) -> Followed:
+    """The same of edits that bring, take or move records."""
+    try:
+        near = nearby(circuit, edits)
+        made = of_items(items_of(near.text), [(edit.kind, near.inwards(edit.place), edit.item) for edit in edits])
+    except (ValueError, IndexError):
+        # What is wrong is said of the whole circuit.
+        near = Nearby(circuit, 1, 0)
+        made = of_items(items_of(circuit), [(edit.kind, edit.place, edit.item) for edit in edits])
+    found = [Edit(SESSIONS[kind], near.outwards(place), words[0] if words else "") for kind, place, *words in made.edits]
+    return Followed(found, tuple(map(near.bit, made.lost)), tuple(edit.place for edit in found if edit.kind == "split"))
 
 
 def changes_records(session: stabsim.Session, edit: Edit, is_moved: bool) -> bool:

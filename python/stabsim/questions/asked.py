@@ -17,6 +17,7 @@ from stabsim.questions.distances import Distance, Letters, distance_of, of_marks
 from stabsim.questions.faults import FaultTable
 from stabsim.questions.random_bits import RandomBit, bit_of
 from stabsim.questions.sure import Sure, deterministic_of
+from stabsim.questions.ways import Way, way_of
 from stabsim.shots import chunks, shot_parts
 from stabsim.shots.seeds import SeededBits, SeededBytes, drawn_seed, seeded
 from stabsim.text.coordinates import detector_coordinates
@@ -85,9 +86,9 @@ class Asked:
         """The records of shots first_shot, first_shot + 1 .. of a seed, as a bool array (shots, records). Without a seed a fresh one is
         drawn; the array keeps it as `seed`. With bit_packed bit k is bit k % 8 of byte k // 8, uint8 (shots, (records + 7) // 8).
 
-        With an executor of concurrent.futures the shots are split into this many parts, which gives the same array. With noise each shot is a
-        run of its own, in which the errors that happened are gates, and a shot is the same whatever others are drawn with it. If detectors are
-        enough, `detect` takes far less time. Raises stabsim.Refused if a shot has more steps than a circuit may have.
+        With an executor of concurrent.futures the shots are split into this many parts, which gives the same array. With noise this process
+        draws which errors happen, whatever the executor, and a shot is the same whatever others are drawn with it. Raises stabsim.Refused if
+        there are more places of errors than the program takes.
 
         >>> import stabsim
         >>> c = stabsim.Circuit("X 0\\nM 0 1\\n")
@@ -129,8 +130,7 @@ class Asked:
 
         With an executor of concurrent.futures the shots are split into this many parts, which gives the same arrays; with noise this process
         draws from the error model, whatever the executor. With noise, and for flips, each detector and observable must be the same for all
-        random bits: stabsim.Refused names the first that is not. Of disjoint errors, as heralded ones, at most one happens each time;
-        stabsim.UnsupportedNoise names depolarising that is more than full.
+        random bits: stabsim.Refused names the first that is not. Of disjoint errors, as heralded ones, at most one happens each time.
 
         >>> import stabsim
         >>> c = stabsim.Circuit("X 0\\nM 0 1\\nDETECTOR rec[-2]\\nOBSERVABLE_INCLUDE(0) rec[-1]\\n")
@@ -165,7 +165,7 @@ class Asked:
 
     def iter_sample(self, shots: int, chunk: int, *, seed: int | None = None, first_shot: int = 0,
                     bit_packed: bool = False) -> Iterator[SeededBits] | Iterator[SeededBytes]:
-        """The shots of `sample`, at most chunk of them at a time, each of which is a run of the program.
+        """The shots of `sample`, at most chunk of them at a time.
 
         >>> import stabsim
         >>> [len(records) for records in stabsim.Circuit("M 0").iter_sample(2500, 1000)]
@@ -288,25 +288,47 @@ class Asked:
         rows = detector_coordinates(self.asked) if lines else np.zeros((0, 0))
         return [bit_of(line, rows) for line in lines]
 
+    def propagate(self, pauli: str, *, at: str | None = None, after: int | None = None) -> Way:
+        """What a Pauli string becomes that is put into the circuit, and what it flips.
+
+        pauli: a product as X3*Z4, or a letter for each qubit. It is put in front of the item at a path, such as 3/0/2, in the first round of
+        each block around it, or after this many steps; the number of items as a path is the end. A measurement that anticommutes
+        with the string is flipped, also if its outcome is random: then the run is one with that coin exchanged.
+
+        >>> import stabsim
+        >>> way = stabsim.Circuit("H 0\\nCX 0 1\\nM 0 1").propagate("Z0", at="0")
+        >>> print(*way.turns, way.records, way.left)
+        Turn(steps=1, path='0', pauli='X0') Turn(steps=2, path='1', pauli='X0*X1') (0, 1) X0*X1
+        """
+        if (at is None) == (after is None):
+            raise ValueError("a string is put in at a path or after some steps: one of both is wanted.")
+        place = at if at is not None else f"@{checking.whole('after', after)}"
+        self.numbers()
+        # A sign changes nothing, and would be taken for an option.
+        string = checking.of_kind("pauli", pauli, str, "give a product as X3*Z4").removeprefix("-")
+        return way_of(program.run(["propagate", "--at", place, string], self.asked).decode())
+
     def distance(self, *, everywhere: bool = False, letters: Letters = "all", most: int | None = None, graphlike: bool = False,
-                 sure_only: bool = False) -> Distance:
+                 sure_only: bool = False, count: bool = False) -> Distance:
         """The least number of errors that flip an observable and no detector: exact, for any circuit.
 
         Errors are X, Y and Z at each target of `I`; I[X], I[Y], I[Z] and I[XZ] have these letters alone, and I[pairs] all fifteen
         products on each pair of its targets. With everywhere they are those of circuit-level noise: after gates and resets, before
         measurements, and each record wrong by itself. letters: with XZ only errors of X alone and of Z alone. most: the most errors
         that are looked for. graphlike: only errors that flip at most two detectors, after any other gave way to the X and the Z at each
-        of its qubits, which takes less time. Raises stabsim.Refused, 18 NotDeterministic, as `faults` does; with sure_only random bits
-        are left out.
+        of its qubits, which takes less time. count: `Distance.count` says how many such sets there are, which takes longer the more there
+        are. Raises stabsim.Refused, 18 NotDeterministic, as `faults` does; with sure_only random bits are left out.
 
         >>> import stabsim
         >>> c = stabsim.Circuit("R 0 1 2\\nI[X] 0 1 2\\nMPP Z0*Z1 Z1*Z2\\nDETECTOR rec[-1]\\nDETECTOR rec[-2]\\nM 0\\nOBSERVABLE_INCLUDE(0) rec[-1]")
         >>> print(c.distance(), c.distance(most=2), sep="; ")
         distance 3 of all marked errors; none up to 2 of all marked errors
+        >>> c.distance(count=True).count, c.distance(most=2, count=True).count
+        (1, 0)
         """
         checking.one_of("letters", letters, get_args(Letters))
         self.numbers()
-        words = [*["--everywhere"] * everywhere, *([] if letters == "all" else ["--letters", letters]), *option_words(most, graphlike),
+        words = [*["--everywhere"] * everywhere, *([] if letters == "all" else ["--letters", letters]), *option_words(most, graphlike, count),
                  *["--deterministic_only"] * sure_only]
         found = distance_of(program.run(["distance", *words], self.asked).decode(), everywhere)
         return found if everywhere else of_marks(found, self.asked)

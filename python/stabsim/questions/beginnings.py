@@ -6,6 +6,7 @@ from dataclasses import dataclass, field
 
 from stabsim.text.names import ANNOTATIONS, MEASUREMENTS, RESETS
 from stabsim.text.reading import Block, Instruction, Item
+from stabsim.text.sizes import total
 
 # How the state that a reset makes, or its opposite, is made at random, and then measured.
 RANDOM = {"R": ("RX", "M"), "RX": ("R", "MX"), "RY": ("R", "MY")}
@@ -66,9 +67,9 @@ def recorded(items: Iterable[Item], qubits: int) -> Recorded:
 
 
 def written_out(items: Iterable[Item]) -> Iterator[Instruction]:
-    """The instructions, with those of a block in each of its rounds."""
+    """The instructions, with those of a block in each of its rounds; a block without steps may have any number of these, and is left out."""
     for item in items:
         if isinstance(item, Block):
-            yield from itertools.chain.from_iterable(written_out(item.items) for _ in range(item.repeat))
+            yield from itertools.chain.from_iterable(written_out(item.items) for _ in range(item.repeat if total(item.items, False) else 0))
         else:
             yield item

@@ -11,6 +11,7 @@ from stabsim.text.reading import items_of, walk
 # Of which letters errors are made: of all, or of X alone and of Z alone.
 Letters = Literal["all", "XZ"]
 FIRST_LINE = re.compile(r"(?:distance (\d+)|none(?: up to (\d+))?)(?: of (all marked errors|all errors everywhere|graph-like errors))?")
+COUNT_LINE = re.compile(r"count (\d+)(?: or more)?")
 UNMARKED = "no errors, since there is no noise, and no place is marked by I; everywhere=True asks for all places"
 CHANCELESS = "no errors, since the model has none that has a chance"
 
@@ -23,7 +24,8 @@ class Distance:
     of CircuitError, which `Session.insert_errors` takes; mechanisms: of an error model, tuple of int, their numbers. searched: str:
     all marked errors, all errors everywhere, or graph-like errors, which are those that flip at most two detectors, among them parts of
     others; of an error model all errors, and of a decomposed one graph-like parts of errors, which are those that it is written with. If
-    there are no errors to search, it says why.
+    there are no errors to search, it says why. count: int, how many sets of that least number there are, and 2**64 if there are more; None
+    if it was not asked for.
 
     >>> import stabsim
     >>> c = stabsim.Circuit("R 0 1\\nI[X] 0 1\\nM 0 1\\nDETECTOR rec[-1] rec[-2]\\nOBSERVABLE_INCLUDE(0) rec[-1]")
@@ -41,6 +43,7 @@ class Distance:
     searched: str = "all marked errors"
     most: int | None = None
     mechanisms: tuple[int, ...] = ()
+    count: int | None = None
 
     def __str__(self) -> str:
         found = "none" if self.distance is None else f"distance {self.distance}"
@@ -48,20 +51,24 @@ class Distance:
         return f"{found}{limit} of {self.searched}"
 
 
-def option_words(most: int | None, graphlike: bool) -> list[str]:
-    """The options of how far, and of which errors, a distance is looked for."""
-    return [*([] if most is None else ["--most", str(checking.whole("most", most))]), *["--graphlike"] * graphlike]
+def option_words(most: int | None, graphlike: bool, count: bool) -> list[str]:
+    """The options of how far, and of which errors, a distance is looked for, and whether its sets are counted."""
+    if graphlike and count:
+        raise ValueError("count=True is of all errors, and not beside graphlike=True")
+    return [*([] if most is None else ["--most", str(checking.whole("most", most))]), *["--graphlike"] * graphlike, *["--count"] * count]
 
 
 def distance_of(text: str, everywhere: bool = False) -> Distance:
     """The distance of the lines that the program writes, of marked errors or of errors everywhere."""
     first, *lines = text.splitlines()
     found = FIRST_LINE.fullmatch(first)
+    counted = COUNT_LINE.fullmatch(lines[-1]) if lines else None
     if not found:
         raise ValueError(f"{first!r} is no distance")
-    errors = tuple(map(CircuitError.of_line, lines))
+    errors = tuple(map(CircuitError.of_line, lines[:-1] if counted else lines))
     distance, most = (int(number) if number else None for number in found.groups()[:2])
-    return Distance(distance, errors, found[3] or ("all errors everywhere" if everywhere else "all marked errors"), most)
+    searched = found[3] or ("all errors everywhere" if everywhere else "all marked errors")
+    return Distance(distance, errors, searched, most, count=int(counted[1]) if counted else None)
 
 
 def of_marks(found: Distance, text: str) -> Distance:

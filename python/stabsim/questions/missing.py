@@ -11,7 +11,7 @@ import numpy as np
 
 from stabsim.errors import Refused
 from stabsim.questions.asked import Asked
-from stabsim.questions.beginnings import recorded
+from stabsim.questions.beginnings import Recorded, recorded
 from stabsim.questions.coins import CoinTable
 from stabsim.questions.parities import Parity, Records, known_parities, local_parities
 from stabsim.text.reading import items_of
@@ -170,18 +170,23 @@ def columns_of(table: CoinTable, first: int) -> tuple[Iterator[int], list[int]]:
     return (sum(1 << digit for digit in its.tolist()) for its in of_records), later.tolist()
 
 
-def missing_detectors(text: str, qubits: int, unknown_input: bool, is_all: bool) -> list[Parity]:
-    """What `Circuit.missing_detectors` answers of a circuit's text with this many qubits."""
-    circuit = recorded(items_of(text), qubits)
+def short_parities(circuit: Recorded, first: int = 0) -> tuple[list[Records], CoinTable]:
+    """The parities of a circuit's records, those of its resets too, that no coin decides, as a basis: for each record that those before it
+    determine one that ends with it, and begins as late as any can; and what coins flip. No parity has a record in front of a first one."""
     try:
         table = Asked("".join(circuit.lines)).coins()
     except Refused as refused:
         raise Refused(refused.number, refused.name, None, RESETS_COUNT) from None
-    # The records of the states before the circuit come first. If these are unknown no parity has them.
-    first = qubits if unknown_input else 0
     columns, later = columns_of(table, first)
-    local = local_parities(columns, later=later)
-    basis = Basis((frozenset(it + first for it in its) for its in local), circuit.places, circuit.moments)
+    return [frozenset(it + first for it in its) for its in local_parities(columns, later=later)], table
+
+
+def missing_detectors(text: str, qubits: int, unknown_input: bool, is_all: bool) -> list[Parity]:
+    """What `Circuit.missing_detectors` answers of a circuit's text with this many qubits."""
+    circuit = recorded(items_of(text), qubits)
+    # The records of the states before the circuit come first. If these are unknown no parity has them.
+    local, table = short_parities(circuit, qubits if unknown_input else 0)
+    basis = Basis(local, circuit.places, circuit.moments)
     detectors, observables = ([frozenset(circuit.places[it] for it in its) for its in some] for some in known_parities(items_of(text)))
     constants = table.constants()
     found = []

@@ -225,4 +225,4 @@ def bit_name(text: str) -> str:
 
 
 def text_of_lines(lines: list[bytes]) -> str:
-    return program.text_of(b"".join(line + b"\n" for line in lines))
+    return program.text_of(b"\n".join([*lines, b""]))

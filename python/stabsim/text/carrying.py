@@ -27,6 +27,8 @@ OWN_BLOCK = re.compile(r"(REPEAT(?:\[[^\]]*\])?)\{(.*)", re.DOTALL)
 OWN = "&"
 OWN_LINE = re.compile(rf"([A-Z_0-9]+(?:\[[^\]]*\])?){OWN}(.*)", re.DOTALL)
 CLOSING = "}"
+# A blank line; the end of the last line makes none.
+BLANK = re.compile(r"\n[ \t\r]*(?:\n|(?<=[ \t\r])\Z)")
 
 
 def escaped(text: str) -> str:
@@ -65,6 +67,8 @@ def with_comments(text: str) -> str:
     """A text in which only comments and blank lines ride: instructions stay as they are. Other lines than those are not looked at."""
     if not text:
         return ""
+    if "#" not in text and MARKED not in text and not BLANK.search(f"\n{text}"):
+        return text.removesuffix("\n") + "\n"
     lines: list[str] = []
     above: list[str] = []
     for number, written in enumerate(text.removesuffix("\n").split("\n"), start=1):
@@ -152,28 +156,47 @@ def written_back(text: str, comments: bool = True) -> str:
     """The text of Stim's that one of the program's carries; comments: with those that ride along."""
     if MARKED not in text:
         return text
+    written = text.removesuffix("\n").split("\n")
     lines: list[str] = []
-    is_skipped, closing = False, ""
-    for line in text.removesuffix("\n").split("\n"):
-        content = line.strip(SPACING)
+    done, is_skipped, closing = 0, False, ""
+    for place in [place for place, line in enumerate(written) if MARKED in line or line.endswith(CLOSING)]:
+        line = written[place]
         if is_skipped:
-            is_skipped = content != CLOSING
+            is_skipped = line.strip(SPACING) != CLOSING
+            done = place + 1
             continue
-        found = RIDDEN.fullmatch(line)
-        if not found:
-            lines.append(line + closing if content == CLOSING else line)
-            closing = "" if content == CLOSING else closing
-            continue
-        indentation, name, tag, rest = found.groups()
-        riding = unescaped(tag).split("\n")
-        own = (OWN_BLOCK if name == "REPEAT" else OWN_LINE).fullmatch(riding[-1])
-        if own:
-            riding[-1] = f"{own[1]}{rest}{own[2]}"
-        is_skipped = name == "REPEAT" and not own
-        if name == "TICK" and riding[-1].startswith(CLOSING):
-            closing = riding.pop()[1:] if comments else riding.pop()[:0]
-        lines += [(indentation + it).rstrip(SPACING) for it in (riding if comments else filter(None, map(content_of, riding)))]
-    return "\n".join([*lines, ""])
+        # Between these places lines stay as they are.
+        lines += written[done:place]
+        done = place + 1
+        if MARKED in line:
+            its, is_skipped, ending = line_back(line, comments)
+            lines += its
+            closing = closing if ending is None else ending
+        elif line.strip(SPACING) == CLOSING:
+            lines.append(line + closing)
+            closing = ""
+        else:
+            lines.append(line)
+    return "\n".join([*lines, *written[done:], ""])
+
+
+@functools.lru_cache(maxsize=1 << 16)
+def line_back(line: str, comments: bool) -> tuple[tuple[str, ...], bool, str | None]:
+    """The lines that ride in one of the program's, or itself; whether the rest of a block that it opens is left out; and if it stands for
+    comments below a list, what is after the brace that closes this."""
+    found = RIDDEN.fullmatch(line)
+    if not found:
+        return (line,), False, None
+    indentation, name, tag, rest = found.groups()
+    riding = unescaped(tag).split("\n")
+    own = (OWN_BLOCK if name == "REPEAT" else OWN_LINE).fullmatch(riding[-1])
+    if own:
+        riding[-1] = f"{own[1]}{rest}{own[2]}"
+    ending = None
+    if name == "TICK" and riding[-1].startswith(CLOSING):
+        ending = riding.pop()[1:] if comments else riding.pop()[:0]
+    its = riding if comments else filter(None, map(content_of, riding))
+    return tuple((indentation + it).rstrip(SPACING) for it in its), name == "REPEAT" and not own, ending
 
 
 def below_comments(old: Item, new: Item) -> Item:

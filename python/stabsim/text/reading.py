@@ -5,8 +5,8 @@ It cuts a text as the program does. The program judges whether names, arguments 
 
 import functools
 import re
-from collections.abc import Iterable, Iterator
-from dataclasses import dataclass
+from collections.abc import Collection, Iterable, Iterator
+from dataclasses import dataclass, replace
 from typing import NamedTuple
 
 from stabsim.errors import Refused
@@ -289,6 +289,15 @@ def walk(items: Iterable[Item]) -> Iterator[Item]:
         yield item
         if isinstance(item, Block):
             yield from walk(item.items)
+
+
+def without(items: Iterable[Item], names: Collection[str]) -> Iterator[Item]:
+    """Items except instructions of some names, in blocks too."""
+    for item in items:
+        if isinstance(item, Block):
+            yield replace(item, items=tuple(without(item.items, names)))
+        elif item.name not in names:
+            yield item
 
 
 def lines_at(text: str, path: str) -> tuple[int, int]:

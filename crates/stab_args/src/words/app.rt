@@ -1,7 +1,7 @@
 //! The commands of the program and their options, as the command line reader is given them.
 ghost use Rattle.std.specs.Prelude.{IfOk};
 ghost use Rattle.clap.specs.Words.{App, Rule, new_app, with_rule, with_subcommand};
-ghost use Rattle.stab_args.specs.Options.{alone, bare, check, coins, detect, deterministic, deterministic_only, distance, edit, faults, flag, last_observable, most_errors, named, numbered, one_name, ranged, shot_command, stabilisers, stabsim, valued};
+ghost use Rattle.stab_args.specs.Options.{alone, bare, check, coins, detect, deterministic, deterministic_only, distance, edit, faults, flag, last_observable, most_errors, named, numbered, one_name, positional, propagate, ranged, shot_command, stabilisers, stabsim, valued, wanted};
 ghost use Rattle.stab_args.specs.inner.Parts.{IsApp, IsOption, with_common, with_files};
 
 use crate::words::help;
@@ -276,8 +276,40 @@ fn distance_command<'a>(alloc: Global, letters: &'a [&'a str]) -> Result<Command
     let command = with_option(command, flag(alloc, "each", help::EACH));
     let command = with_option(command, flag(alloc, "table", help::TABLE));
     let command = with_option(command, flag(alloc, "wcnf", help::WCNF));
+    let command = with_option(command, flag(alloc, "count", help::COUNT));
     let command = with_option(command, only);
     let command = with_option(command, flag(alloc, "progress", help::PROGRESS));
+    with_files(alloc, command, help::IN)
+}
+
+/// An option whose value has to be given.
+fn wanted<'a>(option: Arg<'a>) -> Arg<'a>
+    ensures rule { (rule : Rule) → IsOption rule option.entry → IsOption (wanted rule) result }
+{
+    option.required(true)
+}
+
+/// A value that has no option.
+fn positional<'a>(alloc: Global, id: &'a str, help: &'a str) -> Arg<'a>
+    ensures rule { IsOption (positional id.entry.now) result }
+{
+    Arg::new(alloc, id).value_name(id).help(help)
+}
+
+/// The command `propagate`, which takes no coins.
+fn propagate_command<'a>(alloc: Global) -> Result<Command<'a>, AllocError>
+    ensures app { IfOk result (IsApp (alone propagate)) }
+{
+    let command = Ok(named_command(
+        alloc,
+        "propagate",
+        help::ABOUT_PROPAGATE,
+        help::AFTER_PROPAGATE,
+    ));
+    let at = wanted(valued(alloc, "at", "PLACE", help::AT));
+    let command = with_option(command, at);
+    let string = wanted(positional(alloc, "PAULI", help::PAULI));
+    let command = with_option(command, string);
     with_files(alloc, command, help::IN)
 }
 
@@ -340,5 +372,6 @@ pub(crate) fn app<'a>(
     let program = with_command(program, deterministic_command(alloc, formats));
     let program = with_command(program, faults_command(alloc, formats));
     let program = with_command(program, coins_command(alloc, formats));
-    with_command(program, distance_command(alloc, letters))
+    let program = with_command(program, distance_command(alloc, letters));
+    with_command(program, propagate_command(alloc))
 }

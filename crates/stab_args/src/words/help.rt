@@ -25,6 +25,9 @@ pub(crate) const ABOUT_COINS: &str =
 pub(crate) const ABOUT_DISTANCE: &str =
     "Finds the least number of errors that flip an observable and no detector";
 
+pub(crate) const ABOUT_PROPAGATE: &str =
+    "Says what a Pauli string becomes that is put in, and what it flips";
+
 pub(crate) const ABOUT_EDIT: &str =
     "Edits a circuit by a script, and writes the reply to each line";
 
@@ -174,22 +177,46 @@ Examples, at the top of the repository:
 See docs/use/coins.md. Refusals, by number and name, are explained in docs/use/refusals.md.
 ";
 
+pub(crate) const AFTER_PROPAGATE: &str = "\
+Each item after which the string is another one has a line, in each round: how many steps come before the
+item's end once blocks are unrolled, the item's path, and the string there. Then come the records, detectors
+and observables that it flips, and the string at the end; a string without letters is 1:
+
+  1207 3/0/2 X3*Z4
+  flips M3 D24 L0
+  left X3
+
+PAULI is a product such as X3*Z4, or a letter for each qubit such as X__Z. PLACE is a path such as 3/0/2, in
+front of that item, in the first round of each block around it; @1207 is after that many steps, and the number
+of items of the circuit is its end.
+
+A measurement that anticommutes with the string is flipped, also if its outcome is random: with the coins of
+these outcomes exchanged, the run with the string is the run without it, flipped so.
+
+Example, at the top of the repository:
+  printf 'R 0 1\\nCX 0 1\\nM 0 1\\n' | ./stabsim propagate --at 1 X0
+
+See docs/use/faults.md. Refusals, by number and name, are explained in docs/use/refusals.md.
+";
+
 pub(crate) const AFTER_DISTANCE: &str = "\
 Errors are those that the circuit marks by I: X, Y and Z at each target. A tag narrows them: I[X], I[Y] and
 I[Z] mark that letter, I[XZ] marks X and Z, and I[pairs] the fifteen products of two letters on each pair of
 targets. With --everywhere errors are those of circuit-level noise: after each gate and reset, before each
 measured qubit, and each record wrong by itself.
 
-The answer is exact, for any code: `distance W of all marked errors` and then W errors, each on a line such
-as `faults` writes, if no fewer errors flip an observable and no detector; or `none up to W`, with --most W; or
-`none`, if no set of errors does. The time grows by a factor with each further error. With --observable 0 the
-set flips observable 0, and the first line ends in `for L0`; --each answers so for each observable in turn. With
---graphlike the answer is for those errors alone that flip at most two detectors, and its first line says so. The
-X and the Z at each of its qubits take the place of an error that flips more. With --table all these errors are
-written in place of an answer, so that anyone can add up what a set flips; it is not beside --observable, --each,
---most or --progress, nor --each beside --observable or --progress. With --wcnf they are written as a problem for
-MaxSAT solvers: the least weight that an assignment breaks is the distance, and the first variables that are true
-are a set. It is beside --everywhere, --letters and --deterministic_only alone.
+The answer is exact, for any code: `distance W of all marked errors` and then W errors, each on a line such as
+`faults` writes, if no fewer errors flip an observable and no detector; or `none up to W`, with --most W; or
+`none`, if no set of errors does. The time grows by a factor with each further error. With --observable 0 the set
+flips observable 0, and the first line ends in `for L0`; --each answers so for each observable in turn. With
+--graphlike the answer is for those errors alone that flip at most two detectors, and its first line says so. The X
+and the Z at each of its qubits take the place of an error that flips more. With --count one line more, `count N`,
+says how many sets are such a least one, 0 if none is: the more there are, the longer it takes. It is not beside
+--graphlike, --each, --table or --wcnf. With --table all these errors are written in place of an answer, so that
+anyone can add up what a set flips; it is not beside --observable, --each, --most or --progress, nor --each beside
+--observable or --progress. With --wcnf they are written as a problem for MaxSAT solvers: the least weight that an
+assignment breaks is the distance, and the first variables that are true are a set. It is beside --everywhere,
+--letters and --deterministic_only alone.
 A circuit in which a detector or observable depends on the coins is refused 18: --deterministic_only leaves
 it out. That option is found as --sure_only too.
 
@@ -239,6 +266,8 @@ pub(crate) const TABLE: &str =
 pub(crate) const WCNF: &str =
     "Writes the errors to be searched as a problem for MaxSAT solvers, and searches none";
 
+pub(crate) const COUNT: &str = "Writes after the answer how many least sets there are, as count N";
+
 pub(crate) const PROGRESS: &str =
     "Writes each number of errors that is excluded to standard error at once";
 
@@ -277,3 +306,7 @@ pub(crate) const QUBITS: &str =
 pub(crate) const STRIDE: &str = "How many steps lie between two checkpoints, from 1 to 65536: \
     fewer take more memory and make edits quicker, and change no reply. The default suits circuits \
     up to the limits; at 1 a session of a million steps took 9.9 GB";
+
+pub(crate) const AT: &str = "The place: a path such as 3/0/2, or @1207 after that many steps";
+
+pub(crate) const PAULI: &str = "The string, such as X3*Z4";

@@ -4,7 +4,7 @@ ghost use Rattle.clap.specs.Words.{IsUnsignedIn, first_of, found_of, has_subcomm
 ghost use Rattle.stab_gates.specs.Limits.{most_qubits};
 ghost use Rattle.stab_circuit.specs.Limits.{most_stride};
 ghost use Rattle.stab_jobs.specs.Limits.{last_shot, most_shots, shots_of_seed};
-ghost use Rattle.stab_args.specs.Asked.{AreLetters, AreShots, IsAskedDistance, IsCommand, IsFirst, IsJob, IsLayout, IsNamed, IsSet, IsSource, IsWritten, IsWrittenIfGiven, RefusesCoins, RefusesCommand, RefusesDistance, RefusesOptions, RefusesShots, first_beside_coins, is_about_search, is_beside_each, is_beside_problem};
+ghost use Rattle.stab_args.specs.Asked.{AreLetters, AreShots, IsAskedDistance, IsCommand, IsFirst, IsJob, IsLayout, IsNamed, IsSet, IsSource, IsWritten, IsWrittenIfGiven, RefusesCoins, RefusesCommand, RefusesDistance, RefusesOptions, RefusesShots, first_beside_coins, is_about_search, is_beside_count, is_beside_each, is_beside_problem, text_or_none};
 ghost use Rattle.stab_args.specs.Options.{last_observable, most_errors, most_seed};
 ghost use Rattle.stab_args.specs.declared.words.Usage.{Usage};
 ghost use Rattle.stab_args.specs.inner.Parts.{IsCommandName};
@@ -37,6 +37,10 @@ const EACH_BESIDE: &str =
 // What is said of the errors as a problem beside what is not asked with it.
 const PROBLEM_BESIDE: &str =
     "stabsim: --wcnf searches nothing, and is not beside --table, --each, --graphlike, --observable, --most or --progress\n";
+
+// What is said of the number of least sets beside what is not asked with it.
+const COUNT_BESIDE: &str =
+    "stabsim: --count is of one answer about all errors, and is not beside --wcnf, --table, --each or --graphlike\n";
 
 // What is said of a table of errors beside what is about a search.
 const TABLE_BESIDE_SEARCH: &str =
@@ -195,6 +199,16 @@ fn path(alloc: Global, options: &ArgMatches, id: &str) -> Result<Option<String>,
     }
 }
 
+/// The text of an option, which is empty if the option isn't given.
+fn word(alloc: Global, options: &ArgMatches, id: &str) -> Result<String, AllocError>
+    ensures word { IfOk result (λ s. string_bytes s ≡ text_or_none (first_of id.now (rows_of (found_of options.now)))) }
+{
+    match text(options, id) {
+        Some(text) => String::from_str(alloc, text),
+        None => Ok(String::new(alloc)),
+    }
+}
+
 /// What `deterministic` is asked for.
 fn deterministic(options: &ArgMatches) -> Command
     ensures command { IsCommand (codes "deterministic") (rows_of (found_of options.now)) result }
@@ -246,9 +260,17 @@ fn is_beside_problem(table: bool, each: bool, asked: DistanceOptions) -> bool
     table || each || asked.graphlike || is_about_search(asked)
 }
 
+/// Whether something is asked beside the number of least sets: the errors themselves, each observable, or only some errors.
+fn is_beside_count(wcnf: bool, table: bool, each: bool, asked: DistanceOptions) -> bool
+    ensures value { result ≡ is_beside_count wcnf table each asked }
+{
+    wcnf || table || each || asked.graphlike
+}
+
 /// What `distance` is asked for, if not for the errors as a problem.
 fn search_or_table(alloc: Global, options: &ArgMatches) -> Result<Command, Usage>
     requires no_problem { IsSet (one_of (codes "wcnf") (rows_of (found_of options.now))) false }
+    requires no_count { IsSet (one_of (codes "count") (rows_of (found_of options.now))) false }
     ensures command { IfOk result (IsCommand (codes "distance") (rows_of (found_of options.now))) }
     ensures refused { IfErr result (RefusesDistance (rows_of (found_of options.now))) }
 {
@@ -274,8 +296,9 @@ fn search_or_table(alloc: Global, options: &ArgMatches) -> Result<Command, Usage
     })
 }
 
-/// What `distance` is asked for.
-fn distance(alloc: Global, options: &ArgMatches) -> Result<Command, Usage>
+/// What `distance` is asked for, if not for the number of least sets.
+fn uncounted(alloc: Global, options: &ArgMatches) -> Result<Command, Usage>
+    requires no_count { IsSet (one_of (codes "count") (rows_of (found_of options.now))) false }
     ensures command { IfOk result (IsCommand (codes "distance") (rows_of (found_of options.now))) }
     ensures refused { IfErr result (RefusesDistance (rows_of (found_of options.now))) }
 {
@@ -291,6 +314,24 @@ fn distance(alloc: Global, options: &ArgMatches) -> Result<Command, Usage>
         layout: SearchedLayout::Wcnf,
         options: asked,
     })
+}
+
+/// What `distance` is asked for.
+fn distance(alloc: Global, options: &ArgMatches) -> Result<Command, Usage>
+    ensures command { IfOk result (IsCommand (codes "distance") (rows_of (found_of options.now))) }
+    ensures refused { IfErr result (RefusesDistance (rows_of (found_of options.now))) }
+{
+    if !flag(options, "count") {
+        return uncounted(alloc, options);
+    }
+    let asked = distance_options(options);
+    let wcnf = flag(options, "wcnf");
+    let table = flag(options, "table");
+    if is_beside_count(wcnf, table, flag(options, "each"), asked) {
+        let told = String::from_str(alloc, COUNT_BESIDE)?;
+        return Err(Usage::Fault(told));
+    }
+    Ok(Command::CountedDistance(asked))
 }
 
 /// The command of a name, with its own options.
@@ -321,6 +362,7 @@ fn command(alloc: Global, name: &str, options: &ArgMatches) -> Result<Command, U
             layout: layout(options),
         },
         "distance" => distance(alloc, options)?,
+        "propagate" => Command::Propagate,
         _ => Command::Edit {
             framed: flag(options, "framed"),
             qubits: qubits(options),
@@ -346,5 +388,7 @@ pub(crate) fn job(alloc: Global, name: &str, options: &ArgMatches) -> Result<Job
         coins_path: path(alloc, options, "coins_in")?,
         in_path: path(alloc, options, "in")?,
         out_path: path(alloc, options, "out")?,
+        at: word(alloc, options, "at")?,
+        string: word(alloc, options, "PAULI")?,
     })
 }

@@ -4,8 +4,9 @@ use Rattle.std.specs.Prelude.{◌≡◌, ℕ, Bool, ◌&&◌, List, Result, Ok, 
 use Rattle.std.specs.List.{list_all}
 use Rattle.stab_io.specs.declared.refusal.Refusal.{Refusal}
 use Rattle.stab_line_reader.specs.declared.line.Shape.{Shape as Parts}
+use Rattle.stab_lines.specs.Results.{◌>>=◌}
 use Rattle.stab_lines.specs.Lines.{Shape}
-use Rattle.stab_lines.specs.Words.{is_some_word}
+use Rattle.stab_lines.specs.Words.{is_some_word, arguments_of}
 use Rattle.stab_lines.specs.Targets.{is_coordinate_byte}
 
 -- the shape that the parts of a content show
@@ -20,3 +21,7 @@ GivesBy view (Err r) given = given ≡ Err r
 -- whether an argument is written as a coordinate is
 abbrev pub is_coordinate : List ℕ → Bool
 is_coordinate argument = is_some_word argument && list_all is_coordinate_byte argument
+
+-- coordinates that are written in this way, and the records after them, or the refusal of these
+abbrev pub after_coordinates : List ℕ → Result (List ℕ) Refusal → Result (List (List ℕ) × List ℕ) Refusal
+after_coordinates written given = given >>= λ ks. Ok (arguments_of written, ks)

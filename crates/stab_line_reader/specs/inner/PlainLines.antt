@@ -15,7 +15,6 @@ use Rattle.stab_lines.specs.Targets.{qubit_of, pairs_of}
 use Rattle.stab_lines.specs.Meanings.{kind_of}
 use Rattle.stab_lines.specs.Prints.{spaced}
 use Rattle.stab_line_reader.specs.inner.FrontTargets.{follows}
-use Rattle.stab_line_reader.specs.inner.DetectorLines.{EndsLine}
 
 -- the bytes are a space, this qubit in digits, and the rest
 abbrev pub IsSpacedQubit : List ℕ → ℕ → List ℕ → Type 0
@@ -40,6 +39,11 @@ AreNumbers bs ws rest = (bs ≡ spaced_words ws ++ rest) × (list_all is_number 
 -- the bytes are numbers that mean these targets, whatever follows them, and the rest
 abbrev pub AreSpacedTargets : {X : Type 0} → (List (List ℕ) → Result (List X) Refusal) → List ℕ → List X → List ℕ → Type 0
 AreSpacedTargets meaning bs xs rest = (ws : List (List ℕ)) × AreNumbers bs ws rest × ((more : List (List ℕ)) → meaning (ws ++ more) ≡ follows xs (meaning more))
+
+-- the bytes are the end of a line, and these lines follow it
+abbrev pub EndsLine : List ℕ → Option (List ℕ) → Type 0
+EndsLine bs None = bs ≡ []
+EndsLine bs (Some after) = bs ≡ 10 ∷ after
 
 -- the call gave the targets up to the end of the line and the lines after it, or said nothing, or failed for lack of memory
 abbrev pub TellsTargets : {X : Type 0} → (List (List ℕ) → Result (List X) Refusal) → List ℕ → Result (Option (List X × Option (Bor (List ℕ)))) Refusal → Type 0

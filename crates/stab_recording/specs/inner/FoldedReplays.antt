@@ -17,8 +17,8 @@ use Rattle.stab_frames.specs.Propagations.{PropagationState, frame_at, IsPlaced}
 use Rattle.stab_frames.specs.AgainLaws.{DiffersBack}
 use Rattle.stab_frames.specs.OtherCoins.{coins_from, PropagatesToOthers}
 use Rattle.stab_recording.specs.declared.checkpoint.Checkpoint.{Checkpoint}
-use Rattle.stab_recording.specs.declared.earlier.Earlier.{Earlier}
-use Rattle.stab_recording.specs.declared.folding_again.Segment.{Segment}
+use Rattle.stab_recording.specs.declared.recurrence.Earlier.{Earlier}
+use Rattle.stab_recording.specs.declared.loop_folding.Segment.{Segment}
 use Rattle.stab_recording.specs.declared.replay.Plan.{Plan}
 use Rattle.stab_recording.specs.declared.replay.Replay.{Replay}
 use Rattle.stab_recording.specs.Meets.{ComesAgain}

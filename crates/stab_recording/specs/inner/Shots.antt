@@ -1,7 +1,7 @@
 -- Shots: what a run of all steps gives.
 -- Source: this project's own.
 use Rattle.std.specs.Prelude.{◌≡◌}
-use Rattle.stab_recording.specs.declared.whole.Shot.{Shot}
+use Rattle.stab_recording.specs.declared.whole_run.Shot.{Shot}
 use Rattle.stab_run.specs.Runs.{State}
 
 -- the lists are those of a run that ended in a state

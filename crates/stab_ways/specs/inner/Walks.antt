@@ -1,23 +1,45 @@
 -- Walks: a string on its way over the instructions of a circuit, from the first one on, and what is known of it so far.
-use Rattle.std.specs.Prelude.{◌≡◌, ◌≤◌, ℕ, ◌+◌, ◌-◌, nat_lt, List, [], ◌∷◌, ◌++◌, length, take, drop, map, Option, Some, None, if◌then◌else◌}
+use Rattle.std.specs.Prelude.{◌≡◌, ◌≤◌, ◌<◌, ℕ, ◌+◌, ◌-◌, nat_lt, Bool, List, [], ◌∷◌, ◌++◌, length, take, drop, map, Option, Some, None, if◌then◌else◌}
 use Rattle.stab_gates.specs.declared.letter.Letter.{Letter}
 use Rattle.stab_pauli.specs.Paulis.{string_product}
 use Rattle.stab_items.specs.Steps.{Step}
 use Rattle.stab_run.specs.Points.{joined, all_coins_of}
 use Rattle.stab_frames.specs.Propagations.{PropagationState, frame_at, IsPlaced}
+use Rattle.stab_lines.specs.declared.range.MeasureTarget.{MeasureTarget}
+use Rattle.stab_tableau.specs.Gates.{letter_at}
+use Rattle.stab_frames.specs.Frames.{Frame}
+use Rattle.stab_frames.specs.inner.Touches.{acts}
 use Rattle.stab_frames.specs.FrameSteps.{frame_over, flips_over}
 use Rattle.stab_ways.specs.declared.walk.Walk.{Walk}
-use Rattle.stab_ways.specs.PutIn.{by_letters}
+use Rattle.stab_ways.specs.PutIn.{by_letters, step_leaves, way_over, way_flips}
 use Rattle.stab_ways.specs.Ways.{Turn, turned, turn_shown}
 
 -- a frame after steps, with what it has flipped
 abbrev pub passed : ℕ → List Step → PropagationState → PropagationState
 passed n ys p = record {
-  letters = (frame_over n by_letters ys 0 (frame_at 0 p)).letters;
-  flips = joined p.flips (flips_over n by_letters ys 0 (frame_at 0 p));
+  letters = (way_over n ys (frame_at 0 p)).letters;
+  flips = joined p.flips (way_flips n ys (frame_at 0 p));
   coin = p.coin + all_coins_of ys;
   number = p.number;
 }
+
+-- what resets among steps leave of letters
+abbrev pub steps_leave : ℕ → List Step → List Letter → List Letter
+steps_leave n [] letters = letters
+steps_leave n (x ∷ xs) letters = steps_leave n xs (step_leaves n x letters)
+
+-- what resets leave after steps that a frame goes over is what they leave one by one
+pub record EndsTogether (n : ℕ) (ys : List Step) (f : Frame) : Type 0 where
+  pub letters : (way_over n ys f).letters ≡ steps_leave n ys (frame_over n by_letters ys 0 f).letters
+  pub flips : way_flips n ys f ≡ flips_over n by_letters ys 0 f
+
+-- whether a string has a letter at the qubit of a target
+abbrev pub has_letter_at : List Letter → MeasureTarget → Bool
+has_letter_at letters t = acts (letter_at letters t.qubit)
+
+-- steps are the first of others, and at least one
+abbrev pub IsFront : List Step → List Step → Type 0
+IsFront ys xs = (rest : List Step) × (xs ≡ ys ++ rest) × (0 < length ys)
 
 -- how many steps were passed, after how many more the string is put in, if it was not yet, the frame so far, and where the string became another one
 pub record WalkState : Type 0 where

@@ -1,7 +1,6 @@
 use Rattle.stab_analysis.proofs.Names.{◌∙◌, err_from_is_err_and, sym, subst, All, ◌<◌, length, unroll, circuit_items, refl, inl}
 use Rattle.stab_texts.specs.Distances.{IsEachText}
-use Rattle.stab_analysis.proofs.EachLaws.{each_heard, each_unheard}
-use Rattle.stab_analysis.proofs.EndingLaws.{refusal_handed, unsent, unwarned}
+use Rattle.stab_analysis.proofs.EndingLaws.{errors_heard, errors_unheard, refusal_handed, unsent, unwarned}
 use Rattle.stab_texts.specs.DoubtLines.{TellsDoubts}
 use Rattle.stab_analysis.proofs.each_distance.run_each_distance.Goals as goal
 
@@ -45,19 +44,19 @@ returns-clause-warns g c =
 
 pub returns-in_err-circuit-clause-told : goal.returns-in_err-circuit-clause-told
 returns-in_err-circuit-clause-told g c =
-    each_unheard c.args.options (g.I.Input.seen c.args.input.now) (g.I.Input.seen c.read_circuit.new.input) (g.P.Progress.heard c.args.progress.now) c.in_err-circuit.field-0.0 c.from_residual.result
+    errors_unheard c.args.options (g.I.Input.seen c.args.input.now) (g.I.Input.seen c.read_circuit.new.input) (g.P.Progress.heard c.args.progress.now) c.in_err-circuit.field-0.0 c.from_residual.result
     c.in_err-circuit.ensures.reads c.from_residual.ensures.1
 
 pub returns-in_err-doubts-clause-told : goal.returns-in_err-doubts-clause-told
 returns-in_err-doubts-clause-told g c =
     let told = err_from_is_err_and c.from_residual-in_err-doubts.result c.from_residual-in_err-doubts.ensures.1 in
-    each_heard c.args.options (g.I.Input.seen c.args.input.now) (g.I.Input.seen c.read_circuit.new.input) (g.P.Progress.heard c.args.progress.now) (g.P.Progress.heard c.args.progress.now)
+    errors_heard c.args.options (g.I.Input.seen c.args.input.now) (g.I.Input.seen c.read_circuit.new.input) (g.P.Progress.heard c.args.progress.now) (g.P.Progress.heard c.args.progress.now)
     (circuit_items c.in_ok-circuit.circuit) c.from_residual-in_err-doubts.result told.0 c.in_ok-circuit.ensures.reads (inl refl) told.1
 
 pub returns-in_err-send_each_distance-clause-told : goal.returns-in_err-send_each_distance-clause-told
 returns-in_err-send_each_distance-clause-told g c =
     let told = err_from_is_err_and c.from_residual-in_err-send_each_distance.result c.from_residual-in_err-send_each_distance.ensures.1 in
-    each_heard c.args.options (g.I.Input.seen c.args.input.now) (g.I.Input.seen c.read_circuit.new.input) (g.P.Progress.heard c.args.progress.now) (g.P.Progress.heard c.send_each_distance.new.progress)
+    errors_heard c.args.options (g.I.Input.seen c.args.input.now) (g.I.Input.seen c.read_circuit.new.input) (g.P.Progress.heard c.args.progress.now) (g.P.Progress.heard c.send_each_distance.new.progress)
     (circuit_items c.in_ok-circuit.circuit) c.from_residual-in_err-send_each_distance.result told.0 c.in_ok-circuit.ensures.reads c.in_err-send_each_distance.ensures.told told.1
 
 pub returns-clause-told : goal.returns-clause-told

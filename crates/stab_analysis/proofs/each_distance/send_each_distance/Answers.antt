@@ -1,7 +1,8 @@
 use Rattle.stab_analysis.proofs.Names.{◌∙◌, Ok, Err, ap, length, sym, subst, err_from_is_err_and, circuit_items}
 use Rattle.stab_texts.specs.Distances.{AreAnswers, IsEachText}
 use Rattle.stab_analysis.proofs.DistanceLaws.{refused_handed}
-use Rattle.stab_analysis.proofs.EachLaws.{each_sent, each_unsent, heard_over}
+use Rattle.stab_analysis.proofs.EachLaws.{each_sent}
+use Rattle.stab_analysis.proofs.EndingLaws.{heard_over, unsent_on}
 use Rattle.stab_analysis.proofs.each_distance.send_each_distance.Goals as goal
 
 pub returns-in_err-errors-clause-goes_on : goal.returns-in_err-errors-clause-goes_on
@@ -13,7 +14,7 @@ returns-in_err-errors-clause-goes_on g c =
 pub returns-in_err-answers-clause-goes_on : goal.returns-in_err-answers-clause-goes_on
 returns-in_err-answers-clause-goes_on g c =
     let items = circuit_items c.args.circuit.now in
-    each_unsent (IsEachText c.args.options items) c.args.options.deterministic_only items c.in_err-answers.field-0.0 c.from_residual-in_err-answers.result (g.O.Output.seen c.args.out.now)
+    unsent_on (IsEachText c.args.options items) c.args.options.deterministic_only items c.in_err-answers.field-0.0 c.from_residual-in_err-answers.result (g.O.Output.seen c.args.out.now)
     c.in_err-answers.ensures.err c.from_residual-in_err-answers.ensures.1
 
 pub returns-in_err-answers-clause-told : goal.returns-in_err-answers-clause-told

@@ -1,5 +1,5 @@
-use Rattle.stab_analysis.proofs.Names.{◌∙◌, err_from_is_err_and, sym, subst, All, ◌<◌, length, unroll, circuit_items, IsSearchedText}
-use Rattle.stab_analysis.proofs.EndingLaws.{refusal_handed, unsent, unwarned}
+use Rattle.stab_analysis.proofs.Names.{◌∙◌, err_from_is_err_and, refl, inl, sym, subst, All, ◌<◌, length, unroll, circuit_items, IsSearchedText}
+use Rattle.stab_analysis.proofs.EndingLaws.{errors_heard, errors_unheard, refusal_handed, unsent, unwarned}
 use Rattle.stab_texts.specs.DoubtLines.{TellsDoubts}
 use Rattle.stab_analysis.proofs.searched.run_searched_errors.Goals as goal
 
@@ -40,3 +40,23 @@ returns-clause-warns g c =
     let items = circuit_items c.in_ok-circuit.circuit in
     let tells = subst (λ ms. TellsDoubts items ms (g.E.Output.seen c.args.err.now) (g.E.Output.seen c.tell_doubts.new.err)) (c.as_slice.ensures.value ∙ c.in_ok-doubts.ensures.value) c.tell_doubts.ensures.tells in
     (items, c.in_ok-circuit.ensures.reads, tells)
+
+pub returns-in_err-circuit-clause-told : goal.returns-in_err-circuit-clause-told
+returns-in_err-circuit-clause-told g c =
+    errors_unheard c.args.options (g.I.Input.seen c.args.input.now) (g.I.Input.seen c.read_circuit.new.input) (g.P.Progress.heard c.args.progress.now) c.in_err-circuit.field-0.0 c.from_residual.result
+    c.in_err-circuit.ensures.reads c.from_residual.ensures.1
+
+pub returns-in_err-doubts-clause-told : goal.returns-in_err-doubts-clause-told
+returns-in_err-doubts-clause-told g c =
+    let told = err_from_is_err_and c.from_residual-in_err-doubts.result c.from_residual-in_err-doubts.ensures.1 in
+    errors_heard c.args.options (g.I.Input.seen c.args.input.now) (g.I.Input.seen c.read_circuit.new.input) (g.P.Progress.heard c.args.progress.now) (g.P.Progress.heard c.args.progress.now)
+    (circuit_items c.in_ok-circuit.circuit) c.from_residual-in_err-doubts.result told.0 c.in_ok-circuit.ensures.reads (inl refl) told.1
+
+pub returns-in_err-send_searched_errors-clause-told : goal.returns-in_err-send_searched_errors-clause-told
+returns-in_err-send_searched_errors-clause-told g c =
+    let told = err_from_is_err_and c.from_residual-in_err-send_searched_errors.result c.from_residual-in_err-send_searched_errors.ensures.1 in
+    errors_heard c.args.options (g.I.Input.seen c.args.input.now) (g.I.Input.seen c.read_circuit.new.input) (g.P.Progress.heard c.args.progress.now) (g.P.Progress.heard c.send_searched_errors.new.progress)
+    (circuit_items c.in_ok-circuit.circuit) c.from_residual-in_err-send_searched_errors.result told.0 c.in_ok-circuit.ensures.reads c.in_err-send_searched_errors.ensures.told told.1
+
+pub returns-clause-told : goal.returns-clause-told
+returns-clause-told g c = (circuit_items c.in_ok-circuit.circuit, c.in_ok-circuit.ensures.reads, c.in_ok-send_searched_errors.ensures.told)

@@ -1,5 +1,5 @@
 use Rattle.std.proofs.Common.{false, subst, sym}
-use Rattle.stab_texts.specs.Distances.{EndsDistance, EndsEach, EndsSearched}
+use Rattle.stab_texts.specs.Distances.{EndsCounted, EndsDistance, EndsEach, EndsSearched}
 use Rattle.stab_texts.specs.FaultTables.{EndsFaults, fault_of}
 use Rattle.stab_cli.proofs.WarningLaws.{warned_alike, warned_alike_of}
 use Rattle.stab_cli.proofs.status.run_command.Goals as goal
@@ -25,6 +25,13 @@ returns-in-EachDistance-clause-ends g c =
     (sym c.refuses_none-in-EachDistance.ensures.same) c.run_each_distance.ensures.ends in
     rw c.in-EachDistance.is (fault_of c.run_each_distance.result, ends, c.refuses_none-in-EachDistance.ensures.value)
 
+pub returns-in-CountedDistance-clause-ends : goal.returns-in-CountedDistance-clause-ends
+returns-in-CountedDistance-clause-ends g c =
+    let ends = subst
+    (λ u. EndsCounted c.in-CountedDistance.options (g.I.Input.seen c.args.input.now) (g.I.Input.seen c.run_counted_distance.new.input) (g.O.Output.seen c.args.out.now) (g.O.Output.seen c.run_counted_distance.new.out) (fault_of c.run_counted_distance.result) u)
+    (sym c.refuses_none-in-CountedDistance.ensures.same) c.run_counted_distance.ensures.ends in
+    rw c.in-CountedDistance.is (fault_of c.run_counted_distance.result, ends, c.refuses_none-in-CountedDistance.ensures.value)
+
 pub returns-in-Distance-clause-ends : goal.returns-in-Distance-clause-ends
 returns-in-Distance-clause-ends g c =
     let ends = subst
@@ -37,6 +44,12 @@ returns-in-Distance-clause-told g c = rw c.in-Distance.is (fault_of c.run_distan
 
 pub returns-in-EachDistance-clause-told : goal.returns-in-EachDistance-clause-told
 returns-in-EachDistance-clause-told g c = rw c.in-EachDistance.is (fault_of c.run_each_distance.result, c.run_each_distance.ensures.told, c.refuses_none-in-EachDistance.ensures.value)
+
+pub returns-in-CountedDistance-clause-told : goal.returns-in-CountedDistance-clause-told
+returns-in-CountedDistance-clause-told g c = rw c.in-CountedDistance.is (fault_of c.run_counted_distance.result, c.run_counted_distance.ensures.told, c.refuses_none-in-CountedDistance.ensures.value)
+
+pub returns-in-SearchedErrors-clause-told : goal.returns-in-SearchedErrors-clause-told
+returns-in-SearchedErrors-clause-told g c = rw c.in-SearchedErrors.is (fault_of c.run_searched_errors.result, c.run_searched_errors.ensures.told, c.refuses_none-in-SearchedErrors.ensures.value)
 
 -- what is left of the error output
 
@@ -59,3 +72,7 @@ returns-in-SearchedErrors-clause-warns g c =
 pub returns-in-EachDistance-clause-warns : goal.returns-in-EachDistance-clause-warns
 returns-in-EachDistance-clause-warns g c =
     rw c.in-EachDistance.is (warned_alike c.in-EachDistance.options.everywhere (g.I.Input.seen c.args.input.now) (g.I.Input.seen c.run_each_distance.new.input) (g.E.Output.seen c.args.err.now) (g.E.Output.seen c.run_each_distance.new.err) (fault_of c.run_each_distance.result) (fault_of c.refuses_none-in-EachDistance.result) c.refuses_none-in-EachDistance.ensures.value c.run_each_distance.ensures.warns)
+
+pub returns-in-CountedDistance-clause-warns : goal.returns-in-CountedDistance-clause-warns
+returns-in-CountedDistance-clause-warns g c =
+    rw c.in-CountedDistance.is (warned_alike_of c.in-CountedDistance.options.everywhere c.in-CountedDistance.options.observable (g.I.Input.seen c.args.input.now) (g.I.Input.seen c.run_counted_distance.new.input) (g.E.Output.seen c.args.err.now) (g.E.Output.seen c.run_counted_distance.new.err) (fault_of c.run_counted_distance.result) (fault_of c.refuses_none-in-CountedDistance.result) c.refuses_none-in-CountedDistance.ensures.value c.run_counted_distance.ensures.warns)

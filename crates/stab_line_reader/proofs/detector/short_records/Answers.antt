@@ -1,6 +1,5 @@
 use Rattle.stab_line_reader.proofs.Names.{◌<◌, length, take, arith, Ok, sym, ap, ◌∙◌, length-set, each, words, lookback_of}
 use Rattle.stab_line_reader.proofs.DetectorLemmas.{found_in_range, found_more, found_all}
-use Rattle.stab_line_reader.proofs.ClearLemmas.{blank_clear}
 use Rattle.stab_line_reader.proofs.detector.short_records.Goals as goal
 
 pub loop-count-preserved : goal.loop-count-preserved
@@ -10,16 +9,11 @@ loop-count-preserved c =
       long = length-set c.loop-count.found c.loop-count.count c.in-Some.number ∙ c.loop-count.invariant.long;
       room = omega arith;
       in_range = found_in_range c.loop-count.found c.loop-count.count c.in-Some.number c.loop-count.rest.now c.in-Some.after.now room c.in-Some.ensures.value c.loop-count.invariant.in_range;
-      clear = sym c.in-Some.ensures.clear ∙ c.loop-count.invariant.clear;
       kept = found_more c.loop-count.found c.loop-count.count c.in-Some.number c.loop-count.rest.now c.in-Some.after.now room c.in-Some.ensures.value ∙ c.loop-count.invariant.kept;
     }
 
-pub returns-then-is_blank-clause-behind : goal.returns-then-is_blank-clause-behind
-returns-then-is_blank-clause-behind c =
+pub returns-then-is_blank-clause-after : goal.returns-then-is_blank-clause-after
+returns-then-is_blank-clause-after c =
     found_all (take c.loop-count.count c.loop-count.found) c.loop-count.rest.now (each lookback_of (words c.args.words_text.now)) (sym c.is_blank.ensures.value ∙ c.if-is_blank.true)
     c.loop-count.invariant.kept
     ∙ ap Ok (sym (ap (λ d. d.1) c.few.ensures.value))
-
-pub returns-then-is_blank-clause-clear : goal.returns-then-is_blank-clause-clear
-returns-then-is_blank-clause-clear c =
-    sym c.loop-count.invariant.clear ∙ blank_clear c.loop-count.rest.now (sym c.is_blank.ensures.value ∙ c.if-is_blank.true)

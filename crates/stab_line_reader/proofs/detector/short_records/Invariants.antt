@@ -1,4 +1,4 @@
-use Rattle.stab_line_reader.proofs.Names.{◌≡◌, ◌≤◌, ◌-◌, length, take, All, list_any, is_brace, each, words, IsLookback, lookback_of}
+use Rattle.stab_line_reader.proofs.Names.{◌≡◌, ◌≤◌, ◌-◌, length, take, All, each, words, IsLookback, lookback_of}
 use Rattle.stab_line_reader.proofs.ResultLemmas.{behind}
 use Rattle.stab_line_reader.proofs.detector.short_records.Given as goal
 
@@ -7,7 +7,6 @@ invariant-loop-count l = record {
   long : length l.found ≡ 2;
   room : l.count ≤ 2;
   in_range : All IsLookback (take l.count l.found);
-  clear : list_any is_brace l.rest ≡ list_any is_brace l.words_text;
   kept : behind (take l.count l.found) (each lookback_of (words l.rest)) ≡ each lookback_of (words l.words_text);
 }
 

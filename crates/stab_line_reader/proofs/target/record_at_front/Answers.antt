@@ -1,5 +1,4 @@
 use Rattle.stab_line_reader.proofs.Names.{sym, ◌∙◌}
-use Rattle.stab_line_reader.proofs.ClearLemmas.{record_clear}
 use Rattle.stab_line_reader.proofs.FrontTargetLemmas.{record_parts, record_begins, record_shorter}
 use Rattle.stab_line_reader.proofs.target.record_at_front.Goals as goal
 
@@ -17,11 +16,3 @@ returns-then-ends_word-clause-shorter c =
     c.without_spacing_in_front-bytes.ensures.value
     (record_parts c.without_spacing_in_front-bytes.result.now c.split_at.result.1.now c.split_at-2.result.1.now c.split_at-3.result.1.now c.digits_in_front-length.result.0
     (sym c.starts_with.ensures.value ∙ c.if-not-starts_with.false) c.split_at.ensures.back c.split_at-2.ensures.back (sym c.starts_with-2.ensures.value ∙ c.if-not-starts_with-2.false) c.split_at-3.ensures.back)
-
-pub returns-then-ends_word-clause-clear : goal.returns-then-ends_word-clause-clear
-returns-then-ends_word-clause-clear c =
-    record_clear c.args.bytes.now c.without_spacing_in_front-bytes.result.now c.split_at.result.1.now c.split_at-3.result.1.now c.digits_in_front-length.result.0
-    c.without_spacing_in_front-bytes.ensures.value
-    (record_parts c.without_spacing_in_front-bytes.result.now c.split_at.result.1.now c.split_at-2.result.1.now c.split_at-3.result.1.now c.digits_in_front-length.result.0
-    (sym c.starts_with.ensures.value ∙ c.if-not-starts_with.false) c.split_at.ensures.back c.split_at-2.ensures.back (sym c.starts_with-2.ensures.value ∙ c.if-not-starts_with-2.false) c.split_at-3.ensures.back)
-    c.digits_in_front-length.ensures.digits

@@ -10,4 +10,5 @@ returns c =
     let sixth = c.with_command-program-6.ensures.app _ _ fifth c.deterministic_command.ensures.app in
     let seventh = c.with_command-program-7.ensures.app _ _ sixth c.faults_command.ensures.app in
     let eighth = c.with_command-program-8.ensures.app _ _ seventh c.coins_command.ensures.app in
-    record { app = c.with_command.ensures.app _ _ eighth c.distance_command.ensures.app }
+    let ninth = c.with_command-program-9.ensures.app _ _ eighth c.distance_command.ensures.app in
+    record { app = c.with_command.ensures.app _ _ ninth c.propagate_command.ensures.app }

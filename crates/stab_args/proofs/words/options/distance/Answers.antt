@@ -1,24 +1,21 @@
 use Rattle.std.proofs.Common.{◌≡◌, ◌∙◌, sym, inr, rules, codes, string_bytes, true}
 use Rattle.clap.specs.Words.{found_of, one_of, rows_of}
-use Rattle.stab_args.specs.Asked.{IsSet, problem_fault}
+use Rattle.stab_args.specs.Asked.{IsSet, count_fault}
 use Rattle.stab_args.proofs.words.options.distance.Goals as goal
 
-pub returns-then-is_beside_problem-clause-refused : goal.returns-then-is_beside_problem-clause-refused
-returns-then-is_beside_problem-clause-refused c =
-    let text : string_bytes c.in_ok-told.told ≡ problem_fault = search rules in
-    let set : IsSet (one_of (codes "wcnf") (rows_of (found_of c.args.options.now))) true = search rules in
-    inr (inr (
+pub returns-then-is_beside_count-clause-refused : goal.returns-then-is_beside_count-clause-refused
+returns-then-is_beside_count-clause-refused c =
+    let text : string_bytes c.in_ok-told.told ≡ count_fault = search rules in
+    let set : IsSet (one_of (codes "count") (rows_of (found_of c.args.options.now))) true = search rules in
+    inr (inr (inr (
       text,
       (
-        set,
-        (
-          c.flag-2.result,
-          c.flag-3.result,
-          c.distance_options-asked.result,
-          c.flag-2.ensures.set,
-          c.flag-3.ensures.set,
-          c.distance_options-asked.ensures.asked,
-          sym c.is_beside_problem.ensures.value ∙ c.if-is_beside_problem.true,
-        ),
+        c.flag-wcnf.result,
+        c.flag-table.result,
+        c.flag-2.result,
+        c.distance_options-asked.result,
+        record { wcnf = c.flag-wcnf.ensures.set; table = c.flag-table.ensures.set; each = c.flag-2.ensures.set; count = set },
+        c.distance_options-asked.ensures.asked,
+        sym c.is_beside_count.ensures.value ∙ c.if-is_beside_count.true,
       ),
-    ))
+    )))

@@ -1,0 +1,4 @@
+mod Names
+mod WordLemmas
+mod LineLemmas
+mod SendLemmas

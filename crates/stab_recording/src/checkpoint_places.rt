@@ -1,0 +1,153 @@
+ghost use Rattle.std.specs.Prelude.{◌≡◌, ℕ, ◌+◌, ◌*◌, ◌<◌, ◌≤◌, List, IfSome};
+ghost use Rattle.stab_items.specs.Steps.{Step};
+ghost use Rattle.stab_edits.specs.Repeats.{AreRepeats, IsRepeat};
+
+use crate::replay::{Plan, Replay};
+use stab_edits::Repeat;
+
+/// Within this many checkpoints at most whole rounds are gone through.
+const MOST_COPIES: usize = 32;
+
+/// At which places a replay keeps checkpoints in a block: so that they are alike in later rounds.
+#[derive(Clone, Copy)]
+pub(crate) struct Rhythm {
+    /// How many steps some whole rounds have.
+    pub(crate) period: usize,
+    /// How many checkpoints are kept on the way through them, at least 1.
+    copies: usize,
+}
+
+/// Where a replay stops next, at the earliest and at the latest.
+#[derive(Clone, Copy)]
+pub(crate) struct Stops {
+    pub least: usize,
+    pub most: usize,
+}
+
+/// The block in which a step lies, if there is one among these, which are one after the other.
+pub fn block_at(repeats: &[Repeat], step: usize) -> Option<Repeat>
+    ensures found { (from : ℕ) (steps : List Step) → AreRepeats from steps repeats.now → IfSome result (IsRepeat steps) }
+{
+    for repeat in repeats {
+        let end = end_of(*repeat);
+        if step < end {
+            return if repeat.first <= step {
+                Some(*repeat)
+            } else {
+                None
+            };
+        }
+    }
+    None
+}
+
+/// The step after the last round of a block.
+pub fn end_of(block: Repeat) -> usize
+    ensures within { result ≤ block.first + block.rounds * block.length }
+{
+    block
+        .rounds
+        .saturating_mul(block.length)
+        .saturating_add(block.first)
+}
+
+/// The fewest checkpoints on the way through whole rounds of this many steps, if each may be no less than some and no more than other
+/// steps after the one before it.
+fn rhythm_of(length: usize, least: usize, most: usize) -> Option<Rhythm>
+    requires some { 0 < length }
+    ensures some { IfSome result (λ r. 0 < r.copies) }
+{
+    for copies in 1..=MOST_COPIES {
+        let rounds = copies.saturating_mul(most) / length;
+        let period = rounds.saturating_mul(length);
+        let part = period / copies;
+        let last = period.saturating_sub(part.saturating_mul(copies - 1));
+        if part >= least && last <= most {
+            return Some(Rhythm { period, copies });
+        }
+    }
+    None
+}
+
+impl Plan {
+    ghost use Rattle.std.specs.Prelude.{◌<◌, ◌≤◌, IfSome};
+
+    /// At which places checkpoints are kept in a block so that they are alike in later rounds, if these are not too long for that.
+    pub(crate) fn rhythm(self, block: Repeat) -> Option<Rhythm>
+        requires stride { 1 ≤ self.stride }
+        ensures some { IfSome result (λ r. 0 < r.copies) }
+    {
+        if block.length == 0 {
+            return None;
+        }
+        let most = self.stride - self.stride / 16;
+        rhythm_of(block.length, self.spacing(), most)
+    }
+}
+
+impl<'a> Replay<'a> {
+    ghost use Rattle.std.specs.Prelude.{◌≡◌, ◌⊎◌, ◌+◌, ◌<◌, ◌≤◌, Some, IfSome};
+    ghost use Rattle.stab_recording.specs.Replays.{spacing_of};
+
+    /// Where the next checkpoint is placed well in a block: some whole rounds after another one, if there is one that lies so far back.
+    fn aim(&self, block: Repeat, rhythm: Rhythm) -> usize
+        requires some { 0 < rhythm.copies }
+    {
+        let part = rhythm.period / rhythm.copies;
+        let Some(place) = self.laid.len().checked_sub(rhythm.copies) else {
+            return self.step.saturating_add(part);
+        };
+        let copy = &self.laid[place];
+        if copy.step < block.first {
+            return self.step.saturating_add(part);
+        }
+        copy.step.saturating_add(rhythm.period)
+    }
+
+    /// The next place of a checkpoint, between two stops, that is well in the block of the step, if the step lies in one.
+    fn aim_between(
+        &self,
+        repeats: &[Repeat],
+        plan: Plan,
+        stop: usize,
+        limit: usize,
+    ) -> Option<usize>
+        requires stride { 1 ≤ plan.stride }
+        requires order { stop ≤ limit }
+        ensures within { IfSome result (λ aim. (stop ≤ aim) × (aim ≤ limit)) }
+    {
+        let block = block_at(repeats, self.step)?;
+        let rhythm = plan.rhythm(block)?;
+        let aim = self.aim(block, rhythm);
+        if aim < stop || aim > limit {
+            return None;
+        }
+        Some(aim)
+    }
+
+    /// Where a replay that carries out steps stops next, before the place of the old checkpoint that may be met next or at it.
+    pub(crate) fn stops(&self, repeats: &[Repeat], plan: Plan, place: Option<usize>) -> Stops
+        requires stride { 1 ≤ plan.stride }
+        requires within { self.now.step ≤ plan.total }
+        requires behind { IfSome place (λ p. self.now.step ≤ p) }
+        ensures order { self.now.step ≤ result.least }
+        ensures further { result.least ≤ result.most }
+        ensures within { result.most ≤ plan.total }
+        ensures near { result.most ≤ self.now.step + plan.stride }
+        ensures before { IfSome place (λ p. result.most ≤ p) }
+        ensures far { (self.now.step + spacing_of plan.stride ≤ result.least) ⊎ ((result.least ≡ plan.total) ⊎ (place ≡ Some result.least)) }
+    {
+        let stop = plan.stop(self.step, place);
+        let limit = plan.limit(self.step, stop, place);
+        match self.aim_between(repeats, plan, stop, limit) {
+            Some(aim) => Stops {
+                least: aim,
+                most: aim,
+            },
+            None => Stops {
+                least: stop,
+                most: limit,
+            },
+        }
+    }
+}

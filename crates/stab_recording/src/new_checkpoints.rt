@@ -1,0 +1,153 @@
+ghost use Rattle.std.specs.Prelude.{◌≡◌, ◌+◌, ◌<◌, ◌≤◌, ◌++◌, ◌∷◌, [], All, OnOk, IfOk, IfErr, length, take, drop, OnErr};
+ghost use Rattle.stab_io.specs.declared.refusal.Refusal.TheVariants.{OutOfMemory};
+ghost use Rattle.stab_items.specs.Steps.{most_steps};
+ghost use Rattle.stab_run.specs.Records.{ones};
+ghost use Rattle.stab_run.specs.Points.{all_coins_of};
+ghost use Rattle.stab_run.specs.ProgramStates.{StepFits};
+ghost use Rattle.stab_recording.specs.Replays.{IsAtStep, copy_of};
+ghost use Rattle.stab_recording.specs.inner.RestFrameStates.{with_state};
+
+use crate::checkpoint::Checkpoint;
+use crate::replay::{Plan, Replay};
+use stab_io::Refusal;
+use stab_run::Coins;
+use stab_tableau::CompactTableau;
+use std::alloc::Global;
+
+/// A checkpoint shares memory with one of this many before it: in codes a state comes again within them, or not at all.
+const SHARED_AMONG: usize = 16;
+
+/// How many steps a replay takes together while it looks for a better place for a checkpoint.
+const LOOKED_AT: usize = 32;
+
+impl Plan {
+    ghost use Rattle.std.specs.Prelude.{◌≡◌, ◌+◌, ◌≤◌, IfSome};
+
+    /// How far beyond a stop a replay that comes from a step may keep its checkpoint: not past the place of an old checkpoint, and so that a
+    /// sixteenth of a stride is left for steps that are put in between.
+    pub(crate) fn limit(self, from: usize, stop: usize, place: Option<usize>) -> usize
+        requires within { stop ≤ self.total }
+        requires near { stop ≤ from + self.stride }
+        requires before { IfSome place (λ p. stop ≤ p) }
+        ensures order { stop ≤ result }
+        ensures within { result ≤ self.total }
+        ensures near { result ≤ from + self.stride }
+        ensures before { IfSome place (λ p. result ≤ p) }
+    {
+        // A stride with little room beyond its spacing is kept to.
+        if self.stride / 8 <= LOOKED_AT {
+            return stop;
+        }
+        let most = from
+            .saturating_add(self.stride - self.stride / 16)
+            .min(self.total);
+        match place {
+            Some(place) => most.min(place).max(stop),
+            None => most.max(stop),
+        }
+    }
+}
+
+impl<'a> Replay<'a> {
+    /// How many records and detectors there are so far.
+    fn given(&self) -> usize {
+        self.outputs
+            .records
+            .len()
+            .wrapping_add(self.outputs.detectors.len())
+    }
+
+    /// Carries out the steps up to a stop, and goes on from there, up to a limit at most, until it comes to steps that measure or
+    /// make a detector: there a round of a code ends, its state follows from few letters, and comes again in later rounds.
+    ///
+    /// Refusal `OutOfMemory` alone.
+    pub(crate) fn run_past<C: Coins>(
+        &mut self,
+        alloc: Global,
+        coins: &mut C,
+        stop: usize,
+        limit: usize,
+    ) -> Result<(), Refusal>
+        requires begun { IsAtStep self.old.tableau.qubits (C.sequence coins.old) self.old.cursor.all self.old }
+        requires fits { All (StepFits self.old.tableau.qubits) self.old.cursor.all }
+        requires order { self.old.step ≤ stop }
+        requires further { stop ≤ limit }
+        requires within { limit ≤ length self.old.cursor.all }
+        requires few { length self.old.cursor.all ≤ most_steps }
+        requires few_applied { self.old.applied ≤ self.old.step }
+        ensures all { self.new.cursor.all ≡ self.old.cursor.all }
+        ensures qubits { self.new.tableau.qubits ≡ self.old.tableau.qubits }
+        ensures laid { self.new.laid.items ≡ self.old.laid.items }
+        ensures same_coins { C.sequence coins.new ≡ C.sequence coins.old }
+        ensures at_step { OnOk result (IsAtStep self.old.tableau.qubits (C.sequence coins.old) self.old.cursor.all self.new) }
+        ensures order { self.old.step ≤ self.new.step }
+        ensures reached { OnOk result (stop ≤ self.new.step) }
+        ensures most { self.new.step ≤ limit }
+        ensures raised { self.old.pivots.window ≤ self.new.pivots.window }
+        ensures records { OnOk result (self.old.outputs.records.items ≡ take (length self.old.outputs.records.items) self.new.outputs.records.items) }
+        ensures counted { OnOk result (self.new.applied + self.old.step ≡ self.old.applied + self.new.step) }
+        ensures framed { self.new.framed ≡ self.old.framed }
+        ensures asks { C.asks coins.new + self.old.step ≤ C.asks coins.old + self.new.step }
+        ensures asks_free { OnOk result (C.asks coins.new + ones self.old.outputs.free.items ≤ C.asks coins.old + ones self.new.outputs.free.items) }
+        ensures asked { C.asks coins.new + all_coins_of (drop self.new.step self.old.cursor.all) ≤ C.asks coins.old + all_coins_of (drop self.old.step self.old.cursor.all) }
+        ensures err { IfErr result (λ r. r ≡ OutOfMemory) }
+    {
+        let mut next = stop;
+        self.run_to(alloc, coins, stop.saturating_sub(LOOKED_AT).max(self.step))?;
+        loop {
+            let given = self.given();
+            self.run_to(alloc, coins, next)?;
+            if self.given() != given || next >= limit {
+                return Ok(());
+            }
+            next = next.saturating_add(LOOKED_AT).min(limit);
+        }
+    }
+
+    /// A copy of the state, in little memory. What it can share with the last checkpoints takes none of its own.
+    ///
+    /// Refusal `OutOfMemory` alone.
+    fn compact(&self, alloc: Global) -> Result<CompactTableau, Refusal>
+        ensures ok { IfOk result (λ t. t ≡ self.now.tableau) }
+        ensures err { IfErr result (λ r. r ≡ OutOfMemory) }
+    {
+        let mut tableau = self.tableau.compact(alloc)?;
+        let first = self.laid.len().saturating_sub(SHARED_AMONG);
+        for place in first..self.laid.len() {
+            tableau.share(&self.laid[place].tableau);
+        }
+        Ok(tableau)
+    }
+
+    /// Keeps a checkpoint.
+    pub(crate) fn lay(&mut self, alloc: Global) -> Result<(), Refusal>
+        ensures unchanged { self.new ≡ record self.old { laid = self.new.laid } }
+        ensures laid { OnOk result (self.new.laid.items ≡ self.old.laid.items ++ copy_of self.old ∷ []) }
+        ensures err { IfErr result (λ r. r ≡ OutOfMemory) }
+    {
+        let copy = Checkpoint {
+            step: self.step,
+            lengths: self.outputs.lengths(),
+            tableau: self.compact(alloc)?,
+        };
+        self.laid.push(copy)?;
+        Ok(())
+    }
+
+    /// Writes the state of the last checkpoint kept into the tableau, if a checkpoint was passed.
+    ///
+    /// Refusal `OutOfMemory` alone.
+    pub(crate) fn catch_up(&mut self, alloc: Global, passed: bool) -> Result<(), Refusal>
+        ensures state { OnOk result (self.new ≡ with_state passed self.old) }
+        ensures unchanged { OnErr result (self.new ≡ self.old) }
+        ensures err { IfErr result (λ r. r ≡ OutOfMemory) }
+    {
+        if !passed {
+            return Ok(());
+        }
+        if let Some(copy) = self.laid.last() {
+            self.tableau = copy.tableau.tableau(alloc, None)?;
+        }
+        Ok(())
+    }
+}

@@ -1,0 +1,60 @@
+"""The part of a circuit in which lookbacks may name records that edits move: from the first item that they touch to the last one that looks back
+past them. In front of it stands one measurement with as many records as are looked back to."""
+
+from collections.abc import Iterator, Sequence
+from dataclasses import dataclass
+
+from stabsim.noise.changed_lines import counts_of, reach_of
+from stabsim.page.edits import Edit
+
+
+@dataclass(frozen=True)
+class Nearby:
+    """A part of a circuit.
+
+    text: of the measurement and the part's items; before: how many items of the circuit are in front of the part, and of which a path in it
+    has one, the measurement; detectors: how many of them are in front of it.
+    """
+
+    text: str
+    before: int
+    detectors: int
+
+    def inwards(self, path: str) -> str:
+        """The path in the part of an item of the circuit."""
+        return moved(path, 1 - self.before)
+
+    def outwards(self, path: str) -> str:
+        """The path in the circuit of an item of the part."""
+        return moved(path, self.before - 1)
+
+    def bit(self, name: str) -> str:
+        """The name in the circuit of a detector or an observable of the part."""
+        return f"D{int(name[1:]) + self.detectors}" if name.startswith("D") else name
+
+
+def nearby(circuit: str, edits: Sequence[Edit]) -> Nearby:
+    """The part of a circuit that edits may touch. IndexError if they are past its end."""
+    lines = circuit.removesuffix("\n").split("\n")
+    begins = [*item_begins(lines), len(lines)]
+    touched = [int(edit.place.split("/")[0]) for edit in edits]
+    # After those that are deleted each place is one of a later item.
+    first, end = min(touched), min(max(touched) + len(edits), len(begins) - 1)
+    reach = max([reach_of("\n".join(lines[begins[first] :])), *(reach_of(edit.item) for edit in edits)])
+    above, records = counts_of(lines[: begins[first]]), 0
+    while end < len(begins) - 1 and records < reach:
+        records += counts_of(lines[begins[end] : begins[end + 1]]).records
+        end += 1
+    measured = " ".join(["M", *["0"] * min(above.records, reach)])
+    return Nearby("\n".join([measured, *lines[begins[first] : begins[end]], ""]), first, above.detectors)
+
+
+def item_begins(lines: Sequence[str]) -> Iterator[int]:
+    """The line at which each item of the outermost list begins: lines in blocks are indented."""
+    return (place for place, line in enumerate(lines) if line and line[0] not in " }")
+
+
+def moved(path: str, by: int) -> str:
+    """A path whose first number is greater by this."""
+    first, slash, rest = path.partition("/")
+    return f"{int(first) + by}{slash}{rest}"

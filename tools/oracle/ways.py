@@ -1,0 +1,75 @@
+"""What a Pauli string becomes that is put in between two steps, and what it flips, step by step."""
+
+from random import Random
+
+from . import numbers, states
+from .numbers import Step
+from .reading import Items
+from .states import Factors, String, images, sent, string_of
+
+
+class Way:
+    """A string on its way over steps, and the records that it flips."""
+
+    def __init__(self) -> None:
+        self.string = String()
+        self.flips: list[int] = []
+        self.detectors: list[int] = []
+        self.observables: dict[int, int] = {}
+
+    def letters(self) -> str:
+        x, z = self.string.x, self.string.z
+        found = [f"{'IXZY'[(x >> qubit & 1) + 2 * (z >> qubit & 1)]}{qubit}" for qubit in range((x | z).bit_length()) if (x | z) >> qubit & 1]
+        return "*".join(found) or "1"
+
+    def parity(self, lookbacks: list[int]) -> int:
+        return sum(self.flips[-back] for back in lookbacks) % 2
+
+    def over(self, step: Step) -> None:
+        if step[0] == "gate":
+            qubits = step[2:]
+            self.string = sent(self.string, sum(1 << qubit for qubit in qubits), images(step[1], qubits))
+        elif step[0] == "controlled":
+            _, letter, back, qubit = step
+            if self.flips[-back]:
+                self.string = self.string.times(string_of([(letter, qubit)]))
+        elif step[0] == "measure":
+            self.measured(*step[1:])
+        elif step[0] == "detector":
+            self.detectors.append(self.parity(list(step[1])))
+        else:
+            self.observables[step[1]] = self.observables.get(step[1], 0) ^ self.parity(list(step[2]))
+
+    def measured(self, factors: Factors, _inverted: int, recorded: bool, resets: bool) -> None:
+        if recorded:
+            self.flips.append(int(self.string.anticommutes(string_of(factors))))
+        if resets:
+            [(_, qubit)] = factors
+            self.string = String(self.string.x & ~(1 << qubit), self.string.z & ~(1 << qubit))
+
+
+def text_of(items: Items, place: int, factors: Factors) -> bytes:
+    """What is written of a string that is put in after this many steps."""
+    states.refuse_if_large(items, numbers.qubits(items))
+    way, out, done = Way(), [], 0
+    for path, operation in numbers.unrolled(items):
+        before = way.letters()
+        for step in numbers.steps_of(operation):
+            if done == place:
+                way.string = way.string.times(string_of(factors))
+                before = way.letters()
+            way.over(step)
+            done += 1
+        if done > place and way.letters() != before:
+            out.append(f"{done} {path} {way.letters()}\n")
+    if done == place:
+        way.string = way.string.times(string_of(factors))
+    flipped = [f" M{number}" for number, bit in enumerate(way.flips) if bit] + [f" D{number}" for number, bit in enumerate(way.detectors) if bit]
+    flipped += [f" L{number}" for number, bit in sorted(way.observables.items()) if bit]
+    return ("".join(out) + f"flips{''.join(flipped)}\nleft {way.letters()}\n").encode()
+
+
+def asked(dice: Random, items: Items) -> tuple[int, list[tuple[str, int]]]:
+    """A place among the steps, and a string of some letters."""
+    n = numbers.qubits(items)
+    return dice.randint(0, len(numbers.unroll(items))), [(dice.choice("XYZ"), qubit) for qubit in dice.sample(range(n), dice.randint(1, min(3, n)))]
