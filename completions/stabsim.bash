@@ -29,7 +29,7 @@ _stabsim() {
         faults) choices="--out_format --everywhere --deterministic_only --in --out --help" ;;
         coins) choices="--out_format --in --out --help" ;;
         distance) choices="--everywhere --letters --most --graphlike --observable --each --table --wcnf --count --deterministic_only --progress --in --out --help" ;;
-        propagate) choices="--at --in --out --help" ;;
+        propagate) choices="--at --every --in --out --help" ;;
         help) [ "$COMP_CWORD" -eq 2 ] && choices=$commands ;;
         esac
         [ "$COMP_CWORD" -eq 1 ] && choices="$commands help --help --version"

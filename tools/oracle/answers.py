@@ -155,7 +155,8 @@ def counted(items: Items, _: Case) -> Ended:
 
 def propagated(items: Items, case: Case) -> Ended:
     place, string = int(case.setting("at").removeprefix("@")), case.setting("string")
-    return 0, ways.text_of(items, place, [(factor[0], int(factor[1:])) for factor in string.split("*")]), b""
+    factors = [(factor[0], int(factor[1:])) for factor in string.split("*")]
+    return 0, ways.text_of(items, place, factors, case.setting("every", False)), b""
 
 
 ANSWERS: dict[str, Callable[[Items, Case], Ended]] = {

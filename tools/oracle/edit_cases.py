@@ -38,7 +38,7 @@ def difference(what: str, found: object, wanted: object) -> Wrong:
 
 
 def replies_of(written: bytes) -> list[list[bytes]]:
-    """The replies of a framed session, of which the first says that it is ready, each with its lines."""
+    """The replies of a counted session, of which the first says that it is ready, each with its lines."""
     lines, replies = iter(written.splitlines()), []
     for head in lines:
         replies.append([head, *(next(lines) for _ in range(int(head[3:]) if head.startswith(b"ok ") else 0))])

@@ -213,7 +213,8 @@ def strings_put_in(dice: Random) -> list[Case]:
         place, string = ways.asked(dice, items)
     except (Refused, TooLarge):
         return []
-    return [Case("propagate", text, (("at", f"@{place}"), ("string", "*".join(f"{letter}{qubit}" for letter, qubit in string))))]
+    written = "*".join(f"{letter}{qubit}" for letter, qubit in string)
+    return [Case("propagate", text, (("at", f"@{place}"), ("string", written), ("every", dice.random() < 0.4)))]
 
 
 FAMILIES: dict[str, Callable[[Random], list[Case]]] = {

@@ -4,7 +4,7 @@ from collections.abc import Callable, Sequence
 from random import Random
 
 from stabsim.text.names import ONE_QUBIT, TWO_QUBITS
-from stabsim.text.reading import ALIASES
+from stabsim.text.names import ALIASES
 
 from .reading import COLLAPSES
 

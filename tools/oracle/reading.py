@@ -5,7 +5,7 @@ from dataclasses import dataclass, field
 from typing import Any
 
 from stabsim.text.names import ONE_QUBIT
-from stabsim.text.reading import ALIASES
+from stabsim.text.names import ALIASES
 
 SPACING = b" \t\r"
 COORDINATE = re.compile(rb"[0-9+\-.eE]+")

@@ -77,7 +77,7 @@ def split_words(random: Random, session: Session) -> str:
 
 
 def framed_line(random: Random, session: Session) -> str:
-    """A line that only a framed script has."""
+    """A line that only a counted script has."""
     line = random.choice(FRAMED)
     if line == "show sign":
         return f"{line} {string_word(random, session.qubits)}"
@@ -87,7 +87,7 @@ def framed_line(random: Random, session: Session) -> str:
 
 
 def lines_that_show(random: Random, session: Session) -> list[str]:
-    """A line that shows something; in a script that is not framed seldom one that only a framed one has."""
+    """A line that shows something; in a script that is not counted seldom one that only a counted one has."""
     if random.random() < (0.6 if session.framed else 0.05):
         return [framed_line(random, session)]
     return ["show " + random.choice(SHOWN)]
@@ -106,7 +106,7 @@ def script(random: Random, session: Session) -> bytes:
 
 
 def edits(random: Random, session: Session, count: int) -> bytes:
-    """This many edits, and splits in a framed session, and nothing shown: of a session too large to be run by the oracle."""
+    """This many edits, and splits in a counted session, and nothing shown: of a session too large to be run by the oracle."""
     lines: list[str] = []
     for _ in range(count):
         splits = session.framed and random.random() < 0.2

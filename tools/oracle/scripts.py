@@ -100,7 +100,7 @@ def block_text(first: bytes, lines: Iterator[bytes]) -> bytes:
 
 
 class Session:
-    """The items between two lines of a script, and what the lines so far were replied. A framed one keeps the bits at the mark too; the
+    """The items between two lines of a script, and what the lines so far were replied. A counted one keeps the bits at the mark too; the
     first mark is at the opening."""
 
     def __init__(self, items: Items, qubits: int, coin: Callable[[int], int] = lambda number: 0, framed: bool = False) -> None:
@@ -122,7 +122,7 @@ class Session:
         return self.ran[1]
 
     def reply(self, text: bytes) -> None:
-        """A reply that is no refusal, with its number of lines before it if it is framed."""
+        """A reply that is no refusal, with its number of lines before it if the script is counted."""
         self.replies.append(b"ok %d\n%b" % (text.count(b"\n"), text) if self.framed else text)
 
     def edit(self, kind: bytes, path: Path, text: bytes) -> None:
@@ -171,7 +171,7 @@ class Session:
         return self.shown_framed(*first_word(what))
 
     def shown_framed(self, word: bytes, rest: bytes) -> bytes:
-        """What only a framed script is shown."""
+        """What only a counted script is shown."""
         operand, more = first_word(rest)
         if (word, rest) == (b"deterministic", b""):
             return sums.deterministic(self.items, "01")

@@ -1,10 +1,11 @@
 """What a Pauli string becomes that is put in between two steps, and what it flips, step by step."""
 
+from collections.abc import Iterator
 from random import Random
 
 from . import numbers, states
 from .numbers import Step
-from .reading import Items
+from .reading import Block, Items, Operation
 from .states import Factors, String, images, sent, string_of
 
 
@@ -48,19 +49,40 @@ class Way:
             self.string = String(self.string.x & ~(1 << qubit), self.string.z & ~(1 << qubit))
 
 
-def text_of(items: Items, place: int, factors: Factors) -> bytes:
+def ticks_too(items: Items, above: str = "") -> Iterator[tuple[str, Operation]]:
+    """The unrolled instructions with their paths; of a block without a step only the first round."""
+    for place, item in enumerate(items):
+        if not isinstance(item, Block):
+            yield f"{above}{place}", item
+        else:
+            for _ in range(item.count if numbers.summary(item.body)[0] else 1):
+                yield from ticks_too(item.body, f"{above}{place}/")
+
+
+def tick_line(way: Way, done: int, place: int, factors: Factors, paths: list[str]) -> str:
+    """The line of a tick after this many steps."""
+    if done == place:
+        way = Way()
+        way.string = string_of(factors)
+    return f"{done} {paths[max(done - 1, 0)] if paths else 0} {way.letters()}\n"
+
+
+def text_of(items: Items, place: int, factors: Factors, every: bool) -> bytes:
     """What is written of a string that is put in after this many steps."""
     states.refuse_if_large(items, numbers.qubits(items))
     way, out, done = Way(), [], 0
-    for path, operation in numbers.unrolled(items):
+    paths = [path for path, _ in numbers.placed_steps(items)]
+    for path, operation in ticks_too(items):
         before = way.letters()
+        if every and operation.name == "TICK" and done >= place:
+            out.append(tick_line(way, done, place, factors, paths))
         for step in numbers.steps_of(operation):
             if done == place:
                 way.string = way.string.times(string_of(factors))
                 before = way.letters()
             way.over(step)
             done += 1
-        if done > place and way.letters() != before:
+        if not every and done > place and way.letters() != before:
             out.append(f"{done} {path} {way.letters()}\n")
     if done == place:
         way.string = way.string.times(string_of(factors))

@@ -132,10 +132,10 @@ fn ask_for_all<R: CpuClock + AllocGlobal>(
     session: &mut Session<SeedCoins>,
     before: &[bool],
 ) -> Result<f64, Failure> {
-    let apart = session.circuit().items().len() / ASKED;
+    let distinct = session.circuit().items().len() / ASKED;
     let mut seconds = 0.0;
     for number in 0..ASKED {
-        let place = Path::new(&[apart.saturating_mul(number)]);
+        let place = Path::new(&[distinct.saturating_mul(number)]);
         let qubit = number % session.qubits().max(1);
         seconds += time_of_fault(rt, session, place, qubit, before)?;
     }

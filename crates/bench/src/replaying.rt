@@ -13,12 +13,12 @@ use std::time::{CpuClock, Duration};
 /// The best of this many edits counts, since other programs disturb the rest.
 const EDITS: u32 = 5;
 
-/// Copies of the state are kept at most this many steps apart.
+/// Checkpoints are kept at most this many steps from each other.
 const STRIDE: usize = 8192;
 
 /// What ends the line of a circuit, with the headings of the table of its edits.
 const HEADINGS: &str = " MiB
-     place  line      edit ms  of a run  faster than reading and running     steps    framed";
+     place  line      edit ms  of a run  faster than reading and running     steps  by frame";
 
 /// Which of the hundred parts of the outermost list an edit is at the end of.
 const PARTS: [usize; 3] = [1, 50, 99];
@@ -28,7 +28,7 @@ const PARTS: [usize; 3] = [1, 50, 99];
 struct Cost {
     seconds: f64,
     applied: usize,
-    framed: usize,
+    by_frame: usize,
 }
 
 /// Prints a table of the edits of the circuits in files. The qubit is one whose next record `X`
@@ -161,7 +161,7 @@ fn print_cost<R: Print>(rt: &R, cost: Cost, whole: Whole) -> Result<(), Failure>
         (edit / whole.run, 9, 4),
         ((whole.read + whole.run) / edit, 32, 1),
         (nearest_usize_to_f64(cost.applied), 9, 0),
-        (nearest_usize_to_f64(cost.framed), 9, 0),
+        (nearest_usize_to_f64(cost.by_frame), 9, 0),
     ];
     print_cells(rt, &cells)?;
     println!(rt; "")?;
@@ -209,14 +209,14 @@ fn timed_edit<R: CpuClock + AllocGlobal>(
     Ok(Cost {
         seconds,
         applied: report.applied,
-        framed: report.framed,
+        by_frame: report.by_frame,
     })
 }
 
 /// How many MiB of memory the program holds, as Linux says.
 fn resident<R: Files + AllocGlobal>(rt: &R) -> Result<f64, Failure> {
-    let told = running::text_of_file(rt, "/proc/self/statm")?;
-    Ok(nearest_usize_to_f64(second_number(told.as_slice())) / 256.0)
+    let reported = running::text_of_file(rt, "/proc/self/statm")?;
+    Ok(nearest_usize_to_f64(second_number(reported.as_slice())) / 256.0)
 }
 
 /// The second of the numbers in a line.

@@ -46,7 +46,7 @@ pub fn after(qubit: usize, stride: usize, n: usize) -> usize
     requires qubit_in_range { qubit < n }
     requires stride_in_range { stride < n }
     ensures in_range { result < n }
-    ensures apart { 0 < stride → result ≢ qubit }
+    ensures distinct { 0 < stride → result ≢ qubit }
 {
     let left = n - qubit;
     if stride < left {

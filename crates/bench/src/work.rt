@@ -5,8 +5,8 @@ pub enum Work {
     Cx,
     /// The measurement of Z on a qubit.
     Measure,
-    /// The gate H and then the measurement of Z, which it makes free, on a qubit apart from all others.
-    FreeApart,
+    /// The gate H and then the measurement of Z, which it makes free, on a qubit by itself.
+    FreeDistinct,
 }
 
 /// A work, and how it is timed: in rounds that take about a millisecond or more.
@@ -37,7 +37,7 @@ pub const ALL: &'static [TimedWork] = &[
     },
     TimedWork {
         name: "H, free collapse",
-        work: Work::FreeApart,
+        work: Work::FreeDistinct,
         from_zeros: true,
         calls: 4096,
     },

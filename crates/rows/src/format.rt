@@ -170,7 +170,7 @@ fn on_failing(value: &str) -> Result<bool, Wrong> {
     if value == "failing" {
         return Ok(true);
     }
-    Err(Wrong("the devices of a row are `failing`, or not told"))
+    Err(Wrong("the devices of a row are `failing`, or not given"))
 }
 
 /// Puts a line after the text that is open.

@@ -94,22 +94,22 @@ impl Ended {
     /// Whether this is what the same run must come to over these devices, if it came to `whole` over
     /// good ones: refusal 15 with nothing written if a read fails, 16 with as much as there is room for
     /// if the output does, and the same status however little is reported. Marks that may be meant in
-    /// another way are not told after a refusal.
+    /// another way are not reported after a refusal.
     pub(crate) fn follows(&self, whole: &Ended, devices: Devices) -> bool {
         let (out, err) = (whole.out.bytes(), whole.err.bytes());
         let written = begin_of(out, devices.room);
         let output_fails = devices.flush_fails || devices.room < out.len();
-        let (written, told, status): (&[u8], &[u8], u8) = if devices.circuit_fails > 0 {
+        let (written, reported, status): (&[u8], &[u8], u8) = if devices.circuit_fails > 0 {
             (b"", b"stabsim: refused 15 ReadFault\n", 1)
         } else if output_fails && !whole.is_refused() {
             (written, b"stabsim: refused 16 WriteFault\n", 1)
         } else {
             (written, err, whole.status)
         };
-        self.is(written, begin_of(told, devices.error_room), status)
+        self.is(written, begin_of(reported, devices.error_room), status)
     }
 
-    /// Whether this run told a refusal or a mistake of usage, and not only what may be meant in another way.
+    /// Whether this run reported a refusal or a mistake of usage, and not only what may be meant in another way.
     pub(crate) fn is_refused(&self) -> bool {
         self.status != 0 && !self.err.bytes().is_empty()
     }

@@ -1,6 +1,6 @@
 -- Laws of counts: what steps are counted to make is what any run of them makes.
 use Rattle.stab_analysis.proofs.Names.{◌≡◌, refl, sym, subst, ◌∙◌, ℕ, ◌+◌, Bool, true, false, List, [], ◌∷◌, ◌++◌, length, slice_index_or, arith, length-append, length-replicate, length-set, ◌⊕◌, single, Items, Step, one, two, controlled, collapse, product, detector, observable, unroll, makes, records_of, observables_of, detectors_of, detectors_in, all_coins_of, coins_of, parity, State, start, string_of, outcome_at, effect, run, run_of, numbers_of, IsCountedBy}
-use Rattle.stab_analysis.proofs.CheckLaws.{detectors_more}
+use Rattle.stab_items.proofs.CountLemmas.{detectors_more}
 
 -- a run has come from another by this many records, detectors and coins more
 record Grows (before after : State) (r d k : ℕ) : Type 0 where

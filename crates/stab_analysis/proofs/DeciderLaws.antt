@@ -1,7 +1,8 @@
 -- Laws of deciders: the lanes of a word, and the lists of the coins that flip each bit.
 use Rattle.stab_analysis.proofs.Names.{◌≡◌, refl, sym, ap, ap₂, subst, ◌∙◌, ℕ, zero, suc, ◌+◌, ◌-◌, ◌*◌, ◌/◌, ◌%◌, ◌<◌, ◌≤◌, Bool, false, List, [], ◌∷◌, ◌++◌, length, get_or, set, if◌then◌else◌, ◌⊎◌, inl, inr, arith, Vec, cases_eq, get_or-map, numbers_where, Items, qubits_of, word_bit, lane_bits, word_bit-zero, listed, listed-set_here, listed-set_other, flips_of, zero_coins, AreBits, free_coins, Shots, checked_bits, coin_at, decides, ones_at, ones_of}
 use Rattle.stab_analysis.proofs.CoinRowLaws.{lanes_checked}
-use Rattle.stab_analysis.proofs.ReasonLaws.{where-next, where-join, where-same}
+use Rattle.stab_analysis.proofs.ReasonLaws.{where-next, where-join}
+use Rattle.stab_regions.proofs.AscentLemmas.{where-same}
 
 module _ {W : Type 0} (at : W → ℕ → Bool) (word : W) (first : ℕ) where
   -- no lanes yet

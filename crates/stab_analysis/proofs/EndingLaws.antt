@@ -6,8 +6,8 @@ use Rattle.stab_errors.specs.ErrorTables.{ErrorTableState}
 use Rattle.stab_errors.specs.declared.doubts.DoubtfulMark.{DoubtfulMark}
 use Rattle.stab_texts.specs.Endings.{GaveCircuit, Sends}
 use Rattle.stab_texts.specs.FaultTables.{EndsOrNames}
-use Rattle.stab_texts.specs.Distances.{HearsErrors, TellsDistance, TellsErrors}
-use Rattle.stab_texts.specs.DoubtLines.{TellsIfOk, Warns, doubts_of}
+use Rattle.stab_texts.specs.Distances.{HearsErrors, ReportsDistance, ReportsErrors}
+use Rattle.stab_texts.specs.DoubtLines.{ReportsIfOk, Warns, doubts_of}
 use Rattle.stab_texts.specs.MissingObservables.{WarnsOf}
 use Rattle.stab_texts.proofs.WritingLaws.{took_some_none}
 
@@ -28,25 +28,25 @@ refusal_handed {T} are deterministic_only i i' o o' items e (Err y) gave goes is
 
 -- of a text that was refused no search is heard
 pub unheard : {T : Type 0} (options : DistanceOptions) (i i' : InputView) (heard : Option (List Heard)) (f : Fault) (r : Result T FaultsRefused)
-    → RefusesText IsFaultOf i i' f → IsErrAnd r (λ y. y ≡ record { fault = f; random = None }) → TellsDistance options i i' heard heard (fault_of r)
+    → RefusesText IsFaultOf i i' f → IsErrAnd r (λ y. y ≡ record { fault = f; random = None }) → ReportsDistance options i i' heard heard (fault_of r)
 unheard options i i' heard f (Ok x) refused is = absurd is
 unheard options i i' heard f (Err y) refused is = inl (refl, subst (λ (z : FaultsRefused). RefusesText IsFaultOf i i' z.fault) (sym is) refused)
 
 -- what was heard of a call with the items that ended by a fault was heard of the whole call
 pub heard_on : {T : Type 0} (options : DistanceOptions) (i i' : InputView) (old new : Option (List Heard)) (items : Items) (r : Result T FaultsRefused) (x : FaultsRefused)
-    → GaveCircuit i i' items → HearsDistance {T = T} options items old new (Err x.fault) → r ≡ Err x → TellsDistance options i i' old new (fault_of r)
-heard_on options i i' old new items r x gave heard is = subst (λ s. TellsDistance options i i' old new (fault_of s)) (sym is) (inr (items, gave, heard))
+    → GaveCircuit i i' items → HearsDistance {T = T} options items old new (Err x.fault) → r ≡ Err x → ReportsDistance options i i' old new (fault_of r)
+heard_on options i i' old new items r x gave heard is = subst (λ s. ReportsDistance options i i' old new (fault_of s)) (sym is) (inr (items, gave, heard))
 
 -- of a text that was refused no number of errors is heard
 pub errors_unheard : {T : Type 0} (options : DistanceOptions) (i i' : InputView) (heard : Option (List Heard)) (f : Fault) (r : Result T FaultsRefused)
-    → RefusesText IsFaultOf i i' f → IsErrAnd r (λ y. y ≡ record { fault = f; random = None }) → TellsErrors options i i' heard heard (fault_of r)
+    → RefusesText IsFaultOf i i' f → IsErrAnd r (λ y. y ≡ record { fault = f; random = None }) → ReportsErrors options i i' heard heard (fault_of r)
 errors_unheard options i i' heard f (Ok x) refused is = absurd is
 errors_unheard options i i' heard f (Err y) refused is = inl (refl, subst (λ (z : FaultsRefused). RefusesText IsFaultOf i i' z.fault) (sym is) refused)
 
 -- how many errors were heard of a call with the items that ended by a fault, were heard of the whole call
 pub errors_heard : {T : Type 0} (options : DistanceOptions) (i i' : InputView) (old new : Option (List Heard)) (items : Items) (r : Result T FaultsRefused) (x : FaultsRefused)
-    → GaveCircuit i i' items → HearsErrors options items old new → r ≡ Err x → TellsErrors options i i' old new (fault_of r)
-errors_heard options i i' old new items r x gave heard is = subst (λ s. TellsErrors options i i' old new (fault_of s)) (sym is) (inr (items, gave, heard))
+    → GaveCircuit i i' items → HearsErrors options items old new → r ≡ Err x → ReportsErrors options i i' old new (fault_of r)
+errors_heard options i i' old new items r x gave heard is = subst (λ s. ReportsErrors options i i' old new (fault_of s)) (sym is) (inr (items, gave, heard))
 
 -- what was heard before the first search, or in place of one: how many errors there are
 pub heard_over : (options : DistanceOptions) (items : Items) (t : ErrorTableState) (old new : Option (List Heard)) (count : ℕ) → AreErrorsOf options items t → count ≡ length t.errors
@@ -79,10 +79,10 @@ check_handed bytes o o' f (Ok x) sent is = absurd is
 check_handed {T} bytes o o' f (Err y) sent is = subst (λ z. Sends {T = T} bytes o o' (Err z)) (sym is) sent
 
 -- after a fault no mark is reported
-pub untold : {T : Type 0} (items : Items) (marks : List DoubtfulMark) (e : OutputView) (r : Result T Fault) (f : Fault) → r ≡ Err f → TellsIfOk items marks e e r
-untold items marks e r f is = subst (λ s. TellsIfOk items marks e e s) (sym is) refl
+pub untold : {T : Type 0} (items : Items) (marks : List DoubtfulMark) (e : OutputView) (r : Result T Fault) (f : Fault) → r ≡ Err f → ReportsIfOk items marks e e r
+untold items marks e r f is = subst (λ s. ReportsIfOk items marks e e s) (sym is) refl
 
 -- the marks of a text that was given
-pub warned : {T : Type 0} (i i' : InputView) (e e' : OutputView) (items : Items) (r : Result T Fault) → GaveCircuit i i' items → TellsIfOk items (doubts_of false items) e e' r → Warns false i i' e e' r
-warned i i' e e' items (Ok x) gave tells = (items, gave, tells)
-warned i i' e e' items (Err f) gave tells = tells
+pub warned : {T : Type 0} (i i' : InputView) (e e' : OutputView) (items : Items) (r : Result T Fault) → GaveCircuit i i' items → ReportsIfOk items (doubts_of false items) e e' r → Warns false i i' e e' r
+warned i i' e e' items (Ok x) gave reports = (items, gave, reports)
+warned i i' e e' items (Err f) gave reports = reports

@@ -12,6 +12,6 @@ pub mod PlacedWordLaws
 pub mod ReasonLaws
 pub mod DeciderLaws
 pub mod BitLemmas
-pub mod FramedLemmas
+pub mod PropagatedPointLemmas
 pub mod RowLemmas
 pub mod PlaceLemmas

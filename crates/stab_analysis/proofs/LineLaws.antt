@@ -89,10 +89,10 @@ no_line : (a : Signed) (r : List ℕ) → line_of a ++ r ≡ [] → ⊥
 no_line a r e = let none : sign_character a.negative ∷ (letters_text a.letters ++ 10 ∷ r) ≡ [] = sym (line_parts a.negative a.letters r) ∙ e in cc
 
 -- the lines of strings determine the strings
-pub lines_tell : (a b : List Signed) → lines_of a ≡ lines_of b → a ≡ b
-lines_tell [] [] e = refl
-lines_tell [] (y ∷ b) e = absurd (no_line y (lines_of b) (sym e))
-lines_tell (x ∷ a) [] e = absurd (no_line x (lines_of a) e)
-lines_tell (x ∷ a) (y ∷ b) e =
+pub lines_report : (a b : List Signed) → lines_of a ≡ lines_of b → a ≡ b
+lines_report [] [] e = refl
+lines_report [] (y ∷ b) e = absurd (no_line y (lines_of b) (sym e))
+lines_report (x ∷ a) [] e = absurd (no_line x (lines_of a) e)
+lines_report (x ∷ a) (y ∷ b) e =
     let here = line_split x y (lines_of a) (lines_of b) e in
-    ap₂ (λ row rows. row ∷ rows) here.0 (lines_tell a b here.1)
+    ap₂ (λ row rows. row ∷ rows) here.0 (lines_report a b here.1)

@@ -28,8 +28,8 @@ pub use Rattle.stab_frames.proofs.FrontLemmas.{group-origin}
 pub use Rattle.stab_frames.proofs.MeasuredLemmas.{conjugated-free}
 pub use Rattle.stab_frames.proofs.PivotLemmas.{right-enough, enough-before}
 pub use Rattle.stab_frames.proofs.RunPivotLemmas.{run-pivots}
-pub use Rattle.stab_frames.proofs.StartLemmas.{framed-same}
-pub use Rattle.stab_frames.proofs.StepLemmas.{over-framed}
+pub use Rattle.stab_frames.proofs.StartLemmas.{by_frame-same}
+pub use Rattle.stab_frames.proofs.StepLemmas.{over-by_frame}
 pub use Rattle.stab_frames.specs.FrameSteps.{flips_over}
 pub use Rattle.stab_frames.specs.Frames.{identity_frame}
 pub use Rattle.stab_frames.specs.Fronts.{IsFlippedRun}
@@ -92,7 +92,7 @@ pub use Rattle.stab_lanes.specs.Lanes.{lane_bits}
 pub use Rattle.stab_lanes.specs.Words.{word_bit}
 pub use Rattle.stab_shots.specs.declared.shots.Shots.{Shots}
 pub use Rattle.stab_tableau.proofs.ReducedLemmas.{same-reduced}
-pub use Rattle.stab_tableau.proofs.RowsTellLemmas.{rows-tell}
+pub use Rattle.stab_tableau.proofs.RowsDetermineLemmas.{rows-determine}
 pub use Rattle.stab_analysis.specs.Checks.{SendsSome, numbers_of, IsCountedBy, number_line}
 pub use Rattle.stab_texts.specs.CoinTables.{coin_text, coins_text, whole_bits, whole_kinds}
 pub use Rattle.stab_texts.specs.Deciders.{checked_bits, deciders}

@@ -1,6 +1,7 @@
 -- Places of coins: those that flags show, one after another, and the steps that take them.
-use Rattle.stab_analysis.proofs.Names.{◌≡◌, ℕ, zero, suc, ◌+◌, ◌-◌, ◌<◌, ◌≤◌, ◌==◌, refl, sym, ◌∙◌, ap, ap₂, subst, Bool, true, false, ◌&&◌, nat_lt, List, [], ◌∷◌, ◌++◌, append-nil, append_assoc, length, take, drop, map, get_or, inl, inr, arith, if◌then◌else◌, All, ◌⊎◌, nat_tests, length-append, length-map, map-append, length-drop, length-take, take_all, take-nil, get_or-drop, All-nil, All-cons, All-head, All-tail, All-map, Items, Step, one, detector, measured, controlled_step, unroll, observables_of, Steps, Gates, Pairs, Measurements, Detectors, Single, step_shown, steps_shown, lookbacks_of, Axis, ControlledPair, State, start, run_of, Point, origin, coins_of, all_coins_of, given, next_point, outputs, run-state, flags-given, coins-one, one_places_from, one_places, parity-false, AreAscending, unit_coin, run-items, coin_flipped, zero_coins, steps_before_coin, step_of_coin, coins_together}
+use Rattle.stab_analysis.proofs.Names.{◌≡◌, ℕ, zero, suc, ◌+◌, ◌-◌, ◌<◌, ◌≤◌, ◌==◌, refl, sym, ◌∙◌, ap, ap₂, subst, Bool, true, false, ◌&&◌, nat_lt, List, [], ◌∷◌, ◌++◌, append-nil, append_assoc, length, take, drop, map, get_or, inl, inr, arith, if◌then◌else◌, All, ◌⊎◌, nat_tests, length-map, map-append, length-drop, length-take, take_all, take-nil, get_or-drop, All-nil, All-cons, All-head, All-tail, All-map, Items, Step, one, detector, measured, controlled_step, unroll, observables_of, Steps, Gates, Pairs, Measurements, Detectors, Single, step_shown, steps_shown, lookbacks_of, Axis, ControlledPair, State, start, run_of, origin, coins_of, all_coins_of, run-state, coins-one, one_places_from, one_places, parity-false, AreAscending, unit_coin, run-items, coin_flipped, zero_coins, steps_before_coin, step_of_coin, coins_together}
 use Rattle.stab_lines.specs.declared.control.ControlledPair.TheVariants as pair
+use Rattle.stab_recording.proofs.RestPropagatedLemmas.{flags-counted}
 
 -- the places of 1 bits
 
@@ -252,12 +253,6 @@ pub free-step-within : (free : List Bool) (xs : List Step) (i : ℕ) → length 
 free-step-within free xs i flags lt = step-within (get_or (one_places free) i 0) xs (omega (arith, flags, places-below 0 free i lt))
 
 -- a run has a flag for each coin that its steps take
-
-flags-counted : (n : ℕ) (coins : ℕ → Bool) (xs : List Step) (a : Point) → length (outputs n coins xs a).free ≡ all_coins_of xs
-flags-counted n coins [] a = refl
-flags-counted n coins (x ∷ xs) a =
-    let later = flags-counted n coins xs (next_point n coins x a) in
-    omega (arith, later, flags-given n coins x a, length-append (given n coins x a).free (outputs n coins xs (next_point n coins x a)).free)
 
 pub flags-of-run : (n : ℕ) (coins : ℕ → Bool) (items : Items) → length (run_of n coins items).free ≡ all_coins_of (unroll items)
 flags-of-run n coins items =

@@ -1,5 +1,5 @@
 -- Laws of reasons: numbers with a property, the coins that flip a bit by their places, and which bits no coin flips.
-use Rattle.stab_analysis.proofs.Names.{◌≡◌, refl, sym, ap, ap₂, ◌∙◌, ℕ, zero, suc, ◌+◌, ◌<◌, ◌≤◌, ◌==◌, Bool, true, false, List, [], ◌∷◌, ◌++◌, append_assoc, length, drop, map, get_or, codes, if◌then◌else◌, arith, flat_map, nat_tests, ◌⊕◌, Items, Path, path_text, qubits_of, unroll, observables_of, detectors_of, length-flipped, run_of, one_places, bit, numbers_where, IsDeterministic, ShotBits, bits_of, inverted, coin_flipped, flips_of, zero_coins, AreCoinRuns, free_coins, CoinRow, row_by, with_rows, IsCoinTable, table_of, CoinRuns, Bit, bit_of, path_of_bit, checked_bits, deciders, bit_name, coordinates_at, decider_text, reason_line, reason_text, DeterministicHasNoDecider, coin_at, decides}
+use Rattle.stab_analysis.proofs.Names.{◌≡◌, refl, sym, ap, ap₂, ◌∙◌, ℕ, zero, suc, ◌+◌, ◌<◌, ◌==◌, Bool, true, false, List, [], ◌∷◌, ◌++◌, append_assoc, length, drop, map, get_or, codes, if◌then◌else◌, arith, flat_map, nat_tests, ◌⊕◌, Items, Path, path_text, qubits_of, unroll, observables_of, detectors_of, length-flipped, run_of, one_places, bit, numbers_where, IsDeterministic, ShotBits, bits_of, inverted, coin_flipped, flips_of, zero_coins, AreCoinRuns, free_coins, CoinRow, row_by, with_rows, IsCoinTable, table_of, CoinRuns, Bit, bit_of, path_of_bit, checked_bits, deciders, bit_name, coordinates_at, decider_text, reason_line, reason_text, DeterministicHasNoDecider, coin_at, decides}
 use Rattle.stab_frames.specs.Flips.{flipped}
 use Rattle.stab_analysis.proofs.CountLaws.{numbers_of_runs}
 
@@ -27,13 +27,6 @@ where-join f i (suc k) m = ap (numbers_where f i) {x = suc k + m} {y = suc (k + 
     by_test true later = ap (λ l. i ∷ l) later
     by_test false later = later
 
--- properties that are the same there
-pub where-same : (f g : ℕ → Bool) (i k : ℕ) → ((j : ℕ) → i ≤ j → j < i + k → f j ≡ g j) → numbers_where f i k ≡ numbers_where g i k
-where-same f g i zero same = refl
-where-same f g i (suc k) same =
-    ap₂ (λ b l. if b then i ∷ l else l) (same i (omega arith) (omega arith))
-    (where-same f g (i + 1) k (λ j above below. same j (omega (arith, above)) (omega (arith, below))))
-
 -- those after the first
 where-shift : (f : ℕ → Bool) (i k : ℕ) → numbers_where f (suc i) k ≡ map suc (numbers_where (λ j. f (suc j)) i k)
 where-shift f i zero = refl
@@ -51,16 +44,16 @@ module _ (n : ℕ) (items : Items) (i : ℕ) where
   abbrev flips_bit : List ℕ → ℕ → Bool
   flips_bit coins k = get_or (checked_bits (flips_of n items zero_coins (get_or coins k 0))) i false
 
-  behind-first : (x : ℕ) (xs places : List ℕ) → map (λ k. get_or (x ∷ xs) k 0) (map suc places) ≡ map (λ k. get_or xs k 0) places
-  behind-first x xs [] = refl
-  behind-first x xs (p ∷ places) = ap (λ l. get_or xs p 0 ∷ l) (behind-first x xs places)
+  following-first : (x : ℕ) (xs places : List ℕ) → map (λ k. get_or (x ∷ xs) k 0) (map suc places) ≡ map (λ k. get_or xs k 0) places
+  following-first x xs [] = refl
+  following-first x xs (p ∷ places) = ap (λ l. get_or xs p 0 ∷ l) (following-first x xs places)
 
   -- by the places at which they are
   pub deciders_by_places : (coins : List ℕ) → deciders i (map (row_by n items zero_coins) coins) ≡ map (λ k. get_or coins k 0) (numbers_where (flips_bit coins) 0 (length coins))
   deciders_by_places [] = refl
   deciders_by_places (x ∷ xs) =
       by_test (get_or (checked_bits (flips_of n items zero_coins x)) i false)
-      (deciders_by_places xs ∙ sym (behind-first x xs (numbers_where (flips_bit xs) 0 (length xs))) ∙ ap (map (λ k. get_or (x ∷ xs) k 0)) (sym (where-shift (flips_bit (x ∷ xs)) 0 (length xs))))
+      (deciders_by_places xs ∙ sym (following-first x xs (numbers_where (flips_bit xs) 0 (length xs))) ∙ ap (map (λ k. get_or (x ∷ xs) k 0)) (sym (where-shift (flips_bit (x ∷ xs)) 0 (length xs))))
     where
       by_test : (b : Bool) → deciders i (map (row_by n items zero_coins) xs) ≡ map (λ k. get_or (x ∷ xs) k 0) (numbers_where (flips_bit (x ∷ xs)) 1 (length xs))
           → (if b then x ∷ deciders i (map (row_by n items zero_coins) xs) else deciders i (map (row_by n items zero_coins) xs))

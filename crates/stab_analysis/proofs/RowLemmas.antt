@@ -1,7 +1,7 @@
 -- Rows: each coin flips the same bits whatever the others are, and each run is the sum of the rows of its coins.
 use Rattle.stab_analysis.proofs.Names.{◌≡◌, ℕ, zero, suc, ◌+◌, ◌-◌, ◌<◌, ◌≤◌, ◌==◌, refl, sym, ◌∙◌, ap, subst, Bool, true, false, List, [], ◌∷◌, map, get_or, arith, inl, inr, All, ◌⊎◌, if◌then◌else◌, cases_eq, cases_lt, All-head, All-tail, ◌⊕◌, Items, unroll, State, run_of, StepFits, run_of-same, one_places_from, one_places, ShotBits, bits_of, inverted, coin_flipped, flips_of, zero_coins, CoinRow, row_by, with_rows, IsCoinTable, table_of, CoinsHaveRows}
 use Rattle.stab_analysis.proofs.BitLemmas.{AreAlike, inverted-alike, inverted-round, inverted-kept}
-use Rattle.stab_analysis.proofs.FramedLemmas.{flips_by, bits-changed, bits-zero, free-zero}
+use Rattle.stab_analysis.proofs.PropagatedPointLemmas.{flips_by, bits-changed, bits-zero, free-zero}
 
 same : (s t : ℕ) → s ≡ t → (s == t) ≡ true
 same s t e = grind (arith, e)

@@ -1,4 +1,4 @@
--- Runs: what leads the runs that have one coin 1, and what these give.
+-- Runs: over what the runs that have one coin 1 are propagated, and what these give.
 -- Source: this project's own.
 use Rattle.std.specs.Prelude.{◌≡◌, ℕ, Bool, List, All, None, map, IfSome}
 use Rattle.stab_circuit.specs.Items.{Items}

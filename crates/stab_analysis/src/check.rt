@@ -8,7 +8,7 @@ ghost use Rattle.stab_edits.specs.Cursors.{step_shown};
 ghost use Rattle.stab_circuit.specs.Steps.{check_of, unroll, detectors_of, detectors_in};
 ghost use Rattle.stab_edits.specs.Views.{circuit_items};
 ghost use Rattle.stab_run.specs.Points.{all_coins_of, coins_of};
-ghost use Rattle.stab_texts.specs.DoubtLines.{TellsIfOk, Warns, doubts_of};
+ghost use Rattle.stab_texts.specs.DoubtLines.{ReportsIfOk, Warns, doubts_of};
 ghost use Rattle.stab_texts.specs.Endings.{Sends};
 ghost use Rattle.stab_analysis.specs.Checks.{EndsCheck, Explains, SendsSome, check_text, number_line, numbers_of, numbers_text};
 
@@ -16,7 +16,7 @@ use crate::doubts::doubts_of;
 use stab_circuit::{Circuit, Cursor, Step, circuit_of_text, read_text};
 use stab_diagnostics::write_explanation;
 use stab_io::{Fault, Input, Output, Refusal};
-use stab_texts::{finish, tell_doubts, write_texts};
+use stab_texts::{finish, report_doubts, write_texts};
 use std::alloc::Global;
 
 /// The numbers of a circuit.
@@ -163,11 +163,11 @@ fn send_check<O: Output, E: Output>(
 ) -> Result<(), Fault>
     requires checked { check_of (circuit_items circuit.now) ≡ None }
     ensures sends { Sends (check_text (circuit_items circuit.now)) (O.seen out.old) (O.seen out.new) result }
-    ensures tells { TellsIfOk (circuit_items circuit.now) (doubts_of false (circuit_items circuit.now)) (E.seen err.old) (E.seen err.new) result }
+    ensures reports { ReportsIfOk (circuit_items circuit.now) (doubts_of false (circuit_items circuit.now)) (E.seen err.old) (E.seen err.new) result }
 {
     let doubts = doubts_of(alloc, circuit, false)?;
     send_numbers(alloc, out, circuit)?;
-    tell_doubts(err, circuit, doubts.as_slice());
+    report_doubts(err, circuit, doubts.as_slice());
     Ok(())
 }
 

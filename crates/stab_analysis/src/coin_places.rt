@@ -1,8 +1,8 @@
 //! The coins that decide, and the steps at which they do.
-ghost use Rattle.std.specs.Prelude.{◌≡◌, ◌+◌, ◌<◌, ◌^◌, ◌++◌, ◌∷◌, [], All, drop, length, map, take, if◌then◌else◌, None, IfOk, IfErr, OnOk};
+ghost use Rattle.std.specs.Prelude.{◌≡◌, ◌+◌, ◌<◌, ◌^◌, ◌++◌, All, drop, length, map, take, None, IfOk, IfErr, OnOk};
 ghost use Rattle.stab_io.specs.declared.refusal.Refusal.TheVariants.{OutOfMemory};
 ghost use Rattle.stab_circuit.specs.Steps.{check_of, unroll};
-ghost use Rattle.stab_edits.specs.Cursors.{step_shown, IsApart};
+ghost use Rattle.stab_edits.specs.Cursors.{step_shown, HasDistinctQubits};
 ghost use Rattle.stab_edits.specs.Views.{circuit_items};
 ghost use Rattle.stab_run.specs.Points.{all_coins_of, coins_of};
 ghost use Rattle.stab_results.specs.Formats.{one_places, one_places_from};
@@ -12,6 +12,7 @@ ghost use Rattle.stab_analysis.specs.inner.Groups.{coins_together};
 use stab_circuit::{Circuit, Cursor, Step, Steps};
 use stab_frames::bit_at;
 use stab_io::Refusal;
+use stab_lanes::push_when;
 use std::alloc::{AllocError, Global};
 
 /// How many steps are passed together at most: as many as are given together.
@@ -47,16 +48,6 @@ fn coins_of_all(steps: Steps) -> usize
     }
 }
 
-/// Puts a number after others, if it is to be put.
-fn push_if<T: Copy + Drop>(numbers: &mut Vec<T>, here: bool, number: T) -> Result<(), AllocError>
-    ensures value { OnOk result (numbers.new.items ≡ numbers.old.items ++ (if here then number ∷ [] else [])) }
-{
-    if here {
-        numbers.push(number)?;
-    }
-    Ok(())
-}
-
 impl CoinPlaces {
     /// Puts those of the next coins after others that decide, by a flag for each coin number. Steps from a number on take one of them each.
     fn push(
@@ -73,8 +64,8 @@ impl CoinPlaces {
     {
         for taken in 0..count {
             let here = bit_at(free, coin + taken);
-            push_if(&mut self.numbers, here, (coin + taken) as u64)?;
-            push_if(&mut self.steps, here, number + taken)?;
+            push_when(&mut self.numbers, here, (coin + taken) as u64)?;
+            push_when(&mut self.steps, here, number + taken)?;
         }
         Ok(())
     }
@@ -90,7 +81,7 @@ pub(crate) fn coin_places(
     requires flags { length free.now ≡ all_coins_of (unroll (circuit_items circuit.now)) }
     ensures numbers { IfOk result (λ p. p.numbers.items ≡ one_places free.now) }
     ensures steps { IfOk result (λ p. p.steps.items ≡ map (step_of_coin (unroll (circuit_items circuit.now))) (one_places free.now)) }
-    ensures apart { IfOk result (λ p. All IsApart (unroll (circuit_items circuit.now))) }
+    ensures distinct { IfOk result (λ p. All HasDistinctQubits (unroll (circuit_items circuit.now))) }
     ensures err { IfErr result (λ r. r ≡ OutOfMemory) }
 {
     let mut places = CoinPlaces {

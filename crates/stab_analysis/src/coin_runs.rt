@@ -4,7 +4,7 @@ ghost use Rattle.stab_io.specs.declared.refusal.Refusal.TheVariants.{OutOfMemory
 ghost use Rattle.stab_io.specs.Refusals.{Refuses, whole};
 ghost use Rattle.stab_gates.specs.Limits.{most_qubits};
 ghost use Rattle.stab_circuit.specs.Steps.{check_of, check_within, unroll};
-ghost use Rattle.stab_edits.specs.Cursors.{IsApart};
+ghost use Rattle.stab_edits.specs.Cursors.{HasDistinctQubits};
 ghost use Rattle.stab_edits.specs.Views.{circuit_items};
 ghost use Rattle.stab_run.specs.Points.{all_coins_of};
 ghost use Rattle.stab_results.specs.Formats.{one_places};
@@ -22,7 +22,7 @@ use stab_run::ListCoins;
 use stab_shots::{Reference, Shots, UnitLanes, UnitWord, flip_bits, run_lanes};
 use std::alloc::Global;
 
-/// The run of a circuit with all coins 0, which coins decide in it, and what leads runs with other coins.
+/// The run of a circuit with all coins 0, which coins decide in it, and what is needed to propagate runs with other coins over it.
 pub struct CoinRuns {
     zero: Shot,
     numbers: Vec<u64>,
@@ -60,7 +60,7 @@ fn lanes_of(zero: &Shot, coins: usize) -> usize
     }
 }
 
-/// The reference of a circuit that nothing refuses, if it has one, and if there is more than one batch for it to lead.
+/// The reference of a circuit that nothing refuses, if it has one, and if more than one batch of lanes is propagated over it.
 fn reference_of(
     alloc: Global,
     circuit: &Circuit,
@@ -84,7 +84,7 @@ fn places_of(alloc: Global, circuit: &Circuit, free: &[bool]) -> Result<CoinPlac
     requires flags { length free.now ≡ all_coins_of (unroll (circuit_items circuit.now)) }
     ensures numbers { IfOk result (λ p. p.numbers.items ≡ one_places free.now) }
     ensures steps { IfOk result (λ p. p.steps.items ≡ map (step_of_coin (unroll (circuit_items circuit.now))) (one_places free.now)) }
-    ensures apart { IfOk result (λ p. All IsApart (unroll (circuit_items circuit.now))) }
+    ensures distinct { IfOk result (λ p. All HasDistinctQubits (unroll (circuit_items circuit.now))) }
     ensures err { IfErr result (λ f. f ≡ whole OutOfMemory) }
 {
     match coin_places(alloc, circuit, free) {

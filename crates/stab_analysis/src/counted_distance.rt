@@ -6,7 +6,7 @@ ghost use Rattle.stab_edits.specs.Views.{circuit_items};
 ghost use Rattle.stab_errors.specs.ErrorTables.{StepsInside};
 ghost use Rattle.stab_texts.specs.FaultTables.{GoesOn, fault_of, random_of};
 ghost use Rattle.stab_texts.specs.MissingObservables.{WarnsOf};
-ghost use Rattle.stab_texts.specs.Distances.{EndsCounted, HearsDistance, IsCountedText, IsDistanceOf, TellsDistance, answer_text, count_line, of_all};
+ghost use Rattle.stab_texts.specs.Distances.{EndsCounted, HearsDistance, IsCountedText, IsDistanceOf, ReportsDistance, answer_text, count_line, of_all};
 ghost use Rattle.stab_analysis.specs.inner.Faults.{SendsAtOnce};
 
 use crate::distance::{Distance, count_of, find_distance, write_distance};
@@ -16,7 +16,7 @@ use stab_circuit::{Circuit, read_circuit};
 use stab_errors::Progress;
 use stab_io::{Fault, Input, Output, Refusal};
 use stab_jobs::DistanceOptions;
-use stab_texts::{FaultsRefused, finish, tell_doubts, tell_missing, write_texts};
+use stab_texts::{FaultsRefused, finish, report_doubts, report_missing, write_texts};
 use std::alloc::Global;
 
 /// The same options, for all errors.
@@ -86,7 +86,7 @@ fn send_counted_distance<O: Output, P: Progress>(
 ) -> Result<(), FaultsRefused>
     requires checked { check_of (circuit_items circuit.now) ≡ None }
     ensures goes_on { GoesOn (IsCountedText options (circuit_items circuit.now)) options.deterministic_only (circuit_items circuit.now) (random_of result) (O.seen out.old) (O.seen out.new) (fault_of result) }
-    ensures told { HearsDistance (of_all options) (circuit_items circuit.now) (P.heard progress.old) (P.heard progress.new) (fault_of result) }
+    ensures reported { HearsDistance (of_all options) (circuit_items circuit.now) (P.heard progress.old) (P.heard progress.new) (fault_of result) }
 {
     let asked = of_all(options);
     let found = find_distance(alloc, circuit, asked, progress)?;
@@ -108,13 +108,13 @@ pub fn run_counted_distance<I: Input, O: Output, E: Output, P: Progress>(
     progress: &mut P,
 ) -> Result<(), FaultsRefused>
     ensures ends { EndsCounted options (I.seen input.old) (I.seen input.new) (O.seen out.old) (O.seen out.new) (fault_of result) (random_of result) }
-    ensures told { TellsDistance (of_all options) (I.seen input.old) (I.seen input.new) (P.heard progress.old) (P.heard progress.new) (fault_of result) }
+    ensures reported { ReportsDistance (of_all options) (I.seen input.old) (I.seen input.new) (P.heard progress.old) (P.heard progress.new) (fault_of result) }
     ensures warns { WarnsOf options.everywhere options.observable (I.seen input.old) (I.seen input.new) (E.seen err.old) (E.seen err.new) (fault_of result) }
 {
     let circuit = read_circuit(alloc, input)?;
     let doubts = doubts_of(alloc, &circuit, options.everywhere)?;
     send_counted_distance(alloc, &circuit, out, options, progress)?;
-    tell_doubts(err, &circuit, doubts.as_slice());
-    tell_missing(err, options.observable, circuit.observables());
+    report_doubts(err, &circuit, doubts.as_slice());
+    report_missing(err, options.observable, circuit.observables());
     Ok(())
 }

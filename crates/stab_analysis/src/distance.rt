@@ -7,10 +7,10 @@ ghost use Rattle.stab_io.specs.Refusals.{whole};
 ghost use Rattle.stab_circuit.specs.Steps.{check_of, qubits_of};
 ghost use Rattle.stab_edits.specs.Views.{circuit_items};
 ghost use Rattle.stab_errors.specs.ErrorTables.{IsErrorTable, StepsInside};
-ghost use Rattle.stab_errors.specs.Unseen.{IsDistance, IsSetCount, TellsUnseen};
+ghost use Rattle.stab_errors.specs.Unseen.{IsDistance, IsSetCount, ReportsUnseen};
 ghost use Rattle.stab_texts.specs.FaultTables.{GoesOn, fault_of, random_of};
 ghost use Rattle.stab_texts.specs.MissingObservables.{WarnsOf};
-ghost use Rattle.stab_texts.specs.Distances.{EndsDistance, HearsDistance, IsDistanceOf, IsDistanceText, IsRefusedFor, TellsDistance, answer_text, distance_line, if_graphlike, line_end, none_line, of_errors, up_to};
+ghost use Rattle.stab_texts.specs.Distances.{EndsDistance, HearsDistance, IsDistanceOf, IsDistanceText, IsRefusedFor, ReportsDistance, answer_text, distance_line, if_graphlike, line_end, none_line, of_errors, up_to};
 ghost use Rattle.stab_analysis.specs.inner.Faults.{SendsAtOnce};
 
 use crate::deterministic::kinds_of;
@@ -21,7 +21,7 @@ use stab_circuit::{Circuit, read_circuit};
 use stab_errors::{Answer, ErrorTable, Progress, count_distance, distance, graphlike_distance};
 use stab_io::{Fault, Input, Output, Refusal};
 use stab_jobs::DistanceOptions;
-use stab_texts::{FaultsRefused, finish, tell_doubts, tell_missing, write_errors, write_texts};
+use stab_texts::{FaultsRefused, finish, report_doubts, report_missing, write_errors, write_texts};
 use std::alloc::Global;
 
 /// The errors of a circuit, and what a search found among them.
@@ -49,7 +49,7 @@ pub(crate) fn search<P: Progress>(
 ) -> Result<Answer, Refusal>
     ensures distance { IfOk result (λ a. (n : ℕ) (items : Items) → IsErrorTable n items errors.now → IsDistance options.graphlike options.observable n items errors.now.errors options.most a) }
     ensures err { IfErr result (λ r. r ≡ OutOfMemory) }
-    ensures told { (n : ℕ) (items : Items) → IsErrorTable n items errors.now → TellsUnseen options.graphlike options.observable n items errors.now.errors options.most (P.heard progress.old) (P.heard progress.new) result }
+    ensures reported { (n : ℕ) (items : Items) → IsErrorTable n items errors.now → ReportsUnseen options.graphlike options.observable n items errors.now.errors options.most (P.heard progress.old) (P.heard progress.new) result }
 {
     let observable = options.observable;
     if options.graphlike {
@@ -73,7 +73,7 @@ pub fn find_distance<P: Progress>(
     ensures found { IfOk result (λ d. IsDistanceOf options (circuit_items circuit.now) d.errors d.answer) }
     ensures steps { IfOk result (λ d. StepsInside (circuit_items circuit.now) d.errors.errors) }
     ensures refused { IfErr result (λ r. IsRefusedFor options.deterministic_only (circuit_items circuit.now) r.random r.fault) }
-    ensures told { HearsDistance options (circuit_items circuit.now) (P.heard progress.old) (P.heard progress.new) (fault_of result) }
+    ensures reported { HearsDistance options (circuit_items circuit.now) (P.heard progress.old) (P.heard progress.new) (fault_of result) }
 {
     let errors = searched_errors(alloc, circuit, options)?;
     match search(alloc, &errors, options, progress) {
@@ -251,7 +251,7 @@ fn send_distance<O: Output, P: Progress>(
 ) -> Result<(), FaultsRefused>
     requires checked { check_of (circuit_items circuit.now) ≡ None }
     ensures goes_on { GoesOn (IsDistanceText options (circuit_items circuit.now)) options.deterministic_only (circuit_items circuit.now) (random_of result) (O.seen out.old) (O.seen out.new) (fault_of result) }
-    ensures told { HearsDistance options (circuit_items circuit.now) (P.heard progress.old) (P.heard progress.new) (fault_of result) }
+    ensures reported { HearsDistance options (circuit_items circuit.now) (P.heard progress.old) (P.heard progress.new) (fault_of result) }
 {
     let found = find_distance(alloc, circuit, options, progress)?;
     Ok(send_answer(out, circuit, options, &found)?)
@@ -291,13 +291,13 @@ pub fn run_distance<I: Input, O: Output, E: Output, P: Progress>(
     progress: &mut P,
 ) -> Result<(), FaultsRefused>
     ensures ends { EndsDistance options (I.seen input.old) (I.seen input.new) (O.seen out.old) (O.seen out.new) (fault_of result) (random_of result) }
-    ensures told { TellsDistance options (I.seen input.old) (I.seen input.new) (P.heard progress.old) (P.heard progress.new) (fault_of result) }
+    ensures reported { ReportsDistance options (I.seen input.old) (I.seen input.new) (P.heard progress.old) (P.heard progress.new) (fault_of result) }
     ensures warns { WarnsOf options.everywhere options.observable (I.seen input.old) (I.seen input.new) (E.seen err.old) (E.seen err.new) (fault_of result) }
 {
     let circuit = read_circuit(alloc, input)?;
     let doubts = doubts_of(alloc, &circuit, options.everywhere)?;
     send_distance(alloc, &circuit, out, options, progress)?;
-    tell_doubts(err, &circuit, doubts.as_slice());
-    tell_missing(err, options.observable, circuit.observables());
+    report_doubts(err, &circuit, doubts.as_slice());
+    report_missing(err, options.observable, circuit.observables());
     Ok(())
 }

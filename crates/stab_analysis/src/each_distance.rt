@@ -9,7 +9,7 @@ ghost use Rattle.stab_edits.specs.Views.{circuit_items};
 ghost use Rattle.stab_errors.specs.ErrorTables.{StepsInside};
 ghost use Rattle.stab_texts.specs.FaultTables.{GoesOn, fault_of, random_of};
 ghost use Rattle.stab_texts.specs.DoubtLines.{Warns};
-ghost use Rattle.stab_texts.specs.Distances.{AreAnswers, AreErrorsOf, EndsEach, HearsErrors, IsDistanceOf, IsEachText, TellsErrors, answer_texts, for_observable};
+ghost use Rattle.stab_texts.specs.Distances.{AreAnswers, AreErrorsOf, EndsEach, HearsErrors, IsDistanceOf, IsEachText, ReportsErrors, answer_texts, for_observable};
 ghost use Rattle.stab_analysis.specs.inner.Faults.{SendsAtOnce};
 
 use crate::distance::{search, write_answer};
@@ -19,7 +19,7 @@ use stab_circuit::{Circuit, read_circuit};
 use stab_errors::{Answer, ErrorTable, Progress, Unwatched};
 use stab_io::{Fault, Input, Output, Refusal};
 use stab_jobs::DistanceOptions;
-use stab_texts::{FaultsRefused, finish, tell_doubts};
+use stab_texts::{FaultsRefused, finish, report_doubts};
 use std::alloc::Global;
 
 /// The same options, for one observable.
@@ -120,7 +120,7 @@ fn send_each_distance<O: Output, P: Progress>(
 ) -> Result<(), FaultsRefused>
     requires checked { check_of (circuit_items circuit.now) ≡ None }
     ensures goes_on { GoesOn (IsEachText options (circuit_items circuit.now)) options.deterministic_only (circuit_items circuit.now) (random_of result) (O.seen out.old) (O.seen out.new) (fault_of result) }
-    ensures told { HearsErrors options (circuit_items circuit.now) (P.heard progress.old) (P.heard progress.new) }
+    ensures reported { HearsErrors options (circuit_items circuit.now) (P.heard progress.old) (P.heard progress.new) }
 {
     let errors = searched_errors(alloc, circuit, options)?;
     progress.begins(errors.len());
@@ -143,12 +143,12 @@ pub fn run_each_distance<I: Input, O: Output, E: Output, P: Progress>(
     progress: &mut P,
 ) -> Result<(), FaultsRefused>
     ensures ends { EndsEach options (I.seen input.old) (I.seen input.new) (O.seen out.old) (O.seen out.new) (fault_of result) (random_of result) }
-    ensures told { TellsErrors options (I.seen input.old) (I.seen input.new) (P.heard progress.old) (P.heard progress.new) (fault_of result) }
+    ensures reported { ReportsErrors options (I.seen input.old) (I.seen input.new) (P.heard progress.old) (P.heard progress.new) (fault_of result) }
     ensures warns { Warns options.everywhere (I.seen input.old) (I.seen input.new) (E.seen err.old) (E.seen err.new) (fault_of result) }
 {
     let circuit = read_circuit(alloc, input)?;
     let doubts = doubts_of(alloc, &circuit, options.everywhere)?;
     send_each_distance(alloc, &circuit, out, options, progress)?;
-    tell_doubts(err, &circuit, doubts.as_slice());
+    report_doubts(err, &circuit, doubts.as_slice());
     Ok(())
 }

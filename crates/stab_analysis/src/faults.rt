@@ -25,7 +25,7 @@ use stab_jobs::FaultLayout;
 use stab_regions::{FaultTable, faults};
 use stab_results::{Format, Kinds};
 use stab_texts::{
-    Bit, Decider, FaultsRefused, Random, finish, tell_doubts, write_lines, write_shots,
+    Bit, Decider, FaultsRefused, Random, finish, report_doubts, write_lines, write_shots,
 };
 use std::alloc::Global;
 
@@ -74,7 +74,7 @@ fn adds_to(number: usize, step: Step) -> bool
 }
 
 /// What a detector is called among the steps after one, or none if that one is it.
-fn detector_behind(number: usize, step: Step) -> Option<Bit>
+fn detector_after(number: usize, step: Step) -> Option<Bit>
     ensures passes { PassesStep (Detector number) (step_shown step.entry) result }
 {
     if !is_detector(step) {
@@ -87,7 +87,7 @@ fn detector_behind(number: usize, step: Step) -> Option<Bit>
 }
 
 /// What an observable is called among the steps after one, or none if that one adds to it.
-fn observable_behind(number: usize, step: Step) -> Option<Bit>
+fn observable_after(number: usize, step: Step) -> Option<Bit>
     ensures passes { PassesStep (Observable number) (step_shown step.entry) result }
 {
     if adds_to(number, step) {
@@ -98,12 +98,12 @@ fn observable_behind(number: usize, step: Step) -> Option<Bit>
 }
 
 /// What a bit is called among the steps after one, or none if that one makes it.
-fn bit_behind(bit: Bit, step: Step) -> Option<Bit>
+fn bit_after(bit: Bit, step: Step) -> Option<Bit>
     ensures passes { PassesStep bit (step_shown step.entry) result }
 {
     match bit {
-        Bit::Detector(number) => detector_behind(number, step),
-        Bit::Observable(number) => observable_behind(number, step),
+        Bit::Detector(number) => detector_after(number, step),
+        Bit::Observable(number) => observable_after(number, step),
     }
 }
 
@@ -117,7 +117,7 @@ fn first_step(alloc: Global, circuit: &Circuit, bit: Bit) -> Result<usize, Refus
     let mut sought = bit;
     let mut number = 0;
     'steps: while let Some(step) = cursor.next() {
-        match bit_behind(sought, step) {
+        match bit_after(sought, step) {
             Some(rest) => sought = rest,
             None => return Ok(number),
         }
@@ -345,6 +345,6 @@ pub fn run_faults<I: Input, O: Output, E: Output>(
     let circuit = read_circuit(alloc, input)?;
     let doubts = doubts_of(alloc, &circuit, everywhere)?;
     send_faults(alloc, &circuit, out, layout, everywhere, deterministic_only)?;
-    tell_doubts(err, &circuit, doubts.as_slice());
+    report_doubts(err, &circuit, doubts.as_slice());
     Ok(())
 }

@@ -16,7 +16,7 @@
 //! - `each_distance`: the command that finds this number for each observable in turn.
 //! - `coins`: the command that writes which bits of a run each coin decides.
 //! - `reasons`: the command that names the coins which decide those that are not the same for all coins.
-//! - `laws`: reduced rows tell their group; `check` counts what runs give; circuits have tables of coins, in which no coin
+//! - `laws`: reduced rows determine their group; `check` counts what runs give; circuits have tables of coins, in which no coin
 //!   decides a bit that is the same for all random bits.
 //!
 //! What is written is defined in `specs/` of `stab_texts`, where each file is that is named here without a folder.

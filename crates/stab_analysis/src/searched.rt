@@ -5,7 +5,7 @@ ghost use Rattle.stab_edits.specs.Views.{circuit_items};
 ghost use Rattle.stab_errors.specs.ErrorTables.{IsErrorTable, StepsInside};
 ghost use Rattle.stab_texts.specs.FaultTables.{GoesOn, fault_of, random_of};
 ghost use Rattle.stab_texts.specs.DoubtLines.{Warns};
-ghost use Rattle.stab_texts.specs.Distances.{AreErrorsOf, EndsSearched, HearsErrors, IsErrorsText, IsRefusedFor, IsSearchedText, TellsErrors, error_lines};
+ghost use Rattle.stab_texts.specs.Distances.{AreErrorsOf, EndsSearched, HearsErrors, IsErrorsText, IsRefusedFor, IsSearchedText, ReportsErrors, error_lines};
 ghost use Rattle.stab_texts.specs.Endings.{SendsFound};
 ghost use Rattle.stab_maxsat.specs.Made.{IsCountable, clauses_of};
 ghost use Rattle.stab_maxsat.specs.Problems.{Clauses, problem_text};
@@ -20,7 +20,7 @@ use stab_errors::{ErrorTable, Progress, errors};
 use stab_io::{Fault, Input, Output, Refusal};
 use stab_jobs::{DistanceOptions, SearchedLayout};
 use stab_maxsat::{Problem, write_problem};
-use stab_texts::{FaultsRefused, finish, tell_doubts, write_all_errors};
+use stab_texts::{FaultsRefused, finish, report_doubts, write_all_errors};
 use std::alloc::Global;
 
 /// The errors of a circuit that are searched as the options ask for, and what each flips.
@@ -122,7 +122,7 @@ fn send_searched_errors<O: Output, P: Progress>(
 ) -> Result<(), FaultsRefused>
     requires checked { check_of (circuit_items circuit.now) ≡ None }
     ensures goes_on { GoesOn (IsSearchedText layout options (circuit_items circuit.now)) options.deterministic_only (circuit_items circuit.now) (random_of result) (O.seen out.old) (O.seen out.new) (fault_of result) }
-    ensures told { HearsErrors options (circuit_items circuit.now) (P.heard progress.old) (P.heard progress.new) }
+    ensures reported { HearsErrors options (circuit_items circuit.now) (P.heard progress.old) (P.heard progress.new) }
 {
     let errors = searched_errors(alloc, circuit, options)?;
     progress.begins(errors.len());
@@ -145,12 +145,12 @@ pub fn run_searched_errors<I: Input, O: Output, E: Output, P: Progress>(
     progress: &mut P,
 ) -> Result<(), FaultsRefused>
     ensures ends { EndsSearched layout options (I.seen input.old) (I.seen input.new) (O.seen out.old) (O.seen out.new) (fault_of result) (random_of result) }
-    ensures told { TellsErrors options (I.seen input.old) (I.seen input.new) (P.heard progress.old) (P.heard progress.new) (fault_of result) }
+    ensures reported { ReportsErrors options (I.seen input.old) (I.seen input.new) (P.heard progress.old) (P.heard progress.new) (fault_of result) }
     ensures warns { Warns options.everywhere (I.seen input.old) (I.seen input.new) (E.seen err.old) (E.seen err.new) (fault_of result) }
 {
     let circuit = read_circuit(alloc, input)?;
     let doubts = doubts_of(alloc, &circuit, options.everywhere)?;
     send_searched_errors(alloc, &circuit, out, layout, options, progress)?;
-    tell_doubts(err, &circuit, doubts.as_slice());
+    report_doubts(err, &circuit, doubts.as_slice());
     Ok(())
 }

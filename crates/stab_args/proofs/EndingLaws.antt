@@ -1,5 +1,5 @@
 -- How reading the words of a command line ends.
-use Rattle.stab_args.proofs.Names.{◌≡◌, List, Option, Some, None, option_map, IfOk, true, inl, inr, refl, sym, subst, ap, ap₂, Result, Ok, Err, IfErr, App, HasKind, Row, Text, found_of, is_simple, kind_of, rows_of, subcommand_name_of, subcommand_rows_of, fault_of, box_value, ArgMatches, out-ArgMatches, out-SubCommand, Error, OutOfMemory, KeptNames, stabsim, EndsBy, IsJob, IsTold, RefusesOptions, Takes, Usage, Memory, Job}
+use Rattle.stab_args.proofs.Names.{◌≡◌, List, Option, Some, None, option_map, IfOk, true, inl, inr, refl, sym, subst, ap, ap₂, Result, Ok, Err, IfErr, App, HasKind, Row, Text, found_of, is_simple, kind_of, rows_of, subcommand_name_of, subcommand_rows_of, fault_of, box_value, ArgMatches, out-ArgMatches, out-SubCommand, Error, OutOfMemory, KeptNames, stabsim, EndsBy, IsJob, IsReported, RefusesOptions, Takes, Usage, Memory, Job}
 use Rattle.clap.specs.Faults.{is_simple_and_free}
 
 -- the reader has its own account of these commands
@@ -28,9 +28,9 @@ ends_with_command app words name options (Err usage) takes is refused = inr (inr
 
 -- an end with an error of the reader
 pub ends_with_error : (app : App) (words : List Text) (error : Error) (usage : Usage) → HasKind (fault_of app words) error
-    → (kind_of error ≡ OutOfMemory → usage ≡ Memory) → IsTold (kind_of error) usage → EndsBy app words (Err usage)
-ends_with_error app words error usage (inl memory) is told = inl (is memory)
-ends_with_error app words error usage (inr among) is told = inr (inl (kind_of error, among, told))
+    → (kind_of error ≡ OutOfMemory → usage ≡ Memory) → IsReported (kind_of error) usage → EndsBy app words (Err usage)
+ends_with_error app words error usage (inl memory) is reported = inl (is memory)
+ends_with_error app words error usage (inr among) is reported = inr (inl (kind_of error, among, reported))
 
 -- an end for lack of memory
 pub ends_without_memory : (app : App) (words : List Text) (result : Result Job Usage) → result ≡ Err Memory → EndsBy app words result

@@ -73,17 +73,17 @@ neither [] second e = (refl, e)
 neither (k ∷ ks) second e = cc
 
 -- one turn of the walk
-turned : (s : Shape) (names : Names) (w : Walk) (word : Text) (stop : Option (Text × List Text)) (rest : Kinds) → s.disable_help_subcommand ≡ false
+negated : (s : Shape) (names : Names) (w : Walk) (word : Text) (stop : Option (Text × List Text)) (rest : Kinds) → s.disable_help_subcommand ≡ false
     → (if is_some stop then [] else or_else (word_fault s names w.is_trailing w.waiting word w.held) rest) ≡ [] → IsNoHelp stop → IsNoHelp w.stopped
     → IsNoHelp (walked_from s.rules names stop w word).stopped
-turned s names w word (Some p) rest allowed faultless kept before = kept
-turned s names w word None rest allowed faultless kept before =
+negated s names w word (Some p) rest allowed faultless kept before = kept
+negated s names w word None rest allowed faultless kept before =
     met s names w.waiting w.position word w.held w w.is_trailing allowed (neither (word_fault s names w.is_trailing w.waiting word w.held) rest faultless).0 before
 
 -- one word of the walk
 walked_on : (s : Shape) (names : Names) (w : Walk) (word : Text) → s.disable_help_subcommand ≡ false → turn_fault s names w word ≡ [] → IsNoHelp w.stopped → IsNoHelp (walked s.rules names w word).stopped
 unfolding walked
-walked_on s names w word allowed faultless kept = turned s names w word w.stopped _ allowed faultless kept kept
+walked_on s names w word allowed faultless kept = negated s names w word w.stopped _ allowed faultless kept kept
 
 -- the whole walk
 walks : (s : Shape) (names : Names) (w : Walk) (words : List Text) → s.disable_help_subcommand ≡ false → walk_fault s names w words ≡ [] → IsNoHelp w.stopped

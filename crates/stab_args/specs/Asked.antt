@@ -148,7 +148,7 @@ IsCommand name options (SearchedErrors Table asked) =
     (name ≡ codes "distance") × AsksFor options false true false false × IsAskedDistance options asked × (is_about_search asked ≡ false)
 IsCommand name options (Edit framed qubits stride) =
     (name ≡ codes "edit") × IsSet (one_of (codes "framed") options) framed × IsWrittenIfGiven 0 most_qubits (one_of (codes "qubits") options) qubits × IsWritten 1 most_stride (one_of (codes "stride") options) stride
-IsCommand name options Propagate = name ≡ codes "propagate"
+IsCommand name options (Propagate every) = (name ≡ codes "propagate") × IsSet (one_of (codes "every") options) every
 
 -- the text of an option, which is empty if the option isn't given
 abbrev pub text_or_none : Option Text → Text
@@ -261,10 +261,10 @@ abbrev pub IsMistake : ErrorKind → Type 0
 IsMistake kind = (kind ≢ DisplayHelp) × (kind ≢ DisplayVersion)
 
 -- the reader's own errors are reported as faults, and its help as help, unless the answer is 20
-abbrev pub IsTold : ErrorKind → Usage → Type 0
-IsTold kind Memory = ⊤
-IsTold kind (Help text) = IsMistake kind → ⊥
-IsTold kind (Fault text) = IsMistake kind
+abbrev pub IsReported : ErrorKind → Usage → Type 0
+IsReported kind Memory = ⊤
+IsReported kind (Help text) = IsMistake kind → ⊥
+IsReported kind (Fault text) = IsMistake kind
 
 -- the command that the words name, with its options, if the reader takes them
 abbrev pub Takes : App → List Text → Text × List Row → Type 0
@@ -274,7 +274,7 @@ Takes app words command = (fault_of app words ≡ []) × (subcommand_of app word
 abbrev pub EndsBy : App → List Text → Result Job Usage → Type 0
 EndsBy app words (Ok job) = (command : Text × List Row) × Takes app words command × IsJob command.0 command.1 job
 EndsBy app words (Err usage) = (usage ≡ Memory)
-    ⊎ (((kind : ErrorKind) × IsAmong kind (fault_of app words) × IsTold kind usage)
+    ⊎ (((kind : ErrorKind) × IsAmong kind (fault_of app words) × IsReported kind usage)
     ⊎ ((command : Text × List Row) × Takes app words command × RefusesOptions command.1 usage))
 
 -- How reading the words of a command line ends, wherever the names that options take are kept.

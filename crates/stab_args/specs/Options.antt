@@ -131,7 +131,7 @@ positional id = record (new_rule id) { value_names = 1 }
 
 -- the command `propagate`, which takes no coins
 abbrev pub propagate : Shape
-propagate = record (new_shape (codes "propagate")) { rules = wanted (valued (codes "at")) ∷ wanted (positional (codes "PAULI")) ∷ file_options }
+propagate = record (new_shape (codes "propagate")) { rules = wanted (valued (codes "at")) ∷ wanted (positional (codes "PAULI")) ∷ flag (codes "every") ∷ file_options }
 
 -- the program without its commands, of which some command is wanted, and which says its version
 abbrev pub bare : App

@@ -5,7 +5,7 @@
 //! - `options`: what the words say to each option.
 ghost use Rattle.std.specs.Prelude.{◌≡◌, map};
 ghost use Rattle.clap.specs.Words.{kind_of};
-ghost use Rattle.stab_args.specs.Asked.{EndsReading, IsTold};
+ghost use Rattle.stab_args.specs.Asked.{EndsReading, IsReported};
 ghost use Rattle.stab_args.specs.declared.words.Usage.TheVariants.{Memory};
 
 mod app;
@@ -43,7 +43,7 @@ impl From<AllocError> for Usage {
 
 fn usage_of(alloc: Global, error: &Error) -> Usage
     ensures memory { kind_of error.now ≡ ErrorKind.OutOfMemory → result ≡ Memory }
-    ensures told { IsTold (kind_of error.now) result }
+    ensures reported { IsReported (kind_of error.now) result }
 {
     if error.kind() == ErrorKind::OutOfMemory {
         return Usage::Memory;

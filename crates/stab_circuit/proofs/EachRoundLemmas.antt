@@ -1,5 +1,5 @@
 -- An edit changes each round: what it takes out, and what it puts in, come before the same pieces.
-use Rattle.stab_circuit.proofs.Names.{◌≡◌, ◌<◌, refl, ap, sym, ◌∙◌, subst, ℕ, ◌+◌, ◌-◌, suc, zero, List, [], ◌∷◌, ◌++◌, length, take, drop, arith, append_assoc, append-nil, Some, Ok, length-append, length-take-le, take_at, drop_at, take-take, drop-set-lt, slice_get, Edit, Insert, Replace, Delete, OneItem, repeat, listed, entries, Step, unroll, Path, edit_path, edited_in, edited, inner, taken_at, taken_in, put_item, steps_in, steps_before, first_changed, behind_taken, behind_put, outermost, interleaved, rounds_in, round_pieces, pieces_in, pieces, HaveRounds, item_steps, steps_between, ChangesEachRound, block_pieces, steps-append, steps_split, put_in, changed_split, changed_before, changed_behind, behind_put_is, Rebuilds, rebuilds, next_place, found, front_size, new_parts, new_inner, old_inner, Stands, steps-pieces, nothing_left, got_taken, pieces-outer, pieces-block}
+use Rattle.stab_circuit.proofs.Names.{◌≡◌, ◌<◌, refl, ap, sym, ◌∙◌, subst, ℕ, ◌+◌, ◌-◌, suc, zero, List, [], ◌∷◌, ◌++◌, length, take, drop, arith, append_assoc, append-nil, Some, Ok, length-append, length-take-le, take_at, drop_at, take-take, drop-set-lt, slice_get, Edit, Insert, Replace, Delete, OneItem, repeat, listed, entries, Step, unroll, Path, edit_path, edited_in, edited, inner, taken_at, taken_in, put_item, steps_in, steps_before, first_changed, after_taken, after_put, outermost, interleaved, rounds_in, round_pieces, pieces_in, pieces, HaveRounds, item_steps, steps_between, ChangesEachRound, block_pieces, steps-append, steps_split, put_in, changed_split, changed_before, changed_after, after_put_is, Rebuilds, rebuilds, next_place, found, front_size, new_parts, new_inner, old_inner, Stands, steps-pieces, nothing_left, got_taken, pieces-outer, pieces-block}
 
 -- the steps of a list
 abbrev steps : List OneItem → List Step
@@ -22,12 +22,12 @@ up_to_item xs p = ap (λ n. steps (take n xs)) (sym (next_place p)) ∙ up_to_su
 
 -- what an edit takes out is at its place
 
-taken_stands : (edit : Edit) (xs : List OneItem) → steps (take (behind_taken edit) xs) ≡ steps (take (edit_path edit).place xs) ++ item_steps (taken_at edit xs)
+taken_stands : (edit : Edit) (xs : List OneItem) → steps (take (after_taken edit) xs) ≡ steps (take (edit_path edit).place xs) ++ item_steps (taken_at edit xs)
 taken_stands (Insert at x) xs = sym (append-nil (steps (take at.place xs)))
 taken_stands (Replace at x) xs = up_to_item xs at.place
 taken_stands (Delete at) xs = up_to_item xs at.place
 
-stands_before : (edit : Edit) (bs : List ℕ) (xs : List OneItem) → HaveRounds bs xs → Stands (item_steps (taken_in edit bs xs)) (behind_taken edit) bs (edit_path edit).place xs
+stands_before : (edit : Edit) (bs : List ℕ) (xs : List OneItem) → HaveRounds bs xs → Stands (item_steps (taken_in edit bs xs)) (after_taken edit) bs (edit_path edit).place xs
 stands_before edit [] xs h = taken_stands edit xs
 stands_before edit (b ∷ bs) xs h = (h.0, stands_before edit bs (inner (slice_get xs b)) h.1)
 
@@ -38,15 +38,15 @@ steps_put (Insert at x) = refl
 steps_put (Replace at x) = refl
 steps_put (Delete at) = refl
 
-put_stands : (edit : Edit) (xs ys : List OneItem) → edited_in edit [] xs ≡ Ok ys → steps (take (behind_put edit) ys) ≡ steps (take (edit_path edit).place ys) ++ item_steps (put_item edit)
+put_stands : (edit : Edit) (xs ys : List OneItem) → edited_in edit [] xs ≡ Ok ys → steps (take (after_put edit) ys) ≡ steps (take (edit_path edit).place ys) ++ item_steps (put_item edit)
 put_stands edit xs ys e =
     let s = changed_split edit xs ys e in
     let front = take (edit_path edit).place xs in
-    let rest = drop (behind_taken edit) xs in
-    let long : length (front ++ put_in edit) ≡ behind_put edit =
-    length-append front (put_in edit) ∙ ap (λ n. n + length (put_in edit)) (length-take-le (edit_path edit).place xs s.0) ∙ sym (behind_put_is edit) in
-    ap (λ l. steps (take (behind_put edit) l)) (s.1 ∙ sym (append_assoc front (put_in edit) rest))
-    ∙ ap steps (take_at (front ++ put_in edit) rest (behind_put edit) long)
+    let rest = drop (after_taken edit) xs in
+    let long : length (front ++ put_in edit) ≡ after_put edit =
+    length-append front (put_in edit) ∙ ap (λ n. n + length (put_in edit)) (length-take-le (edit_path edit).place xs s.0) ∙ sym (after_put_is edit) in
+    ap (λ l. steps (take (after_put edit) l)) (s.1 ∙ sym (append_assoc front (put_in edit) rest))
+    ∙ ap steps (take_at (front ++ put_in edit) rest (after_put edit) long)
     ∙ steps-append front (put_in edit)
     ∙ ap (λ l. steps l ++ steps (put_in edit)) (sym (changed_before edit xs ys e))
     ∙ ap (λ l. steps (take (edit_path edit).place ys) ++ l) (steps_put edit)
@@ -71,13 +71,13 @@ module _ (edit : Edit) (b : ℕ) (bs : List ℕ) (xs ys : List OneItem) (r : Reb
 
 -- what an edit puts in is in each round, before what was there
 
-stands_behind : (edit : Edit) (bs : List ℕ) (xs ys : List OneItem) → edited_in edit bs xs ≡ Ok ys → HaveRounds bs xs → Stands (item_steps (put_item edit)) (behind_put edit) bs (edit_path edit).place ys
-stands_behind edit [] xs ys e h = put_stands edit xs ys e
-stands_behind edit (b ∷ bs) xs ys e h =
+stands_after : (edit : Edit) (bs : List ℕ) (xs ys : List OneItem) → edited_in edit bs xs ≡ Ok ys → HaveRounds bs xs → Stands (item_steps (put_item edit)) (after_put edit) bs (edit_path edit).place ys
+stands_after edit [] xs ys e h = put_stands edit xs ys e
+stands_after edit (b ∷ bs) xs ys e h =
     let r = rebuilds (edited_in edit bs) b xs ys (slice_get xs b) refl e in
-    let within = stands_behind edit bs (entries r.body) r.within r.edited (subst (HaveRounds bs) (old_inner (edited_in edit bs) b xs ys r) h.1) in (
+    let within = stands_after edit bs (entries r.body) r.within r.edited (subst (HaveRounds bs) (old_inner (edited_in edit bs) b xs ys r) h.1) in (
       subst (λ n. 0 < n) (sym (same_rounds edit b bs xs ys r)) h.0,
-      subst (Stands (item_steps (put_item edit)) (behind_put edit) bs (edit_path edit).place) (sym (new_inner (edited_in edit bs) b xs ys r)) within,
+      subst (Stands (item_steps (put_item edit)) (after_put edit) bs (edit_path edit).place) (sym (new_inner (edited_in edit bs) b xs ys r)) within,
     )
 
 pub same_lead : (edit : Edit) (bs : List ℕ) (xs ys : List OneItem) → edited_in edit bs xs ≡ Ok ys → steps_in bs (edit_path edit).place ys ≡ steps_in bs (edit_path edit).place xs
@@ -91,47 +91,47 @@ same_lead edit (b ∷ bs) xs ys e =
     ∙ ap (λ l. steps (take b xs) ++ steps_in bs place l) (sym (old_inner (edited_in edit bs) b xs ys r))
 
 -- rounds of pieces that are the same
-same_round : (n m : ℕ) (f g : List Step → List (List Step)) (lead other : List Step) → n ≡ m → ((b : List Step) → f b ≡ g b) → lead ≡ other → (behind : List Step)
-    → round_pieces n f lead behind ≡ round_pieces m g other behind
-same_round n m f g lead other e h l behind = ap (λ k. round_pieces k f lead behind) e ∙ ap (λ t. round_pieces m f t behind) l ∙ each m
+same_round : (n m : ℕ) (f g : List Step → List (List Step)) (lead other : List Step) → n ≡ m → ((b : List Step) → f b ≡ g b) → lead ≡ other → (following : List Step)
+    → round_pieces n f lead following ≡ round_pieces m g other following
+same_round n m f g lead other e h l following = ap (λ k. round_pieces k f lead following) e ∙ ap (λ t. round_pieces m f t following) l ∙ each m
   where
-    each : (k : ℕ) → round_pieces k f other behind ≡ round_pieces k g other behind
+    each : (k : ℕ) → round_pieces k f other following ≡ round_pieces k g other following
     each zero = refl
-    each (suc zero) = h behind
-    each (suc (suc k)) = ap (λ t. t ++ round_pieces (suc k) f other behind) (h other) ∙ ap (λ t. g other ++ t) (each (suc k))
+    each (suc zero) = h following
+    each (suc (suc k)) = ap (λ t. t ++ round_pieces (suc k) f other following) (h other) ∙ ap (λ t. g other ++ t) (each (suc k))
 
 same_in_block : (edit : Edit) (b : ℕ) (bs : List ℕ) (xs ys : List OneItem) (r : Rebuilds (edited_in edit bs) b xs ys)
-    → ((t : List Step) → pieces_in (behind_put edit) bs (edit_path edit).place r.within t ≡ pieces_in (behind_taken edit) bs (edit_path edit).place (entries r.body) t) → (behind : List Step)
-    → block_pieces (behind_put edit) bs (edit_path edit).place (slice_get ys b) behind ≡ block_pieces (behind_taken edit) bs (edit_path edit).place (slice_get xs b) behind
-same_in_block edit b bs xs ys r same behind =
+    → ((t : List Step) → pieces_in (after_put edit) bs (edit_path edit).place r.within t ≡ pieces_in (after_taken edit) bs (edit_path edit).place (entries r.body) t) → (following : List Step)
+    → block_pieces (after_put edit) bs (edit_path edit).place (slice_get ys b) following ≡ block_pieces (after_taken edit) bs (edit_path edit).place (slice_get xs b) following
+same_in_block edit b bs xs ys r same following =
     let place = (edit_path edit).place in
     let lead = ap (steps_in bs place) (new_inner (edited_in edit bs) b xs ys r) ∙ same_lead edit bs (entries r.body) r.within r.edited ∙ ap (steps_in bs place) (sym (old_inner (edited_in edit bs) b xs ys r)) in
-    let round : (t : List Step) → pieces_in (behind_put edit) bs place (inner (slice_get ys b)) t ≡ pieces_in (behind_taken edit) bs place (inner (slice_get xs b)) t =
-    λ t. ap (λ l. pieces_in (behind_put edit) bs place l t) (new_inner (edited_in edit bs) b xs ys r) ∙ same t ∙ ap (λ l. pieces_in (behind_taken edit) bs place l t) (sym (old_inner (edited_in edit bs) b xs ys r)) in
-    same_round (rounds_in (slice_get ys b)) (rounds_in (slice_get xs b)) (pieces_in (behind_put edit) bs place (inner (slice_get ys b))) (pieces_in (behind_taken edit) bs place (inner (slice_get xs b)))
-    (steps_in bs place (inner (slice_get ys b))) (steps_in bs place (inner (slice_get xs b))) (same_rounds edit b bs xs ys r) round lead behind
+    let round : (t : List Step) → pieces_in (after_put edit) bs place (inner (slice_get ys b)) t ≡ pieces_in (after_taken edit) bs place (inner (slice_get xs b)) t =
+    λ t. ap (λ l. pieces_in (after_put edit) bs place l t) (new_inner (edited_in edit bs) b xs ys r) ∙ same t ∙ ap (λ l. pieces_in (after_taken edit) bs place l t) (sym (old_inner (edited_in edit bs) b xs ys r)) in
+    same_round (rounds_in (slice_get ys b)) (rounds_in (slice_get xs b)) (pieces_in (after_put edit) bs place (inner (slice_get ys b))) (pieces_in (after_taken edit) bs place (inner (slice_get xs b)))
+    (steps_in bs place (inner (slice_get ys b))) (steps_in bs place (inner (slice_get xs b))) (same_rounds edit b bs xs ys r) round lead following
 
-same_in_list : (edit : Edit) (bs : List ℕ) (xs ys : List OneItem) → edited_in edit bs xs ≡ Ok ys → (behind : List Step)
-    → pieces_in (behind_put edit) bs (edit_path edit).place ys behind ≡ pieces_in (behind_taken edit) bs (edit_path edit).place xs behind
-same_in_list edit [] xs ys e behind = ap (λ l. (steps l ++ behind) ∷ []) (sym (changed_behind edit xs ys e))
-same_in_list edit (b ∷ bs) xs ys e behind =
+same_in_list : (edit : Edit) (bs : List ℕ) (xs ys : List OneItem) → edited_in edit bs xs ≡ Ok ys → (following : List Step)
+    → pieces_in (after_put edit) bs (edit_path edit).place ys following ≡ pieces_in (after_taken edit) bs (edit_path edit).place xs following
+same_in_list edit [] xs ys e following = ap (λ l. (steps l ++ following) ∷ []) (sym (changed_after edit xs ys e))
+same_in_list edit (b ∷ bs) xs ys e following =
     let r = rebuilds (edited_in edit bs) b xs ys (slice_get xs b) refl e in
-    same_in_block edit b bs xs ys r (same_in_list edit bs (entries r.body) r.within r.edited) (steps (drop (b + 1) ys) ++ behind)
-    ∙ ap (λ l. block_pieces (behind_taken edit) bs (edit_path edit).place (slice_get xs b) (steps l ++ behind)) (same_back edit b bs xs ys r)
+    same_in_block edit b bs xs ys r (same_in_list edit bs (entries r.body) r.within r.edited) (steps (drop (b + 1) ys) ++ following)
+    ∙ ap (λ l. block_pieces (after_taken edit) bs (edit_path edit).place (slice_get xs b) (steps l ++ following)) (same_back edit b bs xs ys r)
 
-same_pieces : (edit : Edit) (xs ys : List OneItem) → edited edit xs ≡ Ok ys → pieces (edit_path edit) (behind_put edit) ys ≡ pieces (edit_path edit) (behind_taken edit) xs
+same_pieces : (edit : Edit) (xs ys : List OneItem) → edited edit xs ≡ Ok ys → pieces (edit_path edit) (after_put edit) ys ≡ pieces (edit_path edit) (after_taken edit) xs
 same_pieces edit xs ys e = by_blocks (edit_path edit).blocks refl
   where
     in_block : (b : ℕ) (bs : List ℕ) (r : Rebuilds (edited_in edit bs) b xs ys)
-        → block_pieces (behind_put edit) bs (edit_path edit).place (slice_get ys b) [] ≡ block_pieces (behind_taken edit) bs (edit_path edit).place (slice_get xs b) []
+        → block_pieces (after_put edit) bs (edit_path edit).place (slice_get ys b) [] ≡ block_pieces (after_taken edit) bs (edit_path edit).place (slice_get xs b) []
     in_block b bs r = same_in_block edit b bs xs ys r (same_in_list edit bs (entries r.body) r.within r.edited) []
 
-    by_blocks : (bs : List ℕ) → (edit_path edit).blocks ≡ bs → pieces (edit_path edit) (behind_put edit) ys ≡ pieces (edit_path edit) (behind_taken edit) xs
-    by_blocks [] f = pieces-outer (edit_path edit) (behind_put edit) ys f ∙ sym (pieces-outer (edit_path edit) (behind_taken edit) xs f)
+    by_blocks : (bs : List ℕ) → (edit_path edit).blocks ≡ bs → pieces (edit_path edit) (after_put edit) ys ≡ pieces (edit_path edit) (after_taken edit) xs
+    by_blocks [] f = pieces-outer (edit_path edit) (after_put edit) ys f ∙ sym (pieces-outer (edit_path edit) (after_taken edit) xs f)
     by_blocks (b ∷ bs) f =
-        pieces-block (edit_path edit) (behind_put edit) b bs ys f
+        pieces-block (edit_path edit) (after_put edit) b bs ys f
         ∙ in_block b bs (rebuilds (edited_in edit bs) b xs ys (slice_get xs b) refl (sym (ap (λ l. edited_in edit l xs) f) ∙ e))
-        ∙ sym (pieces-block (edit_path edit) (behind_taken edit) b bs xs f)
+        ∙ sym (pieces-block (edit_path edit) (after_taken edit) b bs xs f)
 
 -- the steps up to the end of the outermost item
 
@@ -168,9 +168,9 @@ stands_between gates end first path xs stands f =
 
 pub changes_each_round : (edit : Edit) (old new : List OneItem) → edited edit old ≡ Ok new → HaveRounds (edit_path edit).blocks old → ChangesEachRound edit old new
 changes_each_round edit old new e h = record {
-  taken_out = stands_between (item_steps (taken_in edit (edit_path edit).blocks old)) (behind_taken edit) (first_changed edit old) (edit_path edit) old (stands_before edit (edit_path edit).blocks old h) refl;
+  taken_out = stands_between (item_steps (taken_in edit (edit_path edit).blocks old)) (after_taken edit) (first_changed edit old) (edit_path edit) old (stands_before edit (edit_path edit).blocks old h) refl;
   put_in =
-      stands_between (item_steps (put_item edit)) (behind_put edit) (first_changed edit old) (edit_path edit) new (stands_behind edit (edit_path edit).blocks old new e h)
+      stands_between (item_steps (put_item edit)) (after_put edit) (first_changed edit old) (edit_path edit) new (stands_after edit (edit_path edit).blocks old new e h)
       (ap length (sym (same_lead edit (edit_path edit).blocks old new e)));
   same = same_pieces edit old new e;
 }

@@ -1,5 +1,5 @@
 -- The first line of a text.
-use Rattle.stab_circuit.proofs.Names.{Bor, Ok, ◌<◌, MatchOption, subst, ◌≡◌, sym, ap, ◌∙◌, ℕ, ◌+◌, ◌-◌, List, [], ◌∷◌, ◌++◌, Bool, true, false, length, take, drop, Option, Some, None, arith, append-nil, refl, option_copied, slice_get, slice_split, onto_first, AllByRecursion, join_with_byte, All-from_recursion, take-append_seam, length-append, pointwise, Decides-eqb, starts_is, slice_split_none, slice_split_at, slice_split-cons_yes, slice_split-cons_no, length-slice_split, join_with_byte-slice_split, Kind, is_byte, pieces_after, BeginsWithInstruction, TellsInstruction, IsOneLine, IsCut, eqb}
+use Rattle.stab_circuit.proofs.Names.{Bor, Ok, ◌<◌, MatchOption, subst, ◌≡◌, sym, ap, ◌∙◌, ℕ, ◌+◌, ◌-◌, List, [], ◌∷◌, ◌++◌, Bool, true, false, length, take, drop, Option, Some, None, arith, append-nil, refl, option_copied, slice_get, slice_split, onto_first, AllByRecursion, join_with_byte, All-from_recursion, take-append_seam, length-append, pointwise, Decides-eqb, starts_is, slice_split_none, slice_split_at, slice_split-cons_yes, slice_split-cons_no, length-slice_split, join_with_byte-slice_split, Kind, is_byte, pieces_after, BeginsWithInstruction, ReadsInstruction, IsOneLine, IsCut, eqb}
 use Rattle.std.proofs.Common.{length-append}
 
 none_first : (rest : List ℕ) → slice_get rest 0 ≡ None → rest ≡ []
@@ -70,6 +70,6 @@ some_first text = begun (slice_split (is_byte 10) text) refl
     begun (p ∷ ps) e = (p, ps, e)
 
 -- what a look at the first line said
-pub some_told : (text : List ℕ) (given : Option (Kind × Option (Bor (List ℕ)))) (found : Kind × Option (Bor (List ℕ))) → given ≡ Some found → TellsInstruction text (Ok given)
+pub some_reported : (text : List ℕ) (given : Option (Kind × Option (Bor (List ℕ)))) (found : Kind × Option (Bor (List ℕ))) → given ≡ Some found → ReadsInstruction text (Ok given)
     → BeginsWithInstruction text found.0 (option_copied found.1)
-some_told text given found e h = subst (λ x. TellsInstruction text (Ok x)) e h
+some_reported text given found e h = subst (λ x. ReadsInstruction text (Ok x)) e h

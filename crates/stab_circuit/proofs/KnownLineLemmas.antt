@@ -1,7 +1,7 @@
 -- Known lines, and the instructions that they mean.
-use Rattle.stab_circuit.proofs.Names.{◌≡◌, ◌<◌, subst, List, [], ◌∷◌, false, ℕ, length, Option, Some, Ok, MatchOption, Bor, All, All-head, All-tail, option_copied, Kind, Operation, Line, Open, OneItem, operation, is_byte, content_of, meaning_of, IsLine, line_good, Free, any_free, IsGoodKind, IsGoodLine, IsTag, TellsInstruction, IsOneLine, IsCut, BeginsWithItem, IsKnownLine, IsMeant}
+use Rattle.stab_circuit.proofs.Names.{◌≡◌, ◌<◌, subst, List, [], ◌∷◌, false, ℕ, length, Option, Some, Ok, MatchOption, Bor, All, All-head, All-tail, option_copied, Kind, Operation, Line, Open, OneItem, operation, is_byte, content_of, meaning_of, IsLine, line_good, Free, any_free, IsGoodKind, IsGoodLine, IsTag, ReadsInstruction, IsOneLine, IsCut, BeginsWithItem, IsKnownLine, IsMeant}
 use Rattle.stab_lines.specs.declared.operation.Line.TheVariants as line
-use Rattle.stab_circuit.proofs.FrontLemmas.{cut_split, split_cut, cut_shorter, one_line_first, some_told}
+use Rattle.stab_circuit.proofs.FrontLemmas.{cut_split, split_cut, cut_shorter, one_line_first, some_reported}
 
 -- a text begins with a line that is known
 pub known_front : (text bytes : List ℕ) (op : Operation) (x : OneItem) (after : Option (List ℕ)) → IsKnownLine bytes op → IsCut text bytes after → x ≡ operation op → BeginsWithItem text x after
@@ -25,7 +25,7 @@ operation_good m bytes op is one means = meant_good bytes (line.Operation op) on
 pub opening_good : (m : Line) (bytes : List ℕ) (count : ℕ) (tag : List ℕ) → m ≡ Open count tag → IsOneLine bytes → IsMeant m bytes → IsTag tag
 opening_good m bytes count tag is one means = (meant_good bytes (Open count tag) one (subst (λ l. IsMeant l bytes) is means)).1
 
-pub told_good : (text : List ℕ) (given : Option (Kind × Option (Bor (List ℕ)))) (found : Kind × Option (Bor (List ℕ))) → given ≡ Some found → TellsInstruction text (Ok given) → IsGoodKind found.0
-told_good text given found e h =
-    let d = some_told text given found e h in
+pub reported_good : (text : List ℕ) (given : Option (Kind × Option (Bor (List ℕ)))) (found : Kind × Option (Bor (List ℕ))) → given ≡ Some found → ReadsInstruction text (Ok given) → IsGoodKind found.0
+reported_good text given found e h =
+    let d = some_reported text given found e h in
     (meant_good d.0 (line.Operation (record { kind = found.0; tag = [] })) (one_line_first text d.0 _ d.1) d.2).0

@@ -1,5 +1,5 @@
 -- Items that some lines stand for, and that edits leave such items.
-use Rattle.stab_circuit.proofs.Names.{◌≡◌, ◌≤◌, refl, ap, sym, ◌∙◌, subst, ℕ, ◌+◌, suc, List, [], ◌∷◌, ◌++◌, true, nat_lt, length, take, drop, All, Option, None, Some, Result, Ok, append_assoc, append-nil, arith, slice_get, take-append-drop, set_split, All-nil, All-cons, slice_get_within, nat_tests, Refusal, Close, Open, content_of, meaning_of, IsLine, Each, each-append, Edit, Insert, Replace, Delete, Items, OneItem, operation, repeat, done, next, block, before, listed, entries, depth, Meaning, Joins, line_meanings, fault_from, with_item, edited_inside, edit_path, edited_in, edited, behind_taken, inner, taken_in, taken, AreOfLines, PutsLines, each_left, each_right, listed-entries, put_in, changed_split, rebuilds, got_split}
+use Rattle.stab_circuit.proofs.Names.{◌≡◌, ◌≤◌, refl, ap, sym, ◌∙◌, subst, ℕ, ◌+◌, suc, List, [], ◌∷◌, ◌++◌, true, nat_lt, length, take, drop, All, Option, None, Some, Result, Ok, append_assoc, append-nil, arith, slice_get, take-append-drop, set_split, All-nil, All-cons, slice_get_within, nat_tests, Refusal, Close, Open, content_of, meaning_of, IsLine, Each, each-append, Edit, Insert, Replace, Delete, Items, OneItem, operation, repeat, done, next, block, before, listed, entries, depth, Meaning, Joins, line_meanings, fault_from, with_item, edited_inside, edit_path, edited_in, edited, after_taken, inner, taken_in, taken, AreOfLines, PutsLines, each_left, each_right, listed-entries, put_in, changed_split, rebuilds, got_split}
 use Rattle.stab_circuit.proofs.BlankLemmas.{lines_of, lines_join, fault_operation, same_faultless}
 use Rattle.stab_circuit.proofs.ReadingLemmas.{few_open, fault_inside}
 use Rattle.stab_circuit.proofs.RoundLemmas.{IsOfLine, AreMeant, items_meant}
@@ -118,7 +118,7 @@ block_meant change b xs ys e keeps g =
 edited_meant : (edit : Edit) (bs : List ℕ) (xs ys : List OneItem) → edited_in edit bs xs ≡ Ok ys → Each IsMeant (put_in edit) → Each IsMeant xs → Each IsMeant ys
 edited_meant edit [] xs ys e puts g =
     let s = changed_split edit xs ys e in
-    let n = behind_taken edit in
+    let n = after_taken edit in
     subst (Each IsMeant) (sym s.1)
     (each-append IsMeant (take (edit_path edit).place xs) (put_in edit ++ drop n xs) (each_take IsMeant (edit_path edit).place xs g) (each-append IsMeant (put_in edit) (drop n xs) puts (each_drop IsMeant n xs g)))
 edited_meant edit (b ∷ bs) xs ys e puts g = block_meant (edited_in edit bs) b xs ys e (λ us vs f h. edited_meant edit bs us vs f puts h) g
@@ -137,11 +137,11 @@ lines_shallow : (xs : Items) (n : ℕ) (opened : List ℕ) (ms : List Meaning) �
 lines_shallow done n opened ms h e = omega (arith, h)
 lines_shallow (next op rest) n opened ms h e = lines_shallow rest (n + 1) opened ms h (sym (fault_operation n opened op (lines_of rest ++ ms)) ∙ e)
 lines_shallow (block c t body rest) n opened ms h e =
-    let behind = Ok Close ∷ (lines_of rest ++ ms) in
+    let following = Ok Close ∷ (lines_of rest ++ ms) in
     let few : nat_lt (length opened) 16 ≡ true = few_open n opened c t ((lines_of body ++ Ok Close ∷ lines_of rest) ++ ms) e in
-    let goes : fault_from (n + 1) (n ∷ opened) (lines_of body ++ behind) ≡ None = sym (fault_inside n opened c t (lines_of body) (lines_of rest) ms few) ∙ e in
-    let inside : suc (length opened) + depth body ≤ 16 = lines_shallow body (n + 1) (n ∷ opened) behind (is_few (length opened) few) goes in
-    let passed = lines_pass body (n + 1) (n ∷ opened) behind inside in
+    let goes : fault_from (n + 1) (n ∷ opened) (lines_of body ++ following) ≡ None = sym (fault_inside n opened c t (lines_of body) (lines_of rest) ms few) ∙ e in
+    let inside : suc (length opened) + depth body ≤ 16 = lines_shallow body (n + 1) (n ∷ opened) following (is_few (length opened) few) goes in
+    let passed = lines_pass body (n + 1) (n ∷ opened) following inside in
     let after : length opened + depth rest ≤ 16 = lines_shallow rest (passed.0 + 1) opened ms h (sym passed.1 ∙ goes) in
     omega (arith, inside, after)
   where

@@ -17,7 +17,7 @@ pub use Rattle.stab_io.specs.declared.refusal.Fault.{Fault}
 pub use Rattle.stab_io.specs.declared.refusal.Refusal.{Refusal}
 pub use Rattle.stab_io.specs.declared.refusal.Refusal.TheVariants.{BadLine, TooDeep, OutOfMemory, LookbackTooFar, TooManySteps, PlaceOutOfRange, NotABlock, QubitOutOfRange, BadBlock, TooLong}
 pub use Rattle.stab_lines.proofs.BoolLemmas.{chosen, passed, and_left, and_right, both}
-pub use Rattle.stab_line_reader.specs.FirstLines.{BeginsWithInstruction, TellsInstruction}
+pub use Rattle.stab_line_reader.specs.FirstLines.{BeginsWithInstruction, ReadsInstruction}
 pub use Rattle.stab_lines.specs.Lines.{is_byte}
 unfoldable pub use Rattle.stab_lines.specs.Lines.{content_of}
 unfoldable pub use Rattle.stab_lines.specs.Meanings.{meaning_of}
@@ -38,7 +38,7 @@ pub use Rattle.stab_circuit.specs.declared.stretches.Run.{Run}
 pub use Rattle.stab_circuit.specs.declared.stretches.Stretch.{Stretch}
 pub use Rattle.stab_circuit.specs.inner.KnownLines.{IsOneLine, IsCut, BeginsWithItem, IsKnownLine, IsMeant}
 pub use Rattle.stab_circuit.specs.inner.Readers.{Progress, is_whole, meaning_at, OpenBlock, closed, stepped, finished, read_on, is_some_items, pending, ReadsItems, IsShallowProgress, open_block_of, open_blocks_of, kept_progress, closing, progress_of, reading, before_reading}
-pub use Rattle.stab_edits.specs.Edits.{outermost, with_item, rebuilt, edited_inside, changed, edited_in, edited, taken_in, taken, list_verdict, verdict, inner, edit_path, taken_at, put_item, steps_in, steps_before, first_changed, behind_taken, behind_put}
+pub use Rattle.stab_edits.specs.Edits.{outermost, with_item, rebuilt, edited_inside, changed, edited_in, edited, taken_in, taken, list_verdict, verdict, inner, edit_path, taken_at, put_item, steps_in, steps_before, first_changed, after_taken, after_put}
 pub use Rattle.stab_circuit.specs.inner.Stretches.{Ran, reading_on, outside, Reads, items_of, IsStretch, KeepsStretches, IsRunOf, IsRun, IsEnded, RunsOn, AreStretches}
 pub use Rattle.stab_lines.proofs.FreeLemmas.{Each, each-append, Free, free-append, free_spaces, free_any, any_free, split_free}
 pub use Rattle.stab_lines.proofs.GoodLineLemmas.{line_good}
@@ -62,8 +62,8 @@ pub use Rattle.stab_edits.specs.Splits.{parts_of_block, parts_of_item, with_part
 pub use Rattle.stab_edits.specs.declared.edit.Edit.{Edit}
 pub use Rattle.stab_edits.specs.declared.edit.Edit.TheVariants.{Insert, Replace, Delete}
 pub use Rattle.stab_edits.specs.inner.Gaps.{block_pieces}
-pub use Rattle.stab_items.proofs.LineApartLemmas.{each_left, each_right, joined_apart}
-pub use Rattle.stab_edits.proofs.EditLemmas.{steps-append, steps_split, put_in, changed_split, changed_before, changed_behind, behind_put_is, Rebuilds, rebuilds, next_place, listed-entries, got_split, if_ok, lt_holds, edits_leave}
+pub use Rattle.stab_items.proofs.LineDistinctLemmas.{each_left, each_right, joined_distinct}
+pub use Rattle.stab_edits.proofs.EditLemmas.{steps-append, steps_split, put_in, changed_split, changed_before, changed_after, after_put_is, Rebuilds, rebuilds, next_place, listed-entries, got_split, if_ok, lt_holds, edits_leave}
 pub use Rattle.stab_edits.proofs.UndoLemmas.{found, front_size, new_parts, new_inner, old_inner, around, old_parts, edited_new, edited_old, deleted, replace-retaken}
 pub use Rattle.stab_edits.proofs.PieceLemmas.{Stands, steps-pieces}
 pub use Rattle.stab_edits.proofs.GapPartLemmas.{nothing_left, got_taken, pieces-outer, pieces-block}

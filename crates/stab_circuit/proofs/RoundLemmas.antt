@@ -60,11 +60,11 @@ written_means : (d : ℕ) (xs : Items) → AreMeant (lines_of xs) → map meanin
 written_means d done g = refl
 written_means d (next op rest) g = ap (λ m. m ∷ map meaning_written (printed_lines d rest)) (says (line.Operation op) g.0).means ∙ ap (λ l. Ok (line.Operation op) ∷ l) (written_means d rest g.1)
 written_means d (block count tag body rest) g =
-    let behind = record { depth = d; content = codes "}" } ∷ printed_lines d rest in
-    ap (λ m. m ∷ map meaning_written (printed_lines (suc d) body ++ behind)) (says (Open count tag) g.0).means
+    let following = record { depth = d; content = codes "}" } ∷ printed_lines d rest in
+    ap (λ m. m ∷ map meaning_written (printed_lines (suc d) body ++ following)) (says (Open count tag) g.0).means
     ∙ ap (λ l. Ok (Open count tag) ∷ l)
-    (map-append meaning_written (printed_lines (suc d) body) behind
-    ∙ ap (λ l. l ++ map meaning_written behind) (written_means (suc d) body (each_left IsOfLine (lines_of body) _ g.1))
+    (map-append meaning_written (printed_lines (suc d) body) following
+    ∙ ap (λ l. l ++ map meaning_written following) (written_means (suc d) body (each_left IsOfLine (lines_of body) _ g.1))
     ∙ ap (λ m. lines_of body ++ m ∷ map meaning_written (printed_lines d rest)) close_said.means
     ∙ ap (λ l. lines_of body ++ Ok Close ∷ l) (written_means d rest (each_right IsOfLine (lines_of body) _ g.1).1))
 

@@ -146,8 +146,8 @@ run_ends xs all fs ys first n rest None none at same r = tt
 run_ends xs all fs ys first n rest (Some run) none at same r = run_ends_of xs all fs ys first n rest run none at same r
 
 -- it is a stretch then
-items_behind : (xs : List OneItem) (s : Stretch) (first : ℕ) → s.first ≡ first → s.behind ≡ length xs → items_of s xs ≡ drop first xs
-items_behind xs s first at end = (λ i. drop (at i) (take (end i) xs)) ∙ ap (drop first) (take_all (length xs) xs (omega arith))
+items_after : (xs : List OneItem) (s : Stretch) (first : ℕ) → s.first ≡ first → s.following ≡ length xs → items_of s xs ≡ drop first xs
+items_after xs s first at end = (λ i. drop (at i) (take (end i) xs)) ∙ ap (drop first) (take_all (length xs) xs (omega arith))
 
 -- more items
 pub more_keeps : (xs all ys : List OneItem) → all ≡ xs ++ ys → KeepsStretches xs all
@@ -157,7 +157,7 @@ more_keeps xs all ys same s k =
       order = k.order;
       within = omega (arith, length-append xs ys, k.within);
       count = k.count;
-      reads = subst (λ l. Reads (slice_split (is_byte 10) s.bytes.now) (listed (drop s.first l))) (sym (take-append-le s.behind xs ys k.within)) k.reads;
+      reads = subst (λ l. Reads (slice_split (is_byte 10) s.bytes.now) (listed (drop s.first l))) (sym (take-append-le s.following xs ys k.within)) k.reads;
     })
 
 pub keeps_all : (xs all : List OneItem) (ss ts : List Stretch) → ts ≡ ss → KeepsStretches xs all → All (IsStretch xs) ss → All (IsStretch all) ts
@@ -167,9 +167,9 @@ pub one_more : (xs : List OneItem) (ss ts : List Stretch) (s : Stretch) → ts �
 one_more xs ss ts s same each one = subst (All (IsStretch xs)) (sym same) (All-push (IsStretch xs) ss s each one)
 
 -- copies of the items of a stretch
-pub copy_stretch : (xs all : List OneItem) (s t : Stretch) → IsStretch xs s → all ≡ xs ++ items_of s xs → t.bytes.now ≡ s.bytes.now → t.lines ≡ s.lines → t.first ≡ length xs → t.behind ≡ length all → IsStretch all t
+pub copy_stretch : (xs all : List OneItem) (s t : Stretch) → IsStretch xs s → all ≡ xs ++ items_of s xs → t.bytes.now ≡ s.bytes.now → t.lines ≡ s.lines → t.first ≡ length xs → t.following ≡ length all → IsStretch all t
 copy_stretch xs all s t k same bytes lines at end =
-    let there : items_of s xs ≡ items_of t all = sym (items_behind all t (length xs) at end ∙ ap (drop (length xs)) same ∙ drop_first xs (items_of s xs)) in
+    let there : items_of s xs ≡ items_of t all = sym (items_after all t (length xs) at end ∙ ap (drop (length xs)) same ∙ drop_first xs (items_of s xs)) in
     record {
       order = omega (arith, at, end, ap length same, length-append xs (items_of s xs));
       within = omega (arith, end);

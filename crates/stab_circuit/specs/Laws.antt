@@ -10,7 +10,7 @@ use Rattle.stab_items.specs.Circuits.{most_bytes, text_fault, item_fault, Stands
 pub use Rattle.stab_items.specs.Circuits.{AreLinesOf}
 use Rattle.stab_items.specs.Prints.{printed}
 use Rattle.stab_items.specs.Steps.{unroll}
-use Rattle.stab_edits.specs.Cursors.{IsApart}
+use Rattle.stab_edits.specs.Cursors.{HasDistinctQubits}
 use Rattle.stab_circuit.specs.Readings.{IsCircuit, IsFaultOf}
 use Rattle.stab_edits.specs.StepPaths.{paths_of}
 use Rattle.stab_edits.specs.Paths.{Path}
@@ -45,8 +45,8 @@ abbrev pub AreOfLines : Items → Type 0
 AreOfLines items = (lines : List (List ℕ)) × AreLinesOf lines items
 
 -- in their steps the two qubits of each pair differ, and so do those of each product
-abbrev pub LinesKeepQubitsApart : Type 0
-LinesKeepQubitsApart = (lines : List (List ℕ)) (items : Items) → AreLinesOf lines items → All IsApart (unroll items)
+abbrev pub LinesKeepQubitsDistinct : Type 0
+LinesKeepQubitsDistinct = (lines : List (List ℕ)) (items : Items) → AreLinesOf lines items → All HasDistinctQubits (unroll items)
 
 -- the text of one item stands for the item, and for no other
 abbrev pub StandsForOneOnly : List ℕ → OneItem → Type 0

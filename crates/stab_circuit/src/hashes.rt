@@ -36,12 +36,12 @@ pub(crate) fn line_hash(text: &[u8]) -> Hash {
     }
     let (first, second) = (word_at(text, 0), word_at(text, 8));
     let ends = line_ends(first);
-    let behind = if ends == 0 {
+    let following = if ends == 0 {
         before_end(second, line_ends(second))
     } else {
         0
     };
-    let both = before_end(first, ends) ^ behind.rotate_left(29);
+    let both = before_end(first, ends) ^ following.rotate_left(29);
     let sum = (both ^ (both >> 32)).wrapping_mul(SPREAD);
     Hash {
         slot: (sum >> 49) as usize,
@@ -85,8 +85,8 @@ fn word_at(bytes: &[u8], place: usize) -> u64
 /// becomes 0 where it ends one.
 #[inline(always)]
 fn line_ends(word: u64) -> u64 {
-    let apart = word ^ 0x0A0A_0A0A_0A0A_0A0A;
-    apart.wrapping_sub(0x0101_0101_0101_0101) & !apart & 0x8080_8080_8080_8080
+    let distinct = word ^ 0x0A0A_0A0A_0A0A_0A0A;
+    distinct.wrapping_sub(0x0101_0101_0101_0101) & !distinct & 0x8080_8080_8080_8080
 }
 
 /// The bytes before the first that ends a line, and 0 for the others; all if none does.

@@ -1,4 +1,4 @@
-use crate::front::behind_front;
+use crate::first_lines::after_front;
 use crate::hashes::{Hash, LINE_SLOTS, NO_HASH, line_hash};
 use stab_items::{Instruction, Item};
 use std::alloc::{AllocError, Global};
@@ -123,7 +123,7 @@ impl<'a> KnownLines<'a> {
             return Ok(None);
         }
         let known = &self.lines[number];
-        match behind_front(text, known.bytes) {
+        match after_front(text, known.bytes) {
             None => Ok(None),
             Some(after) => Ok(Some(FoundLine {
                 item: Item::shared(known.instruction.clone()?),

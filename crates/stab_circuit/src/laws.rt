@@ -1,7 +1,7 @@
 //! Laws of circuit texts. Each function does nothing: its contract is the law, and the check
 //! proves it.
 
-ghost use Rattle.stab_circuit.specs.Laws.{CircuitsHaveNoFault, EachTextHasAMeaning, EditedItemsAreOfLines, EditsChangeEachRound, EditsLeaveTheRest, ItemTextsAreLines, ItemTextsHaveOneMeaning, LinesKeepQubitsApart, PrintedItemsAreReadBack, SplitItemsAreOfLines, SplitsLeaveTheSteps, StepsHaveOnePath, TakenItemsAreOfLines, TextsAreLines, TextsAreOfOneCircuit, TextsHaveOneFault, TextsHaveOneMeaning};
+ghost use Rattle.stab_circuit.specs.Laws.{CircuitsHaveNoFault, EachTextHasAMeaning, EditedItemsAreOfLines, EditsChangeEachRound, EditsLeaveTheRest, ItemTextsAreLines, ItemTextsHaveOneMeaning, LinesKeepQubitsDistinct, PrintedItemsAreReadBack, SplitItemsAreOfLines, SplitsLeaveTheSteps, StepsHaveOnePath, TakenItemsAreOfLines, TextsAreLines, TextsAreOfOneCircuit, TextsHaveOneFault, TextsHaveOneMeaning};
 
 /// A text without a faulty line stands for one list of items, and for no other.
 pub fn texts_have_one_meaning()
@@ -23,8 +23,8 @@ pub fn texts_are_lines()
 
 /// In the steps of the items of any such lines the two qubits of each pair differ, and so do the
 /// qubits of each product.
-pub fn lines_keep_qubits_apart()
-    ensures law { LinesKeepQubitsApart }
+pub fn lines_keep_qubits_distinct()
+    ensures law { LinesKeepQubitsDistinct }
 {}
 
 /// One item's text without a fault stands for one item, and for no other.

@@ -4,7 +4,7 @@
 //! are `stab_edits`', passed on.
 //!
 //! - `input`: reading an input whole.
-//! - `front`: the first line of a text: where it ends, and what a look at its bytes says.
+//! - `first_lines`: the first line of a text: where it ends, and what a look at its bytes says.
 //! - `hashes`: hashes of the first bytes of a line or a stretch, by which it is looked for.
 //! - `known_lines`: lines that were read, so that one that comes again is not read again.
 //! - `stretches`: the same for many lines at once, one after the other.
@@ -27,7 +27,7 @@
 //! outermost item around its place.
 #![tactic(auto)]
 
-mod front;
+mod first_lines;
 mod hashes;
 mod input;
 mod known_lines;

@@ -1,7 +1,7 @@
 ghost use Rattle.std.specs.Prelude.{◌≡◌};
 ghost use Rattle.stab_lines.specs.Rules.{IsTag};
 
-use crate::front::{before_lines, first_instruction, meaning_after};
+use crate::first_lines::{before_lines, first_instruction, meaning_after};
 use crate::known_lines::KnownLines;
 use stab_io::{Fault, Refusal};
 use stab_items::{Instruction, Item, items_summary};

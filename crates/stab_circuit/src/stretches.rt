@@ -1,6 +1,6 @@
 ghost use Rattle.std.specs.Prelude.{◌≡◌};
 
-use crate::front::{before_lines, behind_front};
+use crate::first_lines::{after_front, before_lines};
 use crate::hashes::{STRETCH_SLOTS, stretch_hash};
 use stab_items::Item;
 use std::alloc::{AllocError, Global};
@@ -19,7 +19,7 @@ pub(crate) struct Stretch<'a> {
     pub(crate) bytes: &'a [u8],
     pub(crate) lines: u64,
     pub(crate) first: usize,
-    pub(crate) behind: usize,
+    pub(crate) following: usize,
 }
 
 /// Lines that put the items there that are of no stretch: the text from the first of them on, and its
@@ -90,7 +90,7 @@ impl<'a> Stretches<'a> {
     /// found only right after a stretch.
     pub(crate) fn find(
         &mut self,
-        behind_stretch: bool,
+        after_stretch: bool,
         text: &'a [u8],
     ) -> Option<(Stretch<'a>, Option<&'a [u8]>)>
         ensures all { self.new.all.items ≡ self.old.all.items }
@@ -99,7 +99,7 @@ impl<'a> Stretches<'a> {
         ensures front { MatchOption result (Unit {0}) (λ p. IsCut text.now p.0.bytes.now (option_copied p.1)) }
     {
         let next = self.next;
-        let least = if behind_stretch { 0 } else { FEW };
+        let least = if after_stretch { 0 } else { FEW };
         if let Some(found) = self.at_front(next, least, text) {
             self.next = next.saturating_add(1);
             return Some(found);
@@ -134,7 +134,7 @@ impl<'a> Stretches<'a> {
         if stretch.lines < least {
             return None;
         }
-        match behind_front(text, stretch.bytes) {
+        match after_front(text, stretch.bytes) {
             Some(after) => Some((stretch, after)),
             None => None,
         }
@@ -207,7 +207,7 @@ impl<'a> Stretches<'a> {
             bytes,
             lines,
             first,
-            behind: items.len(),
+            following: items.len(),
         })
     }
 }

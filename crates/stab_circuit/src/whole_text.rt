@@ -163,12 +163,17 @@ impl CircuitReader {
         ensures fault { IfErr result (λ r. r ≡ OutOfMemory) }
     {
         let first = self.outer.len();
-        push_copies(self.alloc, &mut self.outer, stretch.first, stretch.behind)?;
+        push_copies(
+            self.alloc,
+            &mut self.outer,
+            stretch.first,
+            stretch.following,
+        )?;
         stretches.run = None;
-        let behind = self.outer.len();
+        let following = self.outer.len();
         stretches.remember(Stretch {
             first,
-            behind,
+            following,
             ..stretch
         })?;
         Ok(())

@@ -39,5 +39,5 @@ untouched (Distance options) i i' e e' f same = same
 untouched (CountedDistance options) i i' e e' f same = same
 untouched (EachDistance options) i i' e e' f same = same
 untouched (SearchedErrors layout options) i i' e e' f same = same
-untouched Propagate i i' e e' f same = same
+untouched (Propagate every) i i' e e' f same = same
 untouched (Edit framed qubits stride) i i' e e' f same = same

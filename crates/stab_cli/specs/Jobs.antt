@@ -4,7 +4,7 @@ use Rattle.std.specs.Prelude.{◌≡◌, ℕ, Bool, true, false, List, string_by
 pub use Rattle.stab_jobs.specs.Commands.{reads_script}
 use Rattle.stab_io.specs.Devices.{InputView, OutputView}
 use Rattle.stab_io.specs.declared.refusal.Fault.{Fault}
-use Rattle.stab_texts.specs.FaultLines.{TookOrFailed, told_text}
+use Rattle.stab_texts.specs.FaultLines.{TookOrFailed, reported_text}
 use Rattle.stab_commands.specs.Outputs.{EndsRun, sample_of, detect_of}
 use Rattle.stab_commands.specs.Stabilisers.{EndsStabilisers}
 use Rattle.stab_analysis.specs.Checks.{EndsCheck}
@@ -12,7 +12,7 @@ use Rattle.stab_texts.specs.Deterministic.{EndsDeterministic}
 use Rattle.stab_texts.specs.FaultTables.{EndsFaults}
 use Rattle.stab_texts.specs.CoinTables.{EndsCoins}
 use Rattle.stab_texts.specs.Reasons.{EndsExplain}
-use Rattle.stab_texts.specs.Distances.{EndsCounted, EndsDistance, EndsEach, EndsSearched, TellsDistance, TellsErrors, of_all}
+use Rattle.stab_texts.specs.Distances.{EndsCounted, EndsDistance, EndsEach, EndsSearched, ReportsDistance, ReportsErrors, of_all}
 use Rattle.stab_texts.specs.DoubtLines.{Warns}
 use Rattle.stab_texts.specs.MissingObservables.{WarnsOf}
 use Rattle.stab_distance.specs.Progress.{Heard}
@@ -53,7 +53,7 @@ EndsCommand (SearchedErrors layout options) source at word i i' s s' o o' r rand
 EndsCommand (CountedDistance options) source at word i i' s s' o o' r random = RefusesNone (λ answer. EndsCounted options i i' o o' answer random) r
 EndsCommand (EachDistance options) source at word i i' s s' o o' r random = RefusesNone (λ answer. EndsEach options i i' o o' answer random) r
 EndsCommand (Distance options) source at word i i' s s' o o' r random = RefusesNone (λ answer. EndsDistance options i i' o o' answer random) r
-EndsCommand Propagate source at word i i' s s' o o' r random = NamesNone (EndsPropagate at word i i' o o') r random
+EndsCommand (Propagate every) source at word i i' s s' o o' r random = NamesNone (EndsPropagate every at word i i' o o') r random
 EndsCommand (Edit framed qubits stride) source at word i i' s s' o o' r random = (random ≡ None) × EndsEdit framed qubits source i i' s s' o o' r
 
 -- how a command reads a script: `edit` in turn with its replies, and any other not at all
@@ -63,12 +63,12 @@ CommandInTurn command source i i' s s' o o' log log' r = log' ≡ log
 
 -- what is heard of a call: how far the search of `distance` is, or how many errors it looks at for each observable or writes, and of any other
 -- command nothing
-abbrev pub CommandTells : Command → InputView → InputView → Option (List Heard) → Option (List Heard) → Result Bool Fault → Type 0
-CommandTells (Distance options) i i' old new r = RefusesNone (TellsDistance options i i' old new) r
-CommandTells (CountedDistance options) i i' old new r = RefusesNone (TellsDistance (of_all options) i i' old new) r
-CommandTells (EachDistance options) i i' old new r = RefusesNone (TellsErrors options i i' old new) r
-CommandTells (SearchedErrors layout options) i i' old new r = RefusesNone (TellsErrors options i i' old new) r
-CommandTells command i i' old new r = new ≡ old
+abbrev pub CommandReports : Command → InputView → InputView → Option (List Heard) → Option (List Heard) → Result Bool Fault → Type 0
+CommandReports (Distance options) i i' old new r = RefusesNone (ReportsDistance options i i' old new) r
+CommandReports (CountedDistance options) i i' old new r = RefusesNone (ReportsDistance (of_all options) i i' old new) r
+CommandReports (EachDistance options) i i' old new r = RefusesNone (ReportsErrors options i i' old new) r
+CommandReports (SearchedErrors layout options) i i' old new r = RefusesNone (ReportsErrors options i i' old new) r
+CommandReports command i i' old new r = new ≡ old
 
 -- the status of a run: 0 without a fault, 3 if a line of the script was refused, 1 with a fault
 abbrev pub status_of : Result Bool Fault → ℕ
@@ -88,9 +88,9 @@ CommandWarns (Distance options) i i' old new r = WarnsOf options.everywhere opti
 CommandWarns command i i' old new r = new ≡ old
 
 -- a run's fault is reported, with the bit that it names, if any; and without a fault the error output is as the call of the command leaves it
-abbrev pub Tells : Command → InputView → InputView → Result Bool Fault → Option Random → OutputView → OutputView → Type 0
-Tells command i i' (Ok x) random old new = CommandWarns command i i' old new (Ok x)
-Tells command i i' (Err f) random old new = TookOrFailed old new (told_text f random)
+abbrev pub Reports : Command → InputView → InputView → Result Bool Fault → Option Random → OutputView → OutputView → Type 0
+Reports command i i' (Ok x) random old new = CommandWarns command i i' old new (Ok x)
+Reports command i i' (Err f) random old new = TookOrFailed old new (reported_text f random)
 
 -- How a run of a job ends: as the call of its command ends, with that call's status, and its fault reported.
 pub record EndsJob (job : Job) (i i' s s' : InputView) (o o' e e' : OutputView) (status : ℕ) : Type 0 where
@@ -98,12 +98,12 @@ pub record EndsJob (job : Job) (i i' s s' : InputView) (o o' e e' : OutputView) 
   pub random : Option Random
   pub ends : EndsCommand job.command job.source (string_bytes job.at) (string_bytes job.string) i i' s s' o o' answer random
   pub status_is : status ≡ status_of answer
-  pub told : Tells job.command i i' answer random e e'
+  pub reported : Reports job.command i i' answer random e e'
 
 -- how the run of a job with this status reads a script: as the call of its command does
 abbrev pub JobInTurn : Job → InputView → InputView → InputView → InputView → OutputView → OutputView → Option (List Asked) → Option (List Asked) → (status : ℕ) → Type 0
 JobInTurn job i i' s s' o o' log log' status = (answer : Result Bool Fault) × (status ≡ status_of answer) × CommandInTurn job.command job.source i i' s s' o o' log log' answer
 
 -- What is heard of a run of a job that ends with this status: what the call of its command reports.
-abbrev pub JobTells : Job → InputView → InputView → Option (List Heard) → Option (List Heard) → (status : ℕ) → Type 0
-JobTells job i i' old new status = (answer : Result Bool Fault) × CommandTells job.command i i' old new answer × (status ≡ status_of answer)
+abbrev pub JobReports : Job → InputView → InputView → Option (List Heard) → Option (List Heard) → (status : ℕ) → Type 0
+JobReports job i i' old new status = (answer : Result Bool Fault) × CommandReports job.command i i' old new answer × (status ≡ status_of answer)

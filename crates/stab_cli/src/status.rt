@@ -4,7 +4,7 @@ ghost use Rattle.stab_gates.specs.Limits.{most_qubits};
 ghost use Rattle.stab_texts.specs.FaultTables.{fault_of, random_of};
 ghost use Rattle.stab_editor.specs.ScriptEndings.{EndsEdit};
 ghost use Rattle.stab_editor.specs.ScriptTurns.{EditsInTurn};
-ghost use Rattle.stab_cli.specs.Jobs.{CommandInTurn, CommandTells, CommandWarns, EndsCommand, EndsJob, JobInTurn, JobTells, reads_script, refusing_none};
+ghost use Rattle.stab_cli.specs.Jobs.{CommandInTurn, CommandReports, CommandWarns, EndsCommand, EndsJob, JobInTurn, JobReports, reads_script, refusing_none};
 
 use stab_analysis::{
     Progress, Unwatched, run_check, run_coins, run_counted_distance, run_deterministic,
@@ -95,7 +95,7 @@ fn run_command<I: Input, S: Input, O: Output, E: Output, W: Watcher<S, O>, P: Pr
     ensures ends { EndsCommand job.now.command job.now.source (string_bytes job.now.at) (string_bytes job.now.string) (I.seen input.old) (I.seen input.new) (S.seen script.old) (S.seen script.new) (O.seen out.old) (O.seen out.new) (fault_of result) (random_of result) }
     ensures script { reads_script job.now.command ≡ false → script.new ≡ script.old }
     ensures turns { CommandInTurn job.now.command job.now.source (I.seen input.old) (I.seen input.new) (S.seen script.old) (S.seen script.new) (O.seen out.old) (O.seen out.new) (W.log script.old) (W.log script.new) (fault_of result) }
-    ensures told { CommandTells job.now.command (I.seen input.old) (I.seen input.new) (P.heard progress.old) (P.heard progress.new) (fault_of result) }
+    ensures reported { CommandReports job.now.command (I.seen input.old) (I.seen input.new) (P.heard progress.old) (P.heard progress.new) (fault_of result) }
     ensures warns { CommandWarns job.now.command (I.seen input.old) (I.seen input.new) (E.seen err.old) (E.seen err.new) (fault_of result) }
 {
     let source = &job.source;
@@ -132,10 +132,11 @@ fn run_command<I: Input, S: Input, O: Output, E: Output, W: Watcher<S, O>, P: Pr
         Command::Distance(options) => {
             refuses_none(run_distance(alloc, input, out, err, options, progress))
         }
-        Command::Propagate => plain_answer(run_propagate(
+        Command::Propagate { every } => plain_answer(run_propagate(
             alloc,
             input,
             out,
+            every,
             job.at.as_bytes(),
             job.string.as_bytes(),
         )),
@@ -165,7 +166,7 @@ pub fn run_job_watched<I: Input, S: Input, O: Output, E: Output, W: Watcher<S, O
     ensures ends { EndsJob job.now (I.seen input.old) (I.seen input.new) (S.seen script.old) (S.seen script.new) (O.seen out.old) (O.seen out.new) (E.seen err.old) (E.seen err.new) result }
     ensures script { reads_script job.now.command ≡ false → script.new ≡ script.old }
     ensures turns { JobInTurn job.now (I.seen input.old) (I.seen input.new) (S.seen script.old) (S.seen script.new) (O.seen out.old) (O.seen out.new) (W.log script.old) (W.log script.new) result }
-    ensures told { JobTells job.now (I.seen input.old) (I.seen input.new) (P.heard progress.old) (P.heard progress.new) result }
+    ensures reported { JobReports job.now (I.seen input.old) (I.seen input.new) (P.heard progress.old) (P.heard progress.new) result }
 {
     match run_command::<I, S, O, E, W, P>(alloc, job, input, script, out, err, progress) {
         Ok(false) => 0,

@@ -3,8 +3,8 @@ ghost use Rattle.std.specs.Prelude.{◌≡◌, MatchResult};
 ghost use Rattle.stab_io.specs.Refusals.{whole};
 ghost use Rattle.stab_io.specs.declared.refusal.Refusal.TheVariants.{WriteFault};
 ghost use Rattle.stab_texts.specs.Endings.{FailsToSend, TookAndFlushed};
-ghost use Rattle.stab_texts.specs.FaultLines.{TellsFault};
-ghost use Rattle.stab_cli.specs.Usages.{TellsUsage};
+ghost use Rattle.stab_texts.specs.FaultLines.{ReportsFault};
+ghost use Rattle.stab_cli.specs.Usages.{ReportsUsage};
 
 use stab_args::Usage;
 use stab_io::{DeviceFault, Fault, Output, Refusal, write_all};
@@ -16,18 +16,18 @@ use stab_texts::write_fault;
 /// Help is flushed. If it can't be written or flushed, that is refusal `WriteFault`, reported on
 /// `err` with 1. No failure of `err` changes the status.
 pub fn write_usage<O: Output, E: Output>(usage: &Usage, out: &mut O, err: &mut E) -> u8
-    ensures told { TellsUsage usage.now (O.seen out.old) (O.seen out.new) (E.seen err.old) (E.seen err.new) result }
+    ensures reported { ReportsUsage usage.now (O.seen out.old) (O.seen out.new) (E.seen err.old) (E.seen err.new) result }
 {
     match usage {
         Usage::Help(text) => match write_flushed(out, text.as_str().as_bytes()) {
             Ok(()) => 0,
-            Err(refusal) => tell(refusal, err),
+            Err(refusal) => report(refusal, err),
         },
         Usage::Fault(text) => {
             let _ = write_all(err, text.as_str().as_bytes());
             2
         }
-        Usage::Memory => tell(Refusal::OutOfMemory, err),
+        Usage::Memory => report(Refusal::OutOfMemory, err),
     }
 }
 
@@ -43,9 +43,9 @@ fn write_flushed<O: Output>(out: &mut O, bytes: &[u8]) -> Result<(), Refusal>
 }
 
 /// Reports a refusal of the whole program on its error output, and answers its status.
-fn tell<E: Output>(refusal: Refusal, err: &mut E) -> u8
+fn report<E: Output>(refusal: Refusal, err: &mut E) -> u8
     ensures status { result ≡ 1 }
-    ensures told { TellsFault (whole refusal) (E.seen err.old) (E.seen err.new) }
+    ensures reported { ReportsFault (whole refusal) (E.seen err.old) (E.seen err.new) }
 {
     let _ = write_fault(err, Fault::whole(refusal));
     1

@@ -29,7 +29,7 @@ module _ (pack : List Bool → List ℕ) (sent lanes first k : ℕ) (bytes_of : 
   pub packed_of_next : {W : Type 0} (at : W → ℕ → Bool) (words : List W) (part : List ℕ) (next : ℕ) → sent % 128 ≡ 0 → next ≡ sent / 64 + 1 → sent + 64 + k < lanes
       → ((l : ℕ) → l < lanes → pack (lane_bits at l words) ≡ bytes_of (first + l))
       → lane_bits word_bit k part ≡ lane_bits at (64 * next + k) words → pack (lane_bits word_bit k part) ≡ bytes_of (first + sent + 64 + k)
-  packed_of_next at words part next whole behind few are is =
-      let place : 64 * next + k ≡ sent + 64 + k = omega (arith, whole, behind) in
+  packed_of_next at words part next whole following few are is =
+      let place : 64 * next + k ≡ sent + 64 + k = omega (arith, whole, following) in
       ap pack is
       ∙ ap (λ l. pack (lane_bits at l words)) place ∙ are (sent + 64 + k) few ∙ ap bytes_of (regroup_next first sent k)

@@ -95,7 +95,7 @@ fn send_rows<O: Output>(out: &mut O, rows: &[Pauli]) -> Result<(), Fault>
 /// Reads a circuit, runs shot 0 of it on as many qubits as it names, and writes the reduced rows of
 /// the signed strings that then stabilise the state, a line each: as many lines as qubits.
 ///
-/// The order of the rows is that of `Tableau::reduced_rows`, so two circuits that lead to one state
+/// The order of the rows is that of `Tableau::reduced_rows`, so two circuits that come to one state
 /// are written in the same way, and only they. Reading, coins and the flush are those of `run_sample`, and so
 /// are the faults, except that 20 comes before the first row, with nothing written.
 pub fn run_stabilisers<I: Input, O: Output>(

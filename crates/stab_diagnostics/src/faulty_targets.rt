@@ -48,7 +48,7 @@ impl<'a> FaultyLine<'a> {
     ) -> Result<Finding<'a>, AllocError> {
         let word = target.bytes();
         let sentences = match self.instruction {
-            _ if word.starts_with(b"(") || word.starts_with(b"[") => sentences::BRACKETS_APART,
+            _ if word.starts_with(b"(") || word.starts_with(b"[") => sentences::BRACKETS_SEPARATE,
             Some(Instruction::MeasureProducts) => return self.find_factor(target, refusal),
             _ if refusal == Refusal::QubitOutOfRange => sentences::QUBIT_RANGE,
             // Stim has products among the targets of observables too.

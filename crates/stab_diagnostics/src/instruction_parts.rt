@@ -38,7 +38,7 @@ pub(crate) fn parts_of<'a>(content: Part<'a>) -> Result<InstructionParts<'a>, Fi
     let targets = if opens { rest.split_last().0 } else { rest };
     match targets.bytes().first() {
         Some(first) if !is_spacing(*first) => {
-            return Err((targets.split(1).0, sentences::NOT_APART));
+            return Err((targets.split(1).0, sentences::NOT_SEPARATE));
         }
         _ => without_brace(targets)?,
     }
@@ -55,7 +55,7 @@ fn no_name<'a>(content: Part<'a>) -> Finding<'a> {
     let sentences = match content.bytes().first() {
         Some(_) if is_close(content.bytes()) => sentences::NO_BLOCK_OPEN,
         Some(b'}') => sentences::CLOSE_NOT_ALONE,
-        Some(b'{') => sentences::OPEN_NOT_BEHIND_COUNT,
+        Some(b'{') => sentences::OPEN_NOT_AFTER_COUNT,
         _ => sentences::NO_NAME,
     };
     (content.split(1).0, sentences)

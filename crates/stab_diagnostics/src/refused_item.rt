@@ -183,7 +183,7 @@ pub(crate) fn furthest_lookback(kind: &Kind) -> u64 {
 }
 
 /// A number after all rounds of a block, of that before it and that after its first round.
-fn after_rounds(before: u64, behind_first: u64, rounds: u64) -> u64 {
-    let of_round = behind_first.saturating_sub(before);
+fn after_rounds(before: u64, after_first: u64, rounds: u64) -> u64 {
+    let of_round = after_first.saturating_sub(before);
     before.saturating_add(of_round.saturating_mul(rounds))
 }

@@ -51,7 +51,7 @@ pub const TRAILING_COMMA: &str = "A comma follows the last argument.\n\
 
 // Targets.
 
-pub const BRACKETS_APART: &str =
+pub const BRACKETS_SEPARATE: &str =
     "Brackets come directly after the name, with no spacing before them.\n\
     Take out the spacing before them.";
 
@@ -153,7 +153,7 @@ pub const NO_NAME: &str = "An instruction begins with its name, and a name with 
 pub const CLOSE_NOT_ALONE: &str = "A } is alone on its line.\n\
     Write what follows it on the next line.";
 
-pub const OPEN_NOT_BEHIND_COUNT: &str = "A { is last on the line of its REPEAT.\n\
+pub const OPEN_NOT_AFTER_COUNT: &str = "A { is last on the line of its REPEAT.\n\
     Write REPEAT, the count and { on one line.";
 
 pub const TAG_NOT_CLOSED: &str =
@@ -163,7 +163,7 @@ pub const TAG_NOT_CLOSED: &str =
 pub const ARGUMENTS_NOT_CLOSED: &str = "These brackets are not closed on their line.\n\
     Write a ) after the arguments.";
 
-pub const NOT_APART: &str = "Spacing is missing before this.\n\
+pub const NOT_SEPARATE: &str = "Spacing is missing before this.\n\
     Write a space after the name, or after the closing bracket.";
 
 pub const BRACE_WITHIN: &str =

@@ -189,13 +189,13 @@ module _ (t kept : ErrorTable) (classes : List ℕ) (detectors : kept.detectors 
       let both : length (with_class class k (all_parts (x ∷ xs) a)) ≡ length (with_class class k (split x a.0).0 ++ with_class class k (all_parts xs a.1)) =
       ap length (with-append class k (split x a.0).0 (all_parts xs a.1)) in
       let sum = length-append (with_class class k (split x a.0).0) (with_class class k (all_parts xs a.1)) in
-      let one = one-with class k 0 (split x a.0).0 (split x a.0).1.apart in
+      let one = one-with class k 0 (split x a.0).0 (split x a.0).1.distinct in
       let later = parts-few k xs a.1 in
       omega arith
 
   -- an error flips no detector of another class, and none that is ignored
-  apart : (d r : ℕ) → d < kept.detectors → r < length kept.rows → class r ≢ slice_index classes d → odd d (row kept.rows r) ≡ false
-  apart d r lt inside other = by-bit (odd d (row kept.rows r)) (λ is. absurd (other (sym (have r inside d lt is).0))) (λ not. not)
+  distinct : (d r : ℕ) → d < kept.detectors → r < length kept.rows → class r ≢ slice_index classes d → odd d (row kept.rows r) ≡ false
+  distinct d r lt inside other = by-bit (odd d (row kept.rows r)) (λ is. absurd (other (sym (have r inside d lt is).0))) (λ not. not)
 
   ignored : (d r : ℕ) → d < kept.detectors → r < length kept.rows → slice_index classes d ≡ 0 → odd d (row kept.rows r) ≡ false
   ignored d r lt inside none =
@@ -221,12 +221,12 @@ module _ (t kept : ErrorTable) (classes : List ℕ) (detectors : kept.detectors 
             (each-with class k (λ r. r < length kept.rows) parts (parts-inside errors a)))
         by_class (inr counts) (inr other) =
             flips-none kept.rows d (with_class class k parts)
-            (each-none (λ r. (r < length kept.rows) × (class r ≡ k)) d (with_class class k parts) (λ r p. apart d r lt p.0 (λ same. other (sym p.1 ∙ same)))
+            (each-none (λ r. (r < length kept.rows) × (class r ≡ k)) d (with_class class k parts) (λ r p. distinct d r lt p.0 (λ same. other (sym p.1 ∙ same)))
             (each-with class k (λ r. r < length kept.rows) parts (parts-inside errors a)))
         by_class (inr counts) (inl same) =
             let others : flips kept.rows (without_class class k parts) d ≡ false =
             flips-none kept.rows d (without_class class k parts)
-            (each-none (λ r. (r < length kept.rows) × (class r ≢ k)) d (without_class class k parts) (λ r p. apart d r lt p.0 (λ is. p.1 (is ∙ sym same)))
+            (each-none (λ r. (r < length kept.rows) × (class r ≢ k)) d (without_class class k parts) (λ r p. distinct d r lt p.0 (λ is. p.1 (is ∙ sym same)))
             (each-without_class class k (λ r. r < length kept.rows) parts (parts-inside errors a))) in
             sym (parity-false (flips kept.rows (with_class class k parts) d))
             ∙ ap (λ b. flips kept.rows (with_class class k parts) d ⊕ b) (sym others)
@@ -288,8 +288,8 @@ none-counting classes detectors is each i counts = by-bit (odd i is) (λ flips. 
         by_place here (inr not) = not here.1
 
 -- classes of errors that go on ascending
-pub apart-next : (f : ℕ → ℕ) (xs : List ℕ) (k from : ℕ) → k < length xs → from ≤ f (get_or xs k 0) → AscendsFrom (f (get_or xs k 0) + 1) (map f (drop (k + 1) xs))
+pub distinct-next : (f : ℕ → ℕ) (xs : List ℕ) (k from : ℕ) → k < length xs → from ≤ f (get_or xs k 0) → AscendsFrom (f (get_or xs k 0) + 1) (map f (drop (k + 1) xs))
     → AscendsFrom from (map f (drop k xs))
-apart-next f xs k from lt le after =
+distinct-next f xs k from lt le after =
     let next : suc k ≡ k + 1 = omega arith in
     subst (λ ys. AscendsFrom from (map f ys)) (sym (drop-cons xs k 0 lt ∙ ap (λ n. get_or xs k 0 ∷ drop n xs) next)) (le, after)

@@ -1,5 +1,5 @@
 -- Counts: as many sets as ways, if each row has weight 1.
-use Rattle.stab_distance.proofs.Names.{◌≡◌, ℕ, zero, suc, ◌+◌, ◌*◌, ◌-◌, ◌≤◌, ◌<◌, ◌⊎◌, inl, inr, refl, sym, ◌∙◌, ap, subst, arith, Bool, List, [], ◌∷◌, ◌++◌, length, length-map, map, drop, nat_lt, cases_lt, lt-ltb, le-ltb, if◌then◌else◌, ◌⊕◌, parity-comm, parity-assoc, parity-twice, AscendsFrom, IsAscending, ErrorTable, odd, flips, Each, Completes, ways, ones, IsLogicalSetOf, AreAsMany, IsCount, HasNoneBelow, HasNoneWithin, HasBound, HasNoFewer, AreGroups, Tells, Option, Some, None}
+use Rattle.stab_distance.proofs.Names.{◌≡◌, ℕ, zero, suc, ◌+◌, ◌*◌, ◌-◌, ◌≤◌, ◌<◌, ◌⊎◌, inl, inr, refl, sym, ◌∙◌, ap, subst, arith, Bool, List, [], ◌∷◌, ◌++◌, length, length-map, map, drop, nat_lt, cases_lt, lt-ltb, le-ltb, if◌then◌else◌, ◌⊕◌, parity-comm, parity-assoc, parity-twice, AscendsFrom, IsAscending, ErrorTable, odd, flips, Each, Completes, ways, ones, IsLogicalSetOf, AreAsMany, IsCount, HasNoneBelow, HasNoneWithin, HasBound, HasNoFewer, AreGroups, Reports, Option, Some, None}
 use Rattle.stab_distance.proofs.ChoiceLemmas.{completes-logical, logical-completes}
 use Rattle.stab_distance.proofs.DistinctLemmas.{bound-whole}
 use Rattle.stab_distance.proofs.EndLemmas.{completes-nothing}
@@ -138,15 +138,15 @@ module _ (detectors : ℕ) (r : List ℕ) (rows : List (List ℕ)) (left : ℕ) 
             })
       ]
 
-  chosen-apart : (j k : ℕ) → j < a + b → k < a + b → chosen j ≡ chosen k → j ≡ k
-  chosen-apart j k lj lk e = by_places (cases_lt j a) (cases_lt k a)
+  chosen-distinct : (j k : ℕ) → j < a + b → k < a + b → chosen j ≡ chosen k → j ≡ k
+  chosen-distinct j k lj lk e = by_places (cases_lt j a) (cases_lt k a)
     where
       by_places : (j < a) ⊎ (a ≤ j) → (k < a) ⊎ (a ≤ k) → j ≡ k
-      by_places (inl x) (inl y) = skipped.apart j k x y (up-same (skipped.set j) (skipped.set k) (sym (is-before j x) ∙ e ∙ is-before k y))
+      by_places (inl x) (inl y) = skipped.distinct j k x y (up-same (skipped.set j) (skipped.set k) (sym (is-before j x) ∙ e ∙ is-before k y))
       by_places (inl x) (inr y) = absurd (not-first (skipped.set j) (map suc (taken.set (k - a))) (sym (is-before j x) ∙ e ∙ is-after k y))
       by_places (inr x) (inl y) = absurd (not-first (skipped.set k) (map suc (taken.set (j - a))) (sym (is-before k y) ∙ sym e ∙ is-after j x))
       by_places (inr x) (inr y) =
-          let same = taken.apart (j - a) (k - a) (omega arith) (omega arith)
+          let same = taken.distinct (j - a) (k - a) (omega arith) (omega arith)
           (up-same (taken.set (j - a)) (taken.set (k - a)) (rest-same 0 (map suc (taken.set (j - a))) (map suc (taken.set (k - a))) (sym (is-after j x) ∙ e ∙ is-after k y))) in
           omega arith
 
@@ -187,7 +187,7 @@ module _ (detectors : ℕ) (r : List ℕ) (rows : List (List ℕ)) (left : ℕ) 
   chosen-all (suc e ∷ es) one = without-first (suc e ∷ es) (omega arith, one.ascending.1) one
 
   as-many-sum : AreAsMany (IsSetFor all-rows (suc left) s) (a + b)
-  as-many-sum = record { set = chosen; is_one = chosen-one; apart = chosen-apart; all = chosen-all }
+  as-many-sum = record { set = chosen; is_one = chosen-one; distinct = chosen-distinct; all = chosen-all }
 
 -- of no error there is one set or none
 
@@ -199,7 +199,7 @@ as-many-leaf t s =
           (record {
             set = λ k. [];
             is_one = λ k lt. record { ascending = tt; completes = one.0; count = refl };
-            apart = λ j k lj lk e. omega arith;
+            distinct = λ j k lj lk e. omega arith;
             all = λ es is. (0, (omega arith, sym (nothing es is.count)));
           })
       | inr none ↦
@@ -207,7 +207,7 @@ as-many-leaf t s =
           (record {
             set = λ k. [];
             is_one = λ k lt. absurd (omega arith);
-            apart = λ j k lj lk e. absurd (omega arith);
+            distinct = λ j k lj lk e. absurd (omega arith);
             all = λ es is. absurd (none.0 (subst (Completes t s) (nothing es is.count) is.completes));
           })
     ]
@@ -222,7 +222,7 @@ as-many detectors rows zero s = as-many-leaf (record { detectors = detectors; ro
 as-many detectors [] (suc left) s = record {
   set = λ k. [];
   is_one = λ k lt. absurd (omega arith);
-  apart = λ j k lj lk e. absurd (omega arith);
+  distinct = λ j k lj lk e. absurd (omega arith);
   all = λ es is. absurd (none es is);
 }
   where
@@ -247,7 +247,7 @@ as-many-logical t size =
       is_one = λ k lt.
           let one = are.is_one k lt in
           record { ascending = one.ascending; logical = completes-logical t [] (are.set k) refl one.completes; count = one.count };
-      apart = are.apart;
+      distinct = are.distinct;
       all = λ es is.
           are.all es (record {
             ascending = is.ascending;
@@ -256,13 +256,13 @@ as-many-logical t size =
           });
     }
 
-pub count-told : (t : ErrorTable) (size n : ℕ) (answer : Option ℕ) → Tells n answer → n ≡ ways t.detectors t.rows (ones t.rows) size [] → IsCount t size answer
-count-told t size n (Some k) told is = subst (AreAsMany (IsLogicalSetOf t size)) (sym (told ∙ is)) (as-many-logical t size)
-count-told t size n None told is = (n, (told, subst (AreAsMany (IsLogicalSetOf t size)) (sym is) (as-many-logical t size)))
+pub count-reported : (t : ErrorTable) (size n : ℕ) (answer : Option ℕ) → Reports n answer → n ≡ ways t.detectors t.rows (ones t.rows) size [] → IsCount t size answer
+count-reported t size n (Some k) reported is = subst (AreAsMany (IsLogicalSetOf t size)) (sym (reported ∙ is)) (as-many-logical t size)
+count-reported t size n None reported is = (n, (reported, subst (AreAsMany (IsLogicalSetOf t size)) (sym is) (as-many-logical t size)))
 
 pub count-nothing : (t : ErrorTable) (size : ℕ) → size ≡ 0 → IsCount t size (Some 0)
 count-nothing t size is =
-    subst (λ n. IsCount t n (Some 0)) (sym is) (count-told t 0 0 (Some 0) refl (sym (leaf-none t [] (λ c. completes-nothing t [] c refl))))
+    subst (λ n. IsCount t n (Some 0)) (sym is) (count-reported t 0 0 (Some 0) refl (sym (leaf-none t [] (λ c. completes-nothing t [] c refl))))
 
 -- the groups of a table
 
@@ -283,7 +283,7 @@ module _ (t part : ErrorTable) (detectors : ℕ) (rows : List (List ℕ)) (weigh
   pub groups-fewer : (n : ℕ) → n ≤ size → HasNoFewer part [] n
   groups-fewer n le rest c = let more = bound rest (completes-logical part [] rest refl c) in omega arith
 
-  pub groups-told : (n : ℕ) (answer : Option ℕ) → n ≡ size → Tells (ways part.detectors part.rows weights n []) answer → IsCount t size answer
-  groups-told n answer all told =
-      count-told t size (ways part.detectors part.rows weights n []) answer told
+  pub groups-reported : (n : ℕ) (answer : Option ℕ) → n ≡ size → Reports (ways part.detectors part.rows weights n []) answer → IsCount t size answer
+  groups-reported n answer all reported =
+      count-reported t size (ways part.detectors part.rows weights n []) answer reported
       (ap (λ (p : ErrorTable). ways p.detectors p.rows weights n []) is_part ∙ ap (λ m. ways t.detectors rows weights m []) all ∙ groups.same size least)

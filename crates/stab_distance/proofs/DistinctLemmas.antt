@@ -54,11 +54,11 @@ module _ (t part : ErrorTable) (detectors : ℕ) (chosen : List (List ℕ)) (is 
   is_part : part ≡ record { detectors = t.detectors; rows = chosen }
   is_part = is ∙ ap {B = ErrorTable} (λ d. record { detectors = d; rows = chosen }) same
 
-  pub none-told : HasNone part → HasNone t
-  none-told none = none-whole t.detectors t.rows chosen all (subst HasNone is_part none)
+  pub none-reported : HasNone part → HasNone t
+  none-reported none = none-whole t.detectors t.rows chosen all (subst HasNone is_part none)
 
-  pub bound-told : (bound : ℕ) → HasBound part bound → HasBound t bound
-  bound-told bound has = bound-whole t.detectors t.rows chosen all bound (subst (λ p. HasBound p bound) is_part has)
+  pub bound-reported : (bound : ℕ) → HasBound part bound → HasBound t bound
+  bound-reported bound has = bound-whole t.detectors t.rows chosen all bound (subst (λ p. HasBound p bound) is_part has)
 
   -- the chosen rows are enough
   pub distinct-enough : (numbers : List ℕ) → AreRowsOf t.rows chosen numbers → AreEnough t part numbers

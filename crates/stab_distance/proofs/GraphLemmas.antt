@@ -106,38 +106,38 @@ module _ (t : ErrorTable) (edges : List Edge) (are : AreEdges t edges) where
     abbrev bit : ℕ → Bool
     bit r = get_or bits r false
 
-    -- errors that lead from a source to a node, and flip the observable by a parity
-    record Leads (s : ℕ) (xs : List ℕ) (v : ℕ) (p : Bool) : Type 0 where
+    -- errors that go from a source to a node, and flip the observable by a parity
+    record Connects (s : ℕ) (xs : List ℕ) (v : ℕ) (p : Bool) : Type 0 where
       pub inside : Each Inside xs
       pub between : (x : ℕ) → x ≤ t.detectors → flips nodes xs x ≡ (s == x) ⊕ (v == x)
       pub parity : flips t.rows xs o ≡ p
 
-    -- without an edge of a node they lead to the edge's other node
-    led-before : (s : ℕ) (xs : List ℕ) (v : ℕ) (p : Bool) (r w : ℕ) → Leads s xs v p → has r xs ≡ true
-        → ((x : ℕ) → odd x (row nodes r) ≡ (v == x) ⊕ (w == x)) → Leads s (without r xs) w (p ⊕ bit r)
-    led-before s xs v p r w leads among nodes_are = record {
-      inside = each-without Inside r xs leads.inside;
+    -- without an edge of a node they come to the edge's other node
+    led-before : (s : ℕ) (xs : List ℕ) (v : ℕ) (p : Bool) (r w : ℕ) → Connects s xs v p → has r xs ≡ true
+        → ((x : ℕ) → odd x (row nodes r) ≡ (v == x) ⊕ (w == x)) → Connects s (without r xs) w (p ⊕ bit r)
+    led-before s xs v p r w connects among nodes_are = record {
+      inside = each-without Inside r xs connects.inside;
       between = λ x le.
           sym (parity-twice (odd x (row nodes r)) (flips nodes (without r xs) x))
-          ∙ ap (λ b. odd x (row nodes r) ⊕ b) (sym (flips-without nodes r xs x among) ∙ leads.between x le)
+          ∙ ap (λ b. odd x (row nodes r) ⊕ b) (sym (flips-without nodes r xs x among) ∙ connects.between x le)
           ∙ ap (λ b. b ⊕ ((s == x) ⊕ (v == x))) (nodes_are x)
           ∙ parity-left_out (v == x) (w == x) (s == x);
       parity =
           sym (parity-twice (odd o (row t.rows r)) (flips t.rows (without r xs) o))
-          ∙ ap (λ b. odd o (row t.rows r) ⊕ b) (sym (flips-without t.rows r xs o among) ∙ leads.parity)
-          ∙ ap (λ b. b ⊕ p) (sym (are_bits.each r (each-has Inside r xs leads.inside among)))
+          ∙ ap (λ b. odd o (row t.rows r) ⊕ b) (sym (flips-without t.rows r xs o among) ∙ connects.parity)
+          ∙ ap (λ b. b ⊕ p) (sym (are_bits.each r (each-has Inside r xs connects.inside among)))
           ∙ parity-comm (bit r) p;
     }
 
     module _ (s bound : ℕ) (l : Labels) (is : AreLabels edges bits s bound l) where
       -- labels are no more than the number of errors, if they are for fewer errors
-      label-step : (xs : List ℕ) (v : ℕ) (p : Bool) (r : ℕ) → Leads s xs v p → has r xs ≡ true → HasNode r v
-          → ((ys : List ℕ) (w : ℕ) (q : Bool) → length xs ≡ suc (length ys) → w ≤ t.detectors → Leads s ys w q → label l w q ≤ length ys)
+      label-step : (xs : List ℕ) (v : ℕ) (p : Bool) (r : ℕ) → Connects s xs v p → has r xs ≡ true → HasNode r v
+          → ((ys : List ℕ) (w : ℕ) (q : Bool) → length xs ≡ suc (length ys) → w ≤ t.detectors → Connects s ys w q → label l w q ≤ length ys)
           → label l v p ≤ length xs
-      label-step xs v p r leads among here fewer = by_node here
+      label-step xs v p r connects among here fewer = by_node here
         where
           lt : r < length t.rows
-          lt = each-has Inside r xs leads.inside among
+          lt = each-has Inside r xs connects.inside among
 
           less : r < length edges
           less = let same = are.count in let h = lt in omega arith
@@ -147,7 +147,7 @@ module _ (t : ErrorTable) (edges : List Edge) (are : AreEdges t edges) where
 
           by_first : (edge edges r).first ≡ v → label l v p ≤ length xs
           by_first same =
-              let led = led-before s xs v p r (edge edges r).second leads among (λ x. named r x lt ∙ ap (λ k. (k == x) ⊕ ((edge edges r).second == x)) same) in
+              let led = led-before s xs v p r (edge edges r).second connects among (λ x. named r x lt ∙ ap (λ k. (k == x) ⊕ ((edge edges r).second == x)) same) in
               let fewer_label = fewer (without r xs) (edge edges r).second (p ⊕ bit r) shorter (are.each r lt).second led in
               let near : label l v p ≤ label l (edge edges r).second (p ⊕ bit r) + 1 =
               subst (λ k. label l k p ≤ label l (edge edges r).second (p ⊕ bit r) + 1) same (is.along r less p).0 in
@@ -156,7 +156,7 @@ module _ (t : ErrorTable) (edges : List Edge) (are : AreEdges t edges) where
 
           by_second : (edge edges r).second ≡ v → label l v p ≤ length xs
           by_second same =
-              let led = led-before s xs v p r (edge edges r).first leads among
+              let led = led-before s xs v p r (edge edges r).first connects among
               (λ x. named r x lt ∙ parity-comm ((edge edges r).first == x) ((edge edges r).second == x) ∙ ap (λ k. (k == x) ⊕ ((edge edges r).first == x)) same) in
               let fewer_label = fewer (without r xs) (edge edges r).first (p ⊕ bit r) shorter (are.each r lt).first led in
               let back : (p ⊕ bit r) ⊕ bit r ≡ p = parity-assoc p (bit r) (bit r) ∙ ap (λ b. p ⊕ b) (parity-self (bit r)) ∙ parity-false p in
@@ -171,31 +171,31 @@ module _ (t : ErrorTable) (edges : List Edge) (are : AreEdges t edges) where
           by_node (inr same) = by_second same
 
       module _ (n : ℕ) (none : (xs : List ℕ) → Each Inside xs → length xs < n → Unflipped xs → flips t.rows xs o ≡ false) where
-        label-here : (xs : List ℕ) (v : ℕ) (p : Bool) → length xs < n → Leads s xs v p → s ≡ v → label l v p ≤ length xs
-        label-here xs v p lt leads same =
-            let unflipped_here = none xs leads.inside lt (λ x le. leads.between x le ∙ ap (λ k. (s == x) ⊕ (k == x)) (sym same) ∙ parity-self (s == x)) in
-            let even : p ≡ false = sym leads.parity ∙ unflipped_here in
+        label-here : (xs : List ℕ) (v : ℕ) (p : Bool) → length xs < n → Connects s xs v p → s ≡ v → label l v p ≤ length xs
+        label-here xs v p lt connects same =
+            let unflipped_here = none xs connects.inside lt (λ x le. connects.between x le ∙ ap (λ k. (s == x) ⊕ (k == x)) (sym same) ∙ parity-self (s == x)) in
+            let even : p ≡ false = sym connects.parity ∙ unflipped_here in
             let none_there : label l v p ≡ 0 = ap (label l v) even ∙ ap (λ k. label l k false) (sym same) ∙ is.begin in
             omega arith
 
-        label-most : (k : ℕ) (xs : List ℕ) (v : ℕ) (p : Bool) → length xs < k → length xs < n → v ≤ t.detectors → Leads s xs v p → label l v p ≤ length xs
-        label-most zero xs v p short lt le leads = absurd (omega arith)
-        label-most (suc k) xs v p short lt le leads = by_place (λ ys w q. label-most k ys w q) (cases_eq s v)
+        label-most : (k : ℕ) (xs : List ℕ) (v : ℕ) (p : Bool) → length xs < k → length xs < n → v ≤ t.detectors → Connects s xs v p → label l v p ≤ length xs
+        label-most zero xs v p short lt le connects = absurd (omega arith)
+        label-most (suc k) xs v p short lt le connects = by_place (λ ys w q. label-most k ys w q) (cases_eq s v)
           where
-            by_place : ((ys : List ℕ) (w : ℕ) (q : Bool) → length ys < k → length ys < n → w ≤ t.detectors → Leads s ys w q → label l w q ≤ length ys)
+            by_place : ((ys : List ℕ) (w : ℕ) (q : Bool) → length ys < k → length ys < n → w ≤ t.detectors → Connects s ys w q → label l w q ≤ length ys)
                 → (s ≡ v) ⊎ (s ≡ v → ⊥) → label l v p ≤ length xs
-            by_place fewer (inl same) = label-here xs v p lt leads same
+            by_place fewer (inl same) = label-here xs v p lt connects same
             by_place fewer (inr other) =
-                let found = namer nodes xs v (leads.between v le ∙ ap (λ b. b ⊕ (v == v)) (ne_eqb s v other) ∙ eq-eqb v v refl) in
-                let lt_rows = each-has Inside found.0 xs leads.inside found.1.0 in
-                label-step xs v p found.0 leads found.1.0 (node-named found.0 v lt_rows found.1.1) (λ ys w q count less led. fewer ys w q (omega arith) (omega arith) less led)
+                let found = namer nodes xs v (connects.between v le ∙ ap (λ b. b ⊕ (v == v)) (ne_eqb s v other) ∙ eq-eqb v v refl) in
+                let lt_rows = each-has Inside found.0 xs connects.inside found.1.0 in
+                label-step xs v p found.0 connects found.1.0 (node-named found.0 v lt_rows found.1.1) (λ ys w q count less led. fewer ys w q (omega arith) (omega arith) less led)
 
         -- an odd cycle with an edge of the source has as many errors as the bound
         cycle-far : (xs : List ℕ) (r : ℕ) → Each Inside xs → length xs ≤ n → Unflipped xs → flips t.rows xs o ≡ true → has r xs ≡ true → HasNode r s
             → bound ≤ length xs
         cycle-far xs r a le unflipped_xs odd_xs among here =
-            let leads : Leads s xs s true = record { inside = a; between = λ x less. unflipped_xs x less ∙ sym (parity-self (s == x)); parity = odd_xs } in
-            let most = label-step xs s true r leads among here (λ ys w q count less led. label-most n ys w q (omega arith) (omega arith) less led) in
+            let connects : Connects s xs s true = record { inside = a; between = λ x less. unflipped_xs x less ∙ sym (parity-self (s == x)); parity = odd_xs } in
+            let most = label-step xs s true r connects among here (λ ys w q count less led. label-most n ys w q (omega arith) (omega arith) less led) in
             let far = is.far in
             omega arith
 

@@ -30,4 +30,4 @@ pub mod AnswerLemmas
 pub mod BoundLemmas
 pub mod PartLemmas
 pub mod LogicalLemmas
-pub mod TellingLemmas
+pub mod ReportLemmas

@@ -95,8 +95,8 @@ has-without x g (y ∷ ys) e other =
     (λ same.
     let passed : (y == x) ≡ false = ne_eqb y x (λ k. other (sym k ∙ eqb-true y g same)) in
     ap (has x) (without-here g y ys same) ∙ ap (λ b. b || has x ys) (sym passed) ∙ e)
-    (λ apart.
-    ap (has x) (without-there g y ys apart)
+    (λ distinct.
+    ap (has x) (without-there g y ys distinct)
     ∙ by-bit (y == x)
     (λ here. or_left (y == x) (has x (without g ys)) here)
     (λ there. or_right (y == x) (has x (without g ys)) (has-without x g ys (ap (λ b. b || has x ys) (sym there) ∙ e) other)))

@@ -18,7 +18,7 @@ pub use denote.RawPtr.{null_ptr}
 pub use lib.Bits.{xor_comm, xor_assoc, xor_self, xor_zero_r}
 pub use Rattle.stab_distance.specs.Ascending.{AscendsFrom, IsAscending}
 pub use Rattle.stab_distance.specs.Graphlike.{IsGraphlike, IsGraphlikeError, IsLeastGraphlike, HasNoGraphlikeWithin, IsGraphlikeAnswer}
-pub use Rattle.stab_distance.specs.Progress.{Heard, begins, none_within, Hears, up_to, IsExcludedBy, TellsSearch}
+pub use Rattle.stab_distance.specs.Progress.{Heard, begins, none_within, Hears, up_to, IsExcludedBy, ReportsSearch}
 pub use Rattle.stab_distance.specs.LogicalErrors.{IsLogicalError, HasNoneWithin, IsAnswer, IsLeast, HasNone, HasSome}
 pub use Rattle.stab_distance.specs.Tables.{ErrorTable, odd, flips, row}
 pub use Rattle.stab_distance.specs.declared.answer.Answer.{Answer}
@@ -39,6 +39,6 @@ pub use Rattle.stab_distance.specs.inner.Parts.{IsGraphlikePart}
 pub use Rattle.stab_distance.specs.inner.Pairs.{KeepFirst, IsLeftOut, by_one, by_two, ArePairs}
 pub use Rattle.stab_distance.specs.inner.Steps.{IsMoved, AreMoved, MovesDown, MoveDown, HasBefore, BeginsBefore}
 pub use Rattle.stab_distance.specs.inner.Shortest.{IsShortest, IsLogicalSet, IsGathered, IsLogicalWithin, IsFound, Decides}
-pub use Rattle.stab_distance.specs.inner.Tellings.{HearsOn, IsLast, TellsSizes, TellsAnswer}
-pub use Rattle.stab_distance.specs.inner.Ways.{leaf, ways, Tells, HasNoFewer, IsWay, MeetsEach, IsPart, ones, AreGroups, IsAdded}
+pub use Rattle.stab_distance.specs.inner.ReportedProgress.{HearsOn, IsLast, ReportsSizes, ReportsAnswer}
+pub use Rattle.stab_distance.specs.inner.Ways.{leaf, ways, Reports, HasNoFewer, IsWay, MeetsEach, IsPart, ones, AreGroups, IsAdded}
 pub use Rattle.stab_distance.specs.Counts.{HasNoneBelow, IsLogicalSetOf, AreAsMany, IsCount}

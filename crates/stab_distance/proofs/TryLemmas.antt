@@ -1,5 +1,5 @@
 -- Tries: an error is tried, the ways with it are added up, and its weight is put back.
-use Rattle.stab_distance.proofs.Names.{◌≡◌, ◌≢◌, ℕ, zero, suc, ◌+◌, ◌*◌, ◌≤◌, ◌<◌, ◌⊎◌, inl, inr, refl, sym, ◌∙◌, ap, subst, arith, true, false, List, [], ◌∷◌, ◌++◌, length, drop, get_or, set, slice_index, cases_lt, ◌==◌, eqb-true, eqb-false, ◌⊕◌, parity-comm, bit_xor, Option, IsAscending, ErrorTable, odd, row, HasNoneWithin, Each, has, key_of, flips, parity-false, false≢true, length-append, ways, Tells, HasNoFewer, IsPart}
+use Rattle.stab_distance.proofs.Names.{◌≡◌, ◌≢◌, ℕ, zero, suc, ◌+◌, ◌*◌, ◌≤◌, ◌<◌, ◌⊎◌, inl, inr, refl, sym, ◌∙◌, ap, subst, arith, true, false, List, [], ◌∷◌, ◌++◌, length, drop, get_or, set, slice_index, cases_lt, ◌==◌, eqb-true, eqb-false, ◌⊕◌, parity-comm, bit_xor, Option, IsAscending, ErrorTable, odd, row, HasNoneWithin, Each, has, key_of, flips, parity-false, false≢true, length-append, ways, Reports, HasNoFewer, IsPart}
 use Rattle.std.proofs.lemmas.List.{get_or-set_same, get_or-set_other, set-get_or, ext_get_or}
 use Rattle.stab_distance.proofs.ChoiceLemmas.{meet-keyed, meet-flipping, nothing-left, none-after}
 use Rattle.stab_distance.proofs.EndLemmas.{completes-push, completes-observed, completes-detected, completes-nothing}
@@ -31,10 +31,10 @@ none-less t n m le none errors logical = let more = none errors logical in omega
 
 pub part-more : (t : ErrorTable) (before now next s : List ℕ) (g rest : ℕ) (sum more total : Option ℕ) → g < length t.rows → length now ≡ length t.rows
     → next ≡ set now g 0 → IsPart t before now (rest + 1) s sum
-    → Tells (get_or now g 0 * ways t.detectors t.rows (set now g 0) rest (row t.rows g ++ s)) more
-    → ((m n : ℕ) → Tells m sum → Tells n more → Tells (m + n) total)
+    → Reports (get_or now g 0 * ways t.detectors t.rows (set now g 0) rest (row t.rows g ++ s)) more
+    → ((m n : ℕ) → Reports m sum → Reports n more → Reports (m + n) total)
     → IsPart t before next (rest + 1) s total
-part-more t before now next s g rest sum more total lt count is part told plus =
+part-more t before now next s g rest sum more total lt count is part reported plus =
     let one = get_or now g 0 * ways t.detectors t.rows (set now g 0) rest (row t.rows g ++ s) in
     let after : suc rest ≡ rest + 1 = omega arith in
     let split : ways t.detectors t.rows now (suc rest) s ≡ ways t.detectors t.rows (set now g 0) (suc rest) s + one =
@@ -45,7 +45,7 @@ part-more t before now next s g rest sum more total lt count is part told plus =
     ap (λ (ws : List ℕ). ways t.detectors t.rows ws (rest + 1) s) is in (
       part.0 + one,
       (
-        plus part.0 one part.1.0 told,
+        plus part.0 one part.1.0 reported,
         sums part.0 one (ways t.detectors t.rows next (rest + 1) s) (ways t.detectors t.rows (set now g 0) (rest + 1) s) (ways t.detectors t.rows now (rest + 1) s)
             (ways t.detectors t.rows before (rest + 1) s) later same part.1.1,
       ),
@@ -54,18 +54,18 @@ part-more t before now next s g rest sum more total lt count is part told plus =
     sums : (n one next none now before : ℕ) → next ≡ none → now ≡ none + one → n + now ≡ before → (n + one) + next ≡ before
     sums n one next none now before e f g = omega arith
 
-pub part-none : (t : ErrorTable) (weights s : List ℕ) (left : ℕ) (a : Option ℕ) → Tells 0 a → IsPart t weights weights left s a
-part-none t weights s left a told = (0, (told, nothing-more (ways t.detectors t.rows weights left s)))
+pub part-none : (t : ErrorTable) (weights s : List ℕ) (left : ℕ) (a : Option ℕ) → Reports 0 a → IsPart t weights weights left s a
+part-none t weights s left a reported = (0, (reported, nothing-more (ways t.detectors t.rows weights left s)))
   where
     nothing-more : (n : ℕ) → 0 + n ≡ n
     nothing-more n = omega arith
 
 pub part-whole : (t : ErrorTable) (before after s : List ℕ) (left : ℕ) (a : Option ℕ) → IsPart t before after left s a → ways t.detectors t.rows after left s ≡ 0
-    → Tells (ways t.detectors t.rows before left s) a
+    → Reports (ways t.detectors t.rows before left s) a
 part-whole t before after s left a part none =
     let same = part.1.1 in
     let is : part.0 ≡ ways t.detectors t.rows before left s = omega arith in
-    subst (λ n. Tells n a) is part.1.0
+    subst (λ n. Reports n a) is part.1.0
 
 -- without a weight, or without a last error that has the key, nothing is added
 
@@ -102,13 +102,13 @@ put-step errors before was now next k e lt inside is each so_far =
     ∙ each k lt ∙ ap (λ j. get_or was j 0) here
     ))
     (λ other.
-    let apart : get_or errors k 0 ≢ e = eqb-false (get_or errors k 0) e other in
+    let distinct : get_or errors k 0 ≢ e = eqb-false (get_or errors k 0) e other in
     elim so_far [
-      | inl left ↦ inl (left-over e errors k lt left (λ same. absurd (apart same)) (λ later. later))
+      | inl left ↦ inl (left-over e errors k lt left (λ same. absurd (distinct same)) (λ later. later))
       | inr same ↦
           inr (
           ap (λ (ws : List ℕ). get_or ws e 0) is
-          ∙ get_or-set_other now (get_or errors k 0) e (get_or before k 0) 0 (λ q. apart (sym q))
+          ∙ get_or-set_other now (get_or errors k 0) e (get_or before k 0) 0 (λ q. distinct (sym q))
           ∙ same
           )
     ])

@@ -19,7 +19,7 @@ pub record IsLogicalSetOf (t : ErrorTable) (size : ℕ) (errors : List ℕ) : Ty
 pub record AreAsMany (IsOne : List ℕ → Type 0) (count : ℕ) : Type 0 where
   pub set : ℕ → List ℕ
   pub is_one : (k : ℕ) → k < count → IsOne (set k)
-  pub apart : (j k : ℕ) → j < count → k < count → set j ≡ set k → j ≡ k
+  pub distinct : (j k : ℕ) → j < count → k < count → set j ≡ set k → j ≡ k
   pub all : (errors : List ℕ) → IsOne errors → (k : ℕ) × ((k < count) × (set k ≡ errors))
 
 -- what an answer says: how many sets of this many errors are a logical error, or that their number takes more than 64 bits

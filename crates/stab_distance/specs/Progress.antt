@@ -26,7 +26,7 @@ IsExcludedBy most NoneAtAll k = Unit {0}
 
 -- What is heard of a search over this many errors: that it begins, and then each number of errors that no set has, up to the last that its
 -- answer excludes. No set has the last one, whether or not there is an answer.
-pub record TellsSearch {E : Type 0} (count most : ℕ) (has_none : ℕ → Type 0) (old new : Option (List Heard)) (result : Result Answer E) : Type 0 where
+pub record ReportsSearch {E : Type 0} (count most : ℕ) (has_none : ℕ → Type 0) (old new : Option (List Heard)) (result : Result Answer E) : Type 0 where
   pub last : ℕ
   pub none : has_none last
   pub heard : Hears old new (begins count ∷ up_to last)

@@ -10,7 +10,7 @@ pub mod Covers
 pub mod Ways
 pub mod Certificates
 pub mod Shortest
-pub mod Tellings
+pub mod ReportedProgress
 pub mod Graphs
 pub mod Labels
 pub mod Parts

@@ -6,7 +6,7 @@ ghost use Rattle.stab_distance.specs.Tables.{row};
 ghost use Rattle.stab_distance.specs.LogicalErrors.{HasNoneWithin};
 ghost use Rattle.stab_distance.specs.inner.Errors.{key_of};
 ghost use Rattle.stab_distance.specs.inner.Lists.{Each, has};
-ghost use Rattle.stab_distance.specs.inner.Ways.{ways, Tells, HasNoFewer, IsPart};
+ghost use Rattle.stab_distance.specs.inner.Ways.{ways, Reports, HasNoFewer, IsPart};
 
 use crate::choices::choices;
 use crate::errors::Errors;
@@ -30,7 +30,7 @@ pub fn ways(
     requires fewer { HasNoFewer errors.now.table flipped.now left }
     requires weights { length weights.old ≡ length errors.now.table.rows }
     requires cover { length cover.old ≡ length errors.now.table.rows }
-    ensures count { IfOk result (Tells (ways errors.now.table.detectors errors.now.table.rows weights.old left flipped.now)) }
+    ensures count { IfOk result (Reports (ways errors.now.table.detectors errors.now.table.rows weights.old left flipped.now)) }
     ensures weights { OnOk result (weights.new ≡ weights.old) }
     ensures cover { length cover.new ≡ length cover.old }
 {
@@ -106,7 +106,7 @@ fn try_error(
     requires inside { g < length errors.now.table.rows }
     requires weights { length weights.old ≡ length errors.now.table.rows }
     requires cover { length cover.old ≡ length errors.now.table.rows }
-    ensures count { IfOk result (Tells (slice_index weights.old g * ways errors.now.table.detectors errors.now.table.rows (slice_set weights.old g 0) rest (row errors.now.table.rows g ++ flipped.now))) }
+    ensures count { IfOk result (Reports (slice_index weights.old g * ways errors.now.table.detectors errors.now.table.rows (slice_set weights.old g 0) rest (row errors.now.table.rows g ++ flipped.now))) }
     ensures weights { OnOk result (weights.new ≡ slice_set weights.old g 0) }
     ensures length { length weights.new ≡ length weights.old }
     ensures cover { length cover.new ≡ length cover.old }
@@ -200,7 +200,7 @@ fn put_back(errors: &[usize], before: &[u64], weights: &mut [u64])
 
 /// The sum of two numbers, if it fits in 64 bits.
 fn plus(a: Option<u64>, b: Option<u64>) -> Option<u64>
-    ensures sum { (m n : ℕ) → Tells m a → Tells n b → Tells (m + n) result }
+    ensures sum { (m n : ℕ) → Reports m a → Reports n b → Reports (m + n) result }
 {
     match (a, b) {
         (Some(a), Some(b)) => a.checked_add(b),
@@ -211,7 +211,7 @@ fn plus(a: Option<u64>, b: Option<u64>) -> Option<u64>
 /// The product of a weight and a number, if it fits in 64 bits.
 fn times(weight: u64, number: Option<u64>) -> Option<u64>
     requires some { 0 < weight }
-    ensures product { (n : ℕ) → Tells n number → Tells (weight * n) result }
+    ensures product { (n : ℕ) → Reports n number → Reports (weight * n) result }
 {
     match number {
         Some(number) => weight.checked_mul(number),

@@ -15,7 +15,7 @@ pub enum Elimination {
 pub struct Echelon {
     pivots: Vec<Pivot>,
     // For each detector the pivot whose least number it is, if there is one.
-    leads: Vec<Option<usize>>,
+    connects: Vec<Option<usize>>,
     end: usize,
 }
 
@@ -31,7 +31,7 @@ impl Drop for Echelon {
     fn drop(self) {
         let Echelon {
             pivots: _,
-            leads: _,
+            connects: _,
             end: _,
         } = self;
     }
@@ -47,7 +47,7 @@ pub(crate) fn eliminate(
 ) -> Result<Elimination, AllocError> {
     let mut echelon = Echelon {
         pivots: Vec::new(alloc),
-        leads: vec![in alloc; None; detectors]?,
+        connects: vec![in alloc; None; detectors]?,
         end,
     };
     for r in 0..rows.len() {
@@ -65,14 +65,14 @@ impl Echelon {
     /// Adds row r, after the pivots that its detectors lead are taken out. False if only observables are left of it.
     fn add(&mut self, words: Vec<u64>, r: usize) -> Result<bool, AllocError> {
         let mut words = words;
-        for d in 0..self.leads.len() {
+        for d in 0..self.connects.len() {
             if !has_bit(words.as_slice(), d) {
                 continue;
             }
-            match self.leads[d] {
+            match self.connects[d] {
                 Some(p) => self.add_pivot(p, words.as_mut_slice()),
                 None => {
-                    self.leads[d] = Some(self.pivots.len());
+                    self.connects[d] = Some(self.pivots.len());
                     self.pivots.push(Pivot { words, row: r })?;
                     return Ok(true);
                 }
@@ -110,9 +110,9 @@ impl Echelon {
     /// is noted twice cancels.
     fn note_added(&self, words: Vec<u64>, added: &mut [bool]) {
         let mut words = words;
-        for d in 0..self.leads.len() {
+        for d in 0..self.connects.len() {
             if has_bit(words.as_slice(), d)
-                && let Some(p) = self.leads[d]
+                && let Some(p) = self.connects[d]
             {
                 if p >= added.len() {
                     break;
@@ -125,7 +125,7 @@ impl Echelon {
 
     /// Takes each leading detector out of the other rows.
     fn reduce(&mut self, alloc: Global) -> Result<(), AllocError> {
-        let count = self.leads.len();
+        let count = self.connects.len();
         for k in 0..count {
             self.take_out(alloc, count - 1 - k)?;
         }
@@ -154,8 +154,8 @@ impl Echelon {
 
     /// The pivot that detector d leads, if there is one.
     fn lead(&self, d: usize) -> Option<usize> {
-        if d < self.leads.len() {
-            self.leads[d]
+        if d < self.connects.len() {
+            self.connects[d]
         } else {
             None
         }

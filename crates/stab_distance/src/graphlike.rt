@@ -2,9 +2,9 @@ ghost use Rattle.std.specs.Prelude.{◌≡◌, length, IfOk, IfErr, IfSome};
 ghost use Rattle.stab_io.specs.declared.refusal.Refusal.TheVariants.{OutOfMemory};
 ghost use Rattle.stab_distance.specs.LogicalErrors.{IsAnswer, HasNoneWithin};
 ghost use Rattle.stab_distance.specs.Tables.{ErrorTable};
-ghost use Rattle.stab_distance.specs.inner.Tellings.{HearsOn};
+ghost use Rattle.stab_distance.specs.inner.ReportedProgress.{HearsOn};
 ghost use Rattle.stab_distance.specs.Graphlike.{IsGraphlikeAnswer, HasNoGraphlikeWithin};
-ghost use Rattle.stab_distance.specs.Progress.{TellsSearch, IsExcludedBy};
+ghost use Rattle.stab_distance.specs.Progress.{ReportsSearch, IsExcludedBy};
 
 use crate::answer::{Answer, Progress};
 use crate::bounds::has_bound;
@@ -35,13 +35,13 @@ pub fn least_graphlike_error<P: Progress>(
 ) -> Result<Answer, Refusal>
     ensures answer { IfOk result (IsGraphlikeAnswer table.now most) }
     ensures refusal { IfErr result (λ e. e ≡ OutOfMemory) }
-    ensures told { TellsSearch (length table.now.rows) most (HasNoGraphlikeWithin table.now) (P.heard progress.old) (P.heard progress.new) result }
+    ensures reported { ReportsSearch (length table.now.rows) most (HasNoGraphlikeWithin table.now) (P.heard progress.old) (P.heard progress.new) result }
 {
     progress.begins(table.len());
     let part = graphlike_part(alloc, table)?;
     match by_cycles(alloc, &part, most)? {
         Some(answer) => {
-            tell(progress, excluded_by(&answer, most));
+            report(progress, excluded_by(&answer, most));
             Ok(answer)
         }
         None => least_of(alloc, &part, most, progress),
@@ -61,8 +61,8 @@ fn excluded_by(answer: &Answer, most: usize) -> usize
 }
 
 /// Reports each number of errors up to this one.
-fn tell<P: Progress>(progress: &mut P, last: usize)
-    ensures told { HearsOn 0 last (P.heard progress.old) (P.heard progress.new) }
+fn report<P: Progress>(progress: &mut P, last: usize)
+    ensures reported { HearsOn 0 last (P.heard progress.old) (P.heard progress.new) }
 {
     'sizes: for k in 0..last {
         progress.none_within(k + 1);

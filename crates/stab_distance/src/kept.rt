@@ -206,7 +206,10 @@ fn are_parts(
     };
     let mut rest = Vec::new(alloc);
     merge_into(&mut rest, flipped.as_slice(), numbers)?;
-    Ok(none_counts(rest.as_slice(), classes, kept.detectors()) && are_apart(kept, classes, parts))
+    Ok(
+        none_counts(rest.as_slice(), classes, kept.detectors())
+            && are_distinct(kept, classes, parts),
+    )
 }
 
 /// Whether each of these numbers is a detector that is ignored.
@@ -229,7 +232,7 @@ fn is_ignored(d: u32, classes: &[usize], detectors: usize) -> bool
 }
 
 /// Whether the classes of these errors ascend.
-fn are_apart(kept: &Errors, classes: &[usize], parts: &[usize]) -> bool
+fn are_distinct(kept: &Errors, classes: &[usize], parts: &[usize]) -> bool
     ensures yes { result ≡ true → IsAscending (map (λ r. class_of classes.now (row kept.now.table.rows r)) parts.now) }
 {
     let mut from = 0;

@@ -1,10 +1,10 @@
 ghost use Rattle.std.specs.Prelude.{◌≡◌, ◌≤◌, length, IfOk, IfErr};
 ghost use Rattle.stab_io.specs.declared.refusal.Refusal.TheVariants.{OutOfMemory};
 ghost use Rattle.stab_distance.specs.LogicalErrors.{IsAnswer, HasNoneWithin};
-ghost use Rattle.stab_distance.specs.Progress.{TellsSearch};
+ghost use Rattle.stab_distance.specs.Progress.{ReportsSearch};
 ghost use Rattle.stab_distance.specs.inner.Classes.{StandFor};
 ghost use Rattle.stab_distance.specs.inner.Shortest.{IsFound};
-ghost use Rattle.stab_distance.specs.inner.Tellings.{TellsAnswer};
+ghost use Rattle.stab_distance.specs.inner.ReportedProgress.{ReportsAnswer};
 
 use crate::answer::{Answer, Progress};
 use crate::distinct::distinct_rows;
@@ -40,7 +40,7 @@ pub fn least_logical_error<P: Progress>(
 ) -> Result<Answer, Refusal>
     ensures answer { IfOk result (IsAnswer table.now most) }
     ensures refusal { IfErr result (λ e. e ≡ OutOfMemory) }
-    ensures told { TellsSearch (length table.now.rows) most (HasNoneWithin table.now) (P.heard progress.old) (P.heard progress.new) result }
+    ensures reported { ReportsSearch (length table.now.rows) most (HasNoneWithin table.now) (P.heard progress.old) (P.heard progress.new) result }
 {
     progress.begins(table.len());
     least_of(alloc, table, most, progress)
@@ -55,7 +55,7 @@ pub fn least_of<P: Progress>(
 ) -> Result<Answer, Refusal>
     ensures answer { IfOk result (IsAnswer table.now most) }
     ensures refusal { IfErr result (λ e. e ≡ OutOfMemory) }
-    ensures told { TellsAnswer table.now 0 most (P.heard progress.old) (P.heard progress.new) result }
+    ensures reported { ReportsAnswer table.now 0 most (P.heard progress.old) (P.heard progress.new) result }
 {
     let distinct = distinct_rows(alloc, table)?;
     let errors = Errors::new(alloc, table.detectors(), distinct.rows)?;
@@ -85,7 +85,7 @@ fn least_of_kept<P: Progress>(
     requires none { HasNoneWithin table.now from }
     ensures answer { IfOk result (IsAnswer table.now most) }
     ensures refusal { IfErr result (λ e. e ≡ OutOfMemory) }
-    ensures told { TellsAnswer table.now from most (P.heard progress.old) (P.heard progress.new) result }
+    ensures reported { ReportsAnswer table.now from most (P.heard progress.old) (P.heard progress.new) result }
 {
     let mut errors = kept.errors;
     match find(alloc, &mut errors, from, most, progress)? {
@@ -109,7 +109,7 @@ fn find<P: Progress>(
     requires order { from ≤ most }
     requires none { HasNoneWithin errors.old.table from }
     ensures found { IfOk result (IsFound errors.old.table most) }
-    ensures told { TellsAnswer errors.old.table from most (P.heard progress.old) (P.heard progress.new) result }
+    ensures reported { ReportsAnswer errors.old.table from most (P.heard progress.old) (P.heard progress.new) result }
 {
     let end = from.max(most.min(errors.len()));
     let first = from.max(end.min(PLAIN_SIZES));

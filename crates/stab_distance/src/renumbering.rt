@@ -1,4 +1,4 @@
-//! Detectors numbered anew: those that no error flips come last, so that the others of each round have numbers that are a step apart.
+//! Detectors numbered anew: those that no error flips come last, so that the others of each round have numbers that are a step from each other.
 //!
 //! No proof rests on how they are numbered: the numbers are checked.
 ghost use Rattle.std.specs.Prelude.{◌≡◌, ◌<◌, ℕ, true, length, slice_index, IfOk, IfSome};

@@ -5,7 +5,7 @@ ghost use Rattle.stab_distance.specs.inner.Ends.{NoEnds};
 ghost use Rattle.stab_distance.specs.inner.Pairs.{ArePairs};
 ghost use Rattle.stab_distance.specs.inner.Steps.{BeginsBefore};
 ghost use Rattle.stab_distance.specs.inner.Shortest.{IsShortest, IsLogicalWithin};
-ghost use Rattle.stab_distance.specs.inner.Tellings.{TellsSizes};
+ghost use Rattle.stab_distance.specs.inner.ReportedProgress.{ReportsSizes};
 
 use crate::answer::Progress;
 use crate::errors::Errors;
@@ -24,7 +24,7 @@ pub fn shortest<P: Progress>(
     requires none { HasNoneWithin errors.now.table from }
     ensures some { IfOk result (λ a. IfSome a (λ v. IsShortest errors.now.table most v.items)) }
     ensures none { IfOk result (λ a. IfNone a (HasNoneWithin errors.now.table most)) }
-    ensures told { TellsSizes errors.now.table from most (P.heard progress.old) (P.heard progress.new) result }
+    ensures reported { ReportsSizes errors.now.table from most (P.heard progress.old) (P.heard progress.new) result }
 {
     let firsts = errors.firsts();
     'sizes: for left in from..most {
@@ -48,7 +48,7 @@ pub fn shortest_without_pairs<P: Progress>(
     requires none { HasNoneWithin errors.old.table from }
     ensures some { IfOk result (λ a. IfSome a (λ v. IsShortest errors.old.table most v.items)) }
     ensures none { IfOk result (λ a. IfNone a (HasNoneWithin errors.old.table most)) }
-    ensures told { TellsSizes errors.old.table from most (P.heard progress.old) (P.heard progress.new) result }
+    ensures reported { ReportsSizes errors.old.table from most (P.heard progress.old) (P.heard progress.new) result }
 {
     errors.leave_out_pairs(alloc)?;
     shortest(alloc, errors, from, most, progress)

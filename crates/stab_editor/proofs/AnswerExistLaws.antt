@@ -1,5 +1,5 @@
 -- Laws of answers: on items that can be edited each request has one, which leaves such items; so have requests one after another.
-use Rattle.stab_editor.proofs.Names.{◌≡◌, ◌≤◌, ◌<◌, ◌^◌, ℕ, Bool, true, false, nat_lt, List, [], ◌∷◌, length, refl, sym, ap, ◌∙◌, subst, Option, Some, None, Result, Ok, Err, inl, inr, if◌then◌else◌, arith, slice_split, ltb-true, ltb-false, Refusal, TooDeep, QubitOutOfRange, LookbackTooFar, TooManySteps, BadCommand, Fault, TracesHaveReducedRows, is_byte, Items, OneItem, done, before, listed, entries, depth, Path, Edit, edited, list_verdict, split_list, looks_too_far, most_steps, named_qubits, qubits_of, check_of, check_within, unroll, item_fault, StandsForOne, IsCircuit, AreOfLines, AreAlike, PutsLines, TextsAreLines, ItemTextsAreLines, ItemTextsHaveOneMeaning, EditedItemsAreOfLines, SplitsLeaveTheSteps, SplitItemsAreOfLines, LinesKeepQubitsApart, listed-entries, State, run_of, IsSoundRun, RunsAreSound, check-fits, check-whole, DeterministicParities, CoinsHaveRows, CircuitsHaveDistances, DeterministicHasNoDecider, f01_bytes, printed, lines_of, Setting, Request, begin, put, delete, show, ask, deterministic, distance, refuse, Held, run_held, Answer, IsPut, Shows, IsDeterministicAnswer, IsDistanceAnswer, IsAnswer, IsAnswerToAll, options_asked, both, unless, judged, decided, refusing, replying, edit_of, edited_items, framed_shown, held_split, held_behind, shown_or_refused, framed_answer, reply_text, greeting, session_numbers, FramedRequest, mark, split, numbers, changed, changed_records, sign, item, counts, coin_table, why, CanBeEdited, ItemEdit, Insert, Replace, Show, Measurements, Free, Detectors, Observables, Stabilisers, Circuit}
+use Rattle.stab_editor.proofs.Names.{◌≡◌, ◌≤◌, ◌<◌, ◌^◌, ℕ, Bool, true, false, nat_lt, List, [], ◌∷◌, length, refl, sym, ap, ◌∙◌, subst, Option, Some, None, Result, Ok, Err, inl, inr, if◌then◌else◌, arith, slice_split, ltb-true, ltb-false, Refusal, TooDeep, QubitOutOfRange, LookbackTooFar, TooManySteps, BadCommand, Fault, TracesHaveReducedRows, is_byte, Items, OneItem, done, before, listed, entries, depth, Path, Edit, edited, list_verdict, split_list, looks_too_far, most_steps, named_qubits, qubits_of, check_of, check_within, unroll, item_fault, StandsForOne, IsCircuit, AreOfLines, AreAlike, PutsLines, TextsAreLines, ItemTextsAreLines, ItemTextsHaveOneMeaning, EditedItemsAreOfLines, SplitsLeaveTheSteps, SplitItemsAreOfLines, LinesKeepQubitsDistinct, listed-entries, State, run_of, IsSoundRun, RunsAreSound, check-fits, check-whole, DeterministicParities, CoinsHaveRows, CircuitsHaveDistances, DeterministicHasNoDecider, f01_bytes, printed, lines_of, Environment, Request, begin, put, delete, show, ask, deterministic, distance, refuse, Held, run_held, Answer, IsPut, Shows, IsDeterministicAnswer, IsDistanceAnswer, IsAnswer, IsAnswerToAll, options_asked, both, unless, judged, decided, refusing, replying, edit_of, edited_items, counted_shown, held_split, held_after, shown_or_refused, counted_answer, reply_text, greeting, session_numbers, CountedRequest, mark, split, numbers, changed, changed_records, sign, item, counts, coin_table, why, CanBeEdited, ItemEdit, Insert, Replace, Show, Measurements, Free, Detectors, Observables, Stabilisers, Circuit}
 use Rattle.stab_edits.specs.declared.edit.Edit.TheVariants as circuit_edit
 use Rattle.stab_editor.proofs.DistanceExistLaws.{distance_answered}
 use Rattle.stab_editor.proofs.ScriptNumberLaws.{AsksFew, AllAskFew}
@@ -81,83 +81,83 @@ split_keeps steps lines n held path round can = by_result (split_list path round
         let alike : AreAlike held.items (listed list) = subst (λ (x : Items). AreAlike x (listed list)) same (steps path round (entries held.items) list e) in
         (lines path round (entries held.items) list (subst AreOfLines (sym same) can.0) e, alike_within n held.items (listed list) alike ∙ can.1)
 
--- what only a framed script asks for leaves items that can be edited
-behind_keeps : SplitsLeaveTheSteps → SplitItemsAreOfLines → (n : ℕ) (run : State) (held : Held) (r : FramedRequest) → CanBeEdited n held.items
-    → CanBeEdited n (held_behind run held r).items
-behind_keeps steps lines n run held mark can = can
-behind_keeps steps lines n run held (split place round) can = split_keeps steps lines n held place round can
-behind_keeps steps lines n run held numbers can = can
-behind_keeps steps lines n run held changed can = can
-behind_keeps steps lines n run held changed_records can = can
-behind_keeps steps lines n run held (sign word) can = can
-behind_keeps steps lines n run held (item place) can = can
-behind_keeps steps lines n run held (counts place) can = can
-behind_keeps steps lines n run held coin_table can = can
-behind_keeps steps lines n run held (why bit) can = can
+-- what only a counted script asks for leaves items that can be edited
+after_keeps : SplitsLeaveTheSteps → SplitItemsAreOfLines → (n : ℕ) (run : State) (held : Held) (r : CountedRequest) → CanBeEdited n held.items
+    → CanBeEdited n (held_after run held r).items
+after_keeps steps lines n run held mark can = can
+after_keeps steps lines n run held (split place round) can = split_keeps steps lines n held place round can
+after_keeps steps lines n run held numbers can = can
+after_keeps steps lines n run held changed can = can
+after_keeps steps lines n run held changed_records can = can
+after_keeps steps lines n run held (sign word) can = can
+after_keeps steps lines n run held (item place) can = can
+after_keeps steps lines n run held (counts place) can = can
+after_keeps steps lines n run held coin_table can = can
+after_keeps steps lines n run held (why bit) can = can
 
 -- so does its answer
-pub framed_keeps : SplitsLeaveTheSteps → SplitItemsAreOfLines → (kept : Bool) (n : ℕ) (run : State) (held : Held) (r : FramedRequest) → CanBeEdited n held.items
-    → CanBeEdited n (framed_answer kept n run held r).held.items
-framed_keeps steps lines false n run held r can = can
-framed_keeps steps lines true n run held r can = by_shown (framed_shown n run held r)
+pub counted_keeps : SplitsLeaveTheSteps → SplitItemsAreOfLines → (kept : Bool) (n : ℕ) (run : State) (held : Held) (r : CountedRequest) → CanBeEdited n held.items
+    → CanBeEdited n (counted_answer kept n run held r).held.items
+counted_keeps steps lines false n run held r can = can
+counted_keeps steps lines true n run held r can = by_shown (counted_shown n run held r)
   where
-    by_shown : (shown : Result (List ℕ) Refusal) → CanBeEdited n (shown_or_refused true held (held_behind run held r) shown).held.items
-    by_shown (Ok text) = behind_keeps steps lines n run held r can
+    by_shown : (shown : Result (List ℕ) Refusal) → CanBeEdited n (shown_or_refused true held (held_after run held r) shown).held.items
+    by_shown (Ok text) = after_keeps steps lines n run held r can
     by_shown (Err e) = can
 
 -- a request for the bits that are the same for all random bits has an answer
-deterministic_answered : DeterministicParities → LinesKeepQubitsApart → (s : Setting) (held : Held) → CanBeEdited s.qubits held.items → (a : Answer) × IsDeterministicAnswer s.framed held a × CanBeEdited s.qubits a.held.items
-deterministic_answered law apart s held can = by_framed s.framed
+deterministic_answered : DeterministicParities → LinesKeepQubitsDistinct → (s : Environment) (held : Held) → CanBeEdited s.qubits held.items → (a : Answer) × IsDeterministicAnswer s.counted held a × CanBeEdited s.qubits a.held.items
+deterministic_answered law distinct s held can = by_counted s.counted
   where
-    by_framed : (framed : Bool) → (a : Answer) × IsDeterministicAnswer framed held a × CanBeEdited s.qubits a.held.items
-    by_framed false = (refusing held BadCommand, refl, can)
-    by_framed true = let told = deterministic_text law apart s.qubits held.items can.0 can.1 in (replying held (reply_text true told.0), (told.0, told.1, refl), can)
+    by_counted : (counted : Bool) → (a : Answer) × IsDeterministicAnswer counted held a × CanBeEdited s.qubits a.held.items
+    by_counted false = (refusing held BadCommand, refl, can)
+    by_counted true = let reported = deterministic_text law distinct s.qubits held.items can.0 can.1 in (replying held (reply_text true reported.0), (reported.0, reported.1, refl), can)
 
 -- so has a request for a distance
-distance_asked : CoinsHaveRows → DeterministicHasNoDecider → CircuitsHaveDistances → LinesKeepQubitsApart → (s : Setting) (held : Held) (everywhere : Bool) (most : ℕ) → most < 10 ^ 18 → CanBeEdited s.qubits held.items
-    → (a : Answer) × IsDistanceAnswer s.framed held (options_asked everywhere most) a × CanBeEdited s.qubits a.held.items
-distance_asked rows none distances apart s held everywhere most few can =
+distance_asked : CoinsHaveRows → DeterministicHasNoDecider → CircuitsHaveDistances → LinesKeepQubitsDistinct → (s : Environment) (held : Held) (everywhere : Bool) (most : ℕ) → most < 10 ^ 18 → CanBeEdited s.qubits held.items
+    → (a : Answer) × IsDistanceAnswer s.counted held (options_asked everywhere most) a × CanBeEdited s.qubits a.held.items
+distance_asked rows none distances distinct s held everywhere most few can =
     let items = held.items in
     let own : check_within (qubits_of items) items ≡ None = checked_on_own (qubits_of items) items refl (check-whole s.qubits items can.1) in
-    let fits = check-fits (qubits_of items) items (unroll items) own refl (apart can.0.0 items can.0.1) in
-    let found = distance_answered rows none distances s.framed everywhere most held fits (omega (arith, few)) in
+    let fits = check-fits (qubits_of items) items (unroll items) own refl (distinct can.0.0 items can.0.1) in
+    let found = distance_answered rows none distances s.counted everywhere most held fits (omega (arith, few)) in
     (found.0, found.1, subst (λ (h : Held). CanBeEdited s.qubits h.items) (sym found.2) can)
 
 module _ (meanings : ItemTextsHaveOneMeaning) (lines : ItemTextsAreLines) (edits : EditedItemsAreOfLines) (steps : SplitsLeaveTheSteps)
     (split_lines : SplitItemsAreOfLines) (sound : RunsAreSound) (some : TracesHaveReducedRows) (parities : DeterministicParities) (rows : CoinsHaveRows) (none : DeterministicHasNoDecider) (distances : CircuitsHaveDistances)
-    (apart : LinesKeepQubitsApart) where
+    (distinct : LinesKeepQubitsDistinct) where
   -- an edit that puts in the item of a text has an answer
-  put_answered : (s : Setting) (held : Held) (how : ItemEdit) (place : Path) (text : List ℕ) → CanBeEdited s.qubits held.items
-      → (a : Answer) × IsPut s.framed held (λ item. edited_items s.qubits (edit_of how place item) held.items) text a × CanBeEdited s.qubits a.held.items
+  put_answered : (s : Environment) (held : Held) (how : ItemEdit) (place : Path) (text : List ℕ) → CanBeEdited s.qubits held.items
+      → (a : Answer) × IsPut s.counted held (λ item. edited_items s.qubits (edit_of how place item) held.items) text a × CanBeEdited s.qubits a.held.items
   put_answered s held how place text can = by_fault (item_fault text) refl
     where
       by_fault : (f : Option Fault) → item_fault text ≡ f
-          → (a : Answer) × IsPut s.framed held (λ item. edited_items s.qubits (edit_of how place item) held.items) text a × CanBeEdited s.qubits a.held.items
+          → (a : Answer) × IsPut s.counted held (λ item. edited_items s.qubits (edit_of how place item) held.items) text a × CanBeEdited s.qubits a.held.items
       by_fault (Some f) e = (refusing held f.refusal, inl (f, e, refl), can)
       by_fault None e =
           let m = meanings text e in (
-            decided s.framed held (edited_items s.qubits (edit_of how place m.0) held.items),
+            decided s.counted held (edited_items s.qubits (edit_of how place m.0) held.items),
             inr (m.0, m.1.0, refl),
-            edit_keeps edits s.qubits (edit_of how place m.0) s.framed held (puts_lines lines text m.0 m.1.0 place how) can,
+            edit_keeps edits s.qubits (edit_of how place m.0) s.counted held (puts_lines lines text m.0 m.1.0 place how) can,
           )
 
   -- a request has an answer
-  request_answered : (s : Setting) (held : Held) (r : Request) → AsksFew r → CanBeEdited s.qubits held.items → (a : Answer) × IsAnswer s held r a × CanBeEdited s.qubits a.held.items
-  request_answered s held begin few can = (replying held (greeting s.framed (session_numbers s.qubits (run_held s held) held.items)), refl, can)
+  request_answered : (s : Environment) (held : Held) (r : Request) → AsksFew r → CanBeEdited s.qubits held.items → (a : Answer) × IsAnswer s held r a × CanBeEdited s.qubits a.held.items
+  request_answered s held begin few can = (replying held (greeting s.counted (session_numbers s.qubits (run_held s held) held.items)), refl, can)
   request_answered s held (put how place text) few can = put_answered s held how place text can
   request_answered s held (delete place) few can =
-      (decided s.framed held (edited_items s.qubits (circuit_edit.Delete place) held.items), refl, edit_keeps edits s.qubits (circuit_edit.Delete place) s.framed held (puts_none place) can)
+      (decided s.counted held (edited_items s.qubits (circuit_edit.Delete place) held.items), refl, edit_keeps edits s.qubits (circuit_edit.Delete place) s.counted held (puts_none place) can)
   request_answered s held (show what) few can =
       let shown = text_shown some s.qubits s.coins held.items (sound s.qubits s.coins can.0.0 held.items can.0.1 can.1) what in
-      (replying held (reply_text s.framed shown.0), (shown.0, shown.1, refl), can)
+      (replying held (reply_text s.counted shown.0), (shown.0, shown.1, refl), can)
   request_answered s held (ask r) few can =
-      (framed_answer s.framed s.qubits (run_held s held) held r, refl, framed_keeps steps split_lines s.framed s.qubits (run_held s held) held r can)
-  request_answered s held deterministic few can = deterministic_answered parities apart s held can
-  request_answered s held (distance everywhere most) few can = distance_asked rows none distances apart s held everywhere most few can
+      (counted_answer s.counted s.qubits (run_held s held) held r, refl, counted_keeps steps split_lines s.counted s.qubits (run_held s held) held r can)
+  request_answered s held deterministic few can = deterministic_answered parities distinct s held can
+  request_answered s held (distance everywhere most) few can = distance_asked rows none distances distinct s held everywhere most few can
   request_answered s held (refuse r) few can = (refusing held r, refl, can)
 
   -- requests, however many, have an answer
-  pub all_answered : (s : Setting) (held : Held) (rs : List Request) → AllAskFew rs → CanBeEdited s.qubits held.items → (a : Answer) × IsAnswerToAll s held rs a × CanBeEdited s.qubits a.held.items
+  pub all_answered : (s : Environment) (held : Held) (rs : List Request) → AllAskFew rs → CanBeEdited s.qubits held.items → (a : Answer) × IsAnswerToAll s held rs a × CanBeEdited s.qubits a.held.items
   all_answered s held [] few can = (replying held [], refl, can)
   all_answered s held (r ∷ rs) few can =
       let first = request_answered s held r few.0 can in

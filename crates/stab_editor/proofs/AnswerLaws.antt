@@ -1,7 +1,7 @@
 -- Laws of answers: on items that can be edited a request has at most one, and so have requests one after another.
-use Rattle.stab_editor.proofs.Names.{◌≡◌, ℕ, Bool, true, false, List, [], ◌∷◌, ◌++◌, sym, ap, ◌∙◌, subst, append_assoc, Some, None, inl, inr, Result, Refusal, BadCommand, Fault, Items, OneItem, item_fault, StandsForOne, Path, ItemTextsAreLines, ItemTextsHaveOneMeaning, EditedItemsAreOfLines, SplitsLeaveTheSteps, SplitItemsAreOfLines, TracesHaveOneList, RunsAreSound, Setting, Request, begin, put, delete, show, ask, deterministic, distance, refuse, Held, run_held, Answer, IsPut, Shows, IsDeterministicAnswer, IsAnswer, IsAnswerToAll, both, decided, refusing, replying, edit_of, edited_items, framed_answer, reply_text, greeting, session_numbers, lines_of, CanBeEdited, asks_distance, NoneAsksDistance, ItemEdit, Show, Measurements, Free, Detectors, Observables, Stabilisers, Circuit}
+use Rattle.stab_editor.proofs.Names.{◌≡◌, ℕ, Bool, true, false, List, [], ◌∷◌, ◌++◌, sym, ap, ◌∙◌, subst, append_assoc, Some, None, inl, inr, Result, Refusal, BadCommand, Fault, Items, OneItem, item_fault, StandsForOne, Path, ItemTextsAreLines, ItemTextsHaveOneMeaning, EditedItemsAreOfLines, SplitsLeaveTheSteps, SplitItemsAreOfLines, TracesHaveOneList, RunsAreSound, Environment, Request, begin, put, delete, show, ask, deterministic, distance, refuse, Held, run_held, Answer, IsPut, Shows, IsDeterministicAnswer, IsAnswer, IsAnswerToAll, both, decided, refusing, replying, edit_of, edited_items, counted_answer, reply_text, greeting, session_numbers, lines_of, CanBeEdited, asks_distance, NoneAsksDistance, ItemEdit, Show, Measurements, Free, Detectors, Observables, Stabilisers, Circuit}
 use Rattle.stab_edits.specs.declared.edit.Edit.TheVariants as circuit_edit
-use Rattle.stab_editor.proofs.AnswerExistLaws.{edit_keeps, puts_lines, puts_none, framed_keeps}
+use Rattle.stab_editor.proofs.AnswerExistLaws.{edit_keeps, puts_lines, puts_none, counted_keeps}
 use Rattle.stab_editor.proofs.DeterministicBitLaws.{one_deterministic_answer}
 
 -- a text stands for one item
@@ -22,7 +22,7 @@ one_put law kept held edited text a b (inr p) (inl q) = not_both text q.0 p.0 q.
 one_put law kept held edited text a b (inr p) (inr q) = q.2 ∙ ap (λ x. decided kept held (edited x)) (one_item law text p.0 q.0 p.1 q.1) ∙ sym p.2
 
 module _ (meanings : ItemTextsHaveOneMeaning) (lines : ItemTextsAreLines) (edits : EditedItemsAreOfLines) (steps : SplitsLeaveTheSteps)
-    (split_lines : SplitItemsAreOfLines) (sound : RunsAreSound) (one : TracesHaveOneList) (s : Setting) where
+    (split_lines : SplitItemsAreOfLines) (sound : RunsAreSound) (one : TracesHaveOneList) (s : Environment) where
   -- what is shown is one text
   one_text : (held : Held) (what : Show) (x y : List ℕ) → CanBeEdited s.qubits held.items → Shows s.qubits (run_held s held) held.items what x
       → Shows s.qubits (run_held s held) held.items what y → y ≡ x
@@ -38,11 +38,11 @@ module _ (meanings : ItemTextsHaveOneMeaning) (lines : ItemTextsAreLines) (edits
   -- a request has one answer
   one_answer : (held : Held) (r : Request) (a b : Answer) → CanBeEdited s.qubits held.items → asks_distance r ≡ false → IsAnswer s held r a → IsAnswer s held r b → b ≡ a
   one_answer held begin a b can no_distance p q = q ∙ sym p
-  one_answer held (put edit place text) a b can no_distance p q = one_put meanings s.framed held (λ item. edited_items s.qubits (edit_of edit place item) held.items) text a b p q
+  one_answer held (put edit place text) a b can no_distance p q = one_put meanings s.counted held (λ item. edited_items s.qubits (edit_of edit place item) held.items) text a b p q
   one_answer held (delete place) a b can no_distance p q = q ∙ sym p
-  one_answer held (show what) a b can no_distance p q = q.2 ∙ ap (λ l. replying held (reply_text s.framed l)) (one_text held what p.0 q.0 can p.1 q.1) ∙ sym p.2
+  one_answer held (show what) a b can no_distance p q = q.2 ∙ ap (λ l. replying held (reply_text s.counted l)) (one_text held what p.0 q.0 can p.1 q.1) ∙ sym p.2
   one_answer held (ask request) a b can no_distance p q = q ∙ sym p
-  one_answer held deterministic a b can no_distance p q = one_deterministic_answer s.framed held a b p q
+  one_answer held deterministic a b can no_distance p q = one_deterministic_answer s.counted held a b p q
   one_answer held (distance everywhere most) a b can no_distance p q = absurd (cc)
   one_answer held (refuse r) a b can no_distance p q = q ∙ sym p
 
@@ -52,26 +52,26 @@ module _ (meanings : ItemTextsHaveOneMeaning) (lines : ItemTextsAreLines) (edits
   keeps held a b same can = subst (λ (x : Answer). CanBeEdited s.qubits x.held.items) (sym same) can
 
   put_keeps : (held : Held) (how : ItemEdit) (place : Path) (text : List ℕ) (a : Answer) → CanBeEdited s.qubits held.items
-      → IsPut s.framed held (λ item. edited_items s.qubits (edit_of how place item) held.items) text a → CanBeEdited s.qubits a.held.items
+      → IsPut s.counted held (λ item. edited_items s.qubits (edit_of how place item) held.items) text a → CanBeEdited s.qubits a.held.items
   put_keeps held how place text a can (inl p) = keeps held a (refusing held p.0.refusal) p.2 can
   put_keeps held how place text a can (inr p) =
-      keeps held a (decided s.framed held (edited_items s.qubits (edit_of how place p.0) held.items)) p.2
-      (edit_keeps edits s.qubits (edit_of how place p.0) s.framed held (puts_lines lines text p.0 p.1 place how) can)
+      keeps held a (decided s.counted held (edited_items s.qubits (edit_of how place p.0) held.items)) p.2
+      (edit_keeps edits s.qubits (edit_of how place p.0) s.counted held (puts_lines lines text p.0 p.1 place how) can)
 
-  deterministic_keeps : (framed : Bool) (held : Held) (a : Answer) → CanBeEdited s.qubits held.items → IsDeterministicAnswer framed held a → CanBeEdited s.qubits a.held.items
+  deterministic_keeps : (counted : Bool) (held : Held) (a : Answer) → CanBeEdited s.qubits held.items → IsDeterministicAnswer counted held a → CanBeEdited s.qubits a.held.items
   deterministic_keeps false held a can p = keeps held a (refusing held BadCommand) p can
   deterministic_keeps true held a can p = keeps held a (replying held (reply_text true p.0)) p.2 can
 
   answer_keeps : (held : Held) (r : Request) (a : Answer) → CanBeEdited s.qubits held.items → asks_distance r ≡ false → IsAnswer s held r a → CanBeEdited s.qubits a.held.items
-  answer_keeps held begin a can no_distance p = keeps held a (replying held (greeting s.framed (session_numbers s.qubits (run_held s held) held.items))) p can
+  answer_keeps held begin a can no_distance p = keeps held a (replying held (greeting s.counted (session_numbers s.qubits (run_held s held) held.items))) p can
   answer_keeps held (put how place text) a can no_distance p = put_keeps held how place text a can p
   answer_keeps held (delete place) a can no_distance p =
-      keeps held a (decided s.framed held (edited_items s.qubits (circuit_edit.Delete place) held.items)) p
-      (edit_keeps edits s.qubits (circuit_edit.Delete place) s.framed held (puts_none place) can)
-  answer_keeps held (show what) a can no_distance p = keeps held a (replying held (reply_text s.framed p.0)) p.2 can
+      keeps held a (decided s.counted held (edited_items s.qubits (circuit_edit.Delete place) held.items)) p
+      (edit_keeps edits s.qubits (circuit_edit.Delete place) s.counted held (puts_none place) can)
+  answer_keeps held (show what) a can no_distance p = keeps held a (replying held (reply_text s.counted p.0)) p.2 can
   answer_keeps held (ask r) a can no_distance p =
-      keeps held a (framed_answer s.framed s.qubits (run_held s held) held r) p (framed_keeps steps split_lines s.framed s.qubits (run_held s held) held r can)
-  answer_keeps held deterministic a can no_distance p = deterministic_keeps s.framed held a can p
+      keeps held a (counted_answer s.counted s.qubits (run_held s held) held r) p (counted_keeps steps split_lines s.counted s.qubits (run_held s held) held r can)
+  answer_keeps held deterministic a can no_distance p = deterministic_keeps s.counted held a can p
   answer_keeps held (distance everywhere most) a can no_distance p = absurd (cc)
   answer_keeps held (refuse r) a can no_distance p = keeps held a (refusing held r) p can
 

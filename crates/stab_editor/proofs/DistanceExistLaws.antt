@@ -75,8 +75,8 @@ module _ (rows : CoinsHaveRows) (none : DeterministicHasNoDecider) (distances : 
       )
 
   -- so a script has an answer
-  pub distance_answered : (framed everywhere : Bool) (most : ℕ) (held : Held) → All (StepFits (qubits_of held.items)) (unroll held.items) → most < 2 ^ 63
-      → (a : Answer) × IsDistanceAnswer framed held (options_asked everywhere most) a × (a.held ≡ held)
+  pub distance_answered : (counted everywhere : Bool) (most : ℕ) (held : Held) → All (StepFits (qubits_of held.items)) (unroll held.items) → most < 2 ^ 63
+      → (a : Answer) × IsDistanceAnswer counted held (options_asked everywhere most) a × (a.held ≡ held)
   distance_answered false everywhere most held fits few = (refusing held BadCommand, refl, refl)
   distance_answered true everywhere most held fits few = by_found (distance_found everywhere most held.items fits few)
     where

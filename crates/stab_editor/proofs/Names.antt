@@ -6,7 +6,7 @@ pub use Rattle.std.proofs.lemmas.List.{append-nil, take_all, ext_get_or, take-ap
 pub use Rattle.std.specs.List.{slice_split}
 pub use Rattle.std.specs.Prelude.{All, IfOk, bytes_eq, IfErr}
 pub use Rattle.std.specs.Result.{IsErrAnd}
-pub use Rattle.stab_analysis.proofs.CheckLaws.{steps_counted}
+pub use Rattle.stab_items.proofs.CountLemmas.{steps_counted}
 pub use Rattle.stab_texts.proofs.RandomLaws.{first_random_is, deterministic_before, all_deterministic}
 pub use Rattle.stab_texts.specs.Deciders.{deciders}
 pub use Rattle.stab_texts.specs.Deterministic.{IsDeterministicText}
@@ -26,7 +26,7 @@ pub use Rattle.stab_edits.proofs.EditLemmas.{listed-entries, entries-listed}
 pub use Rattle.stab_circuit.specs.Circuits.{item_fault, StandsForOne}
 pub use Rattle.stab_edits.specs.Edits.{edited, list_verdict, verdict}
 pub use Rattle.stab_circuit.specs.Items.{Items, OneItem, done, before, listed, entries, depth}
-pub use Rattle.stab_circuit.specs.Laws.{AreOfLines, AreAlike, PutsLines, TextsAreLines, ItemTextsAreLines, ItemTextsHaveOneMeaning, EditedItemsAreOfLines, SplitsLeaveTheSteps, SplitItemsAreOfLines, LinesKeepQubitsApart}
+pub use Rattle.stab_circuit.specs.Laws.{AreOfLines, AreAlike, PutsLines, TextsAreLines, ItemTextsAreLines, ItemTextsHaveOneMeaning, EditedItemsAreOfLines, SplitsLeaveTheSteps, SplitItemsAreOfLines, LinesKeepQubitsDistinct}
 pub use Rattle.stab_edits.specs.Paths.{Path}
 pub use Rattle.stab_edits.specs.Places.{item_at}
 pub use Rattle.stab_circuit.specs.Prints.{printed}
@@ -69,16 +69,16 @@ pub use Rattle.stab_run.specs.ProgramStates.{StepFits}
 pub use Rattle.stab_run.specs.Runs.{State, run_of}
 pub use Rattle.stab_script.proofs.PlaceCountLaws.{place_of_session}
 pub use Rattle.stab_script.proofs.ReadingLaws.{read_append, read_none, opened_read}
-pub use Rattle.stab_script.proofs.TellingLaws.{answers_then, both_assoc, both_nothing, sitting_with}
-unfoldable pub use Rattle.stab_script.proofs.TellingLaws.{told_then, told_some_behind}
-pub use Rattle.stab_script.specs.Editors.{Sitting, Told, ToldSome, FlushFails, Sent, Finishes, sitting}
-pub use Rattle.stab_script.specs.FramedAnswers.{GivesText}
-pub use Rattle.stab_script.specs.FramedReplies.{reply_text, greeting, session_numbers, made_text, text_found}
-pub use Rattle.stab_script.specs.FramedRequests.{FramedRequest, mark, split, numbers, changed, changed_records, sign, item, counts, coin_table, why, alone, round_of, framed_split, framed_show}
+pub use Rattle.stab_script.proofs.ReportLaws.{answers_then, both_assoc, both_nothing, progress_with}
+unfoldable pub use Rattle.stab_script.proofs.ReportLaws.{reported_then, reported_some_after}
+pub use Rattle.stab_script.specs.Editors.{Progress, Reported, ReportedSome, FlushFails, Sent, Finishes, progress}
+pub use Rattle.stab_script.specs.CountedAnswers.{GivesText}
+pub use Rattle.stab_script.specs.CountedReplies.{reply_text, greeting, session_numbers, made_text, text_found}
+pub use Rattle.stab_script.specs.CountedRequests.{CountedRequest, mark, split, numbers, changed, changed_records, sign, item, counts, coin_table, why, alone, round_number_of, counted_split, counted_show}
 pub use Rattle.stab_script.specs.Replies.{ReplyBytes}
 pub use Rattle.stab_script.specs.Requests.{opened_in}
-pub use Rattle.stab_script.specs.ScriptWords.{Gathered, first_word, behind_word, is_nothing, is_place_number, place_of}
-pub use Rattle.stab_script.specs.Scripts.{Setting, Request, begin, put, delete, show, ask, deterministic, distance, refuse, Held, run_held, Answer, IsPut, Shows, IsDeterministicAnswer, IsDistanceAnswer, IsPlainAnswer, IsAnswer, IsAnswerToAll, options_asked, both, unless, judged, decided, refusing, replying, edit_of, edited_items, framed_shown, held_split, held_behind, shown_or_refused, framed_answer, put_at, delete_at, framed_of, distance_of, show_by, show_of, request_by, Gathering, ScriptReader, Reading, silent, line_ended, put_gathered, gathering_ended, begun, line_alone, gathered_with, line_behind, read_byte, read_last, closed, read_end, empty_reader, requests_of, opened, requests_in, most_script}
+pub use Rattle.stab_script.specs.ScriptWords.{Gathered, first_word, after_word, is_nothing, is_place_number, place_of}
+pub use Rattle.stab_script.specs.Scripts.{Environment, Request, begin, put, delete, show, ask, deterministic, distance, refuse, Held, run_held, Answer, IsPut, Shows, IsDeterministicAnswer, IsDistanceAnswer, IsPlainAnswer, IsAnswer, IsAnswerToAll, options_asked, both, unless, judged, decided, refusing, replying, edit_of, edited_items, counted_shown, held_split, held_after, shown_or_refused, counted_answer, put_at, delete_at, counted_of, distance_of, show_by, show_of, request_by, Gathering, ScriptReader, Reading, silent, line_ended, put_gathered, gathering_ended, begun, line_alone, gathered_with, line_after, read_byte, read_last, closed, read_end, empty_reader, requests_of, opened, requests_in, most_script}
 unfoldable pub use Rattle.stab_script.specs.Scripts.{request_of, read_line, read}
 pub use Rattle.stab_script.specs.Signs.{sign_in, sign_line, string_of_word}
 pub use Rattle.stab_script.specs.Watchers.{Asked, given_by, asked, Logs}
@@ -93,7 +93,7 @@ pub use Rattle.stab_session.specs.Sessions.{SessionState, IsSignIn}
 pub use Rattle.stab_tableau.proofs.TestLemmas.{same_test}
 pub use Rattle.stab_tableau.specs.Reduced.{TracesHaveReducedRows, TracesHaveOneList}
 pub use Rattle.stab_tableau.specs.Traces.{member}
-pub use Rattle.stab_editor.specs.ScriptEndings.{EndsOn, EndsEditBy, EndsPlainEdit, EndsEdit, setting_of, qubits_for, AnswersScript, BreaksOff, AnswersFront, EndsScript}
+pub use Rattle.stab_editor.specs.ScriptEndings.{EndsOn, EndsEditBy, EndsPlainEdit, EndsEdit, environment_of, qubits_for, AnswersScript, BreaksOff, AnswersFront, EndsScript}
 pub use Rattle.stab_editor.specs.ScriptLaws.{CanBeEdited, asks_distance, NoneAsksDistance}
 pub use Rattle.stab_editor.specs.ScriptTurns.{all_given, InTurn, AnswersInTurn, LogsInTurn, TakesTurns, EditsInTurn}
 pub use Rattle.stab_editor.specs.inner.SessionAnswers.{answered, held_of, session_run}

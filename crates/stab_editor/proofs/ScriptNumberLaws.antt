@@ -1,5 +1,5 @@
 -- Laws of numbers in scripts: each distance that a script asks for is up to a number of at most 18 digits.
-use Rattle.stab_editor.proofs.Names.{◌≡◌, ◌<◌, ◌^◌, ℕ, Bool, true, false, ◌==◌, nat_le, List, [], ◌∷◌, ◌++◌, length, refl, Option, Some, None, if◌then◌else◌, codes, bytes_eq, leb-true, BadCommand, content_of, ends_with_byte, is_number, value, and_left, and_right, eighteen_digits, Path, FramedRequest, alone, mark, round_of, framed_split, framed_show, Gathered, first_word, behind_word, is_nothing, is_place_number, place_of, Request, begin, put, delete, show, ask, deterministic, distance, refuse, put_at, delete_at, framed_of, distance_of, show_by, show_of, request_by, request_of, Gathering, ScriptReader, Reading, silent, line_ended, put_gathered, gathering_ended, begun, line_alone, gathered_with, line_behind, read_line, read_byte, read, read_last, closed, read_end, empty_reader, requests_of, ItemEdit, Insert, Replace, Measurements, Free, Detectors, Observables, Stabilisers, Circuit}
+use Rattle.stab_editor.proofs.Names.{◌≡◌, ◌<◌, ◌^◌, ℕ, Bool, true, false, ◌==◌, nat_le, List, [], ◌∷◌, ◌++◌, length, refl, Option, Some, None, if◌then◌else◌, codes, bytes_eq, leb-true, BadCommand, content_of, ends_with_byte, is_number, value, and_left, and_right, eighteen_digits, Path, CountedRequest, alone, mark, round_number_of, counted_split, counted_show, Gathered, first_word, after_word, is_nothing, is_place_number, place_of, Request, begin, put, delete, show, ask, deterministic, distance, refuse, put_at, delete_at, counted_of, distance_of, show_by, show_of, request_by, request_of, Gathering, ScriptReader, Reading, silent, line_ended, put_gathered, gathering_ended, begun, line_alone, gathered_with, line_after, read_line, read_byte, read, read_last, closed, read_end, empty_reader, requests_of, ItemEdit, Insert, Replace, Measurements, Free, Detectors, Observables, Stabilisers, Circuit}
 
 -- a request for a distance is for one of few errors
 abbrev pub AsksFew : Request → Type 0
@@ -29,11 +29,11 @@ delete_few : (place : Option Path) (text : List ℕ) → AsksFew (delete_at plac
 delete_few None text = tt
 delete_few (Some place) text = either (length text == 0) (delete place) (refuse BadCommand) tt tt
 
-framed_few : (request : Option FramedRequest) → AsksFew (framed_of request)
-framed_few None = tt
-framed_few (Some request) = tt
+counted_few : (request : Option CountedRequest) → AsksFew (counted_of request)
+counted_few None = tt
+counted_few (Some request) = tt
 
-distance_few : (word rest : List ℕ) → AsksFew (distance_of (round_of word) rest)
+distance_few : (word rest : List ℕ) → AsksFew (distance_of (round_number_of word) rest)
 distance_few word rest = by_number (is_place_number word) refl
   where
     by_number : (b : Bool) → is_place_number word ≡ b → AsksFew (distance_of (if b then Some (value word) else None) rest)
@@ -45,8 +45,8 @@ distance_few word rest = by_number (is_place_number word) refl
 
 show_by_few : (word rest : List ℕ) → AsksFew (show_by word rest)
 show_by_few word rest =
-    either (bytes_eq word (codes "distance")) (distance_of (round_of (first_word rest)) (behind_word rest)) (framed_of (framed_show word rest))
-    (distance_few (first_word rest) (behind_word rest)) (framed_few (framed_show word rest))
+    either (bytes_eq word (codes "distance")) (distance_of (round_number_of (first_word rest)) (after_word rest)) (counted_of (counted_show word rest))
+    (distance_few (first_word rest) (after_word rest)) (counted_few (counted_show word rest))
 
 show_few : (word : List ℕ) → AsksFew (show_of word)
 show_few word =
@@ -57,20 +57,20 @@ show_few word =
     (either (bytes_eq word (codes "stabilisers")) (show Stabilisers) _ tt
     (either (bytes_eq word (codes "circuit")) (show Circuit) _ tt
     (either (bytes_eq word (codes "deterministic")) deterministic _ tt
-    (show_by_few (first_word word) (behind_word word))))))))
+    (show_by_few (first_word word) (after_word word))))))))
 
 request_few : (content : List ℕ) → AsksFew (request_of content)
 unfolding request_of
-request_few content = by_word (first_word content) (behind_word content)
+request_few content = by_word (first_word content) (after_word content)
   where
     by_word : (word rest : List ℕ) → AsksFew (request_by word rest)
     by_word word rest =
-        either (bytes_eq word (codes "insert")) (put_at Insert (place_of (first_word rest)) (behind_word rest)) _ (put_few Insert (place_of (first_word rest)) (behind_word rest))
-        (either (bytes_eq word (codes "replace")) (put_at Replace (place_of (first_word rest)) (behind_word rest)) _ (put_few Replace (place_of (first_word rest)) (behind_word rest))
-        (either (bytes_eq word (codes "delete")) (delete_at (place_of (first_word rest)) (behind_word rest)) _ (delete_few (place_of (first_word rest)) (behind_word rest))
+        either (bytes_eq word (codes "insert")) (put_at Insert (place_of (first_word rest)) (after_word rest)) _ (put_few Insert (place_of (first_word rest)) (after_word rest))
+        (either (bytes_eq word (codes "replace")) (put_at Replace (place_of (first_word rest)) (after_word rest)) _ (put_few Replace (place_of (first_word rest)) (after_word rest))
+        (either (bytes_eq word (codes "delete")) (delete_at (place_of (first_word rest)) (after_word rest)) _ (delete_few (place_of (first_word rest)) (after_word rest))
         (either (bytes_eq word (codes "show")) (show_of rest) _ (show_few rest)
-        (either (bytes_eq word (codes "mark")) (framed_of (alone rest mark)) _ (framed_few (alone rest mark))
-        (either (bytes_eq word (codes "split")) (framed_of (framed_split rest)) (refuse BadCommand) (framed_few (framed_split rest)) tt)))))
+        (either (bytes_eq word (codes "mark")) (counted_of (alone rest mark)) _ (counted_few (alone rest mark))
+        (either (bytes_eq word (codes "split")) (counted_of (counted_split rest)) (refuse BadCommand) (counted_few (counted_split rest)) tt)))))
 
 -- what is read
 
@@ -104,13 +104,13 @@ ended_few g = (by_text g.text, tt)
     by_text None = tt
     by_text (Some text) = tt
 
-behind_few : (gathering : Option Gathering) (line : Gathered) → ReadsFew (line_behind gathering line)
-behind_few None line = alone_few line
-behind_few (Some g) line = let more = gathered_with g line in either_reads (more.opened == 0) (gathering_ended more) (line_ended (Some more) []) (ended_few more) tt
+after_few : (gathering : Option Gathering) (line : Gathered) → ReadsFew (line_after gathering line)
+after_few None line = alone_few line
+after_few (Some g) line = let more = gathered_with g line in either_reads (more.opened == 0) (gathering_ended more) (line_ended (Some more) []) (ended_few more) tt
 
 line_few : (reader : ScriptReader) → ReadsFew (read_line reader)
 unfolding read_line
-line_few reader = behind_few reader.gathering reader.line
+line_few reader = after_few reader.gathering reader.line
 
 read_few : (reader : ScriptReader) (bytes : List ℕ) → ReadsFew (read reader bytes)
 unfolding read

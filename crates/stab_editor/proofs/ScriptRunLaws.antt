@@ -1,174 +1,174 @@
 -- Laws of script runs: what was read and answered so far, and how a script ends from there.
-use Rattle.stab_editor.proofs.Names.{Answer, ◌≡◌, ◌≤◌, ◌<◌, ℕ, ◌+◌, ◌-◌, Bool, false, ◌||◌, List, [], ◌∷◌, ◌++◌, length, take, refl, sym, ap, ◌∙◌, subst, arith, append_assoc, length-append, Result, Ok, Err, inl, inr, append-nil, take_all, take-append-add, IsErrAnd, InputView, OutputView, Gave, GaveAndFailed, GaveAll, IsAtEnd, TooLong, ReadFault, Fault, whole, gave_none, gave_more, gave_and_failed, took_more, Items, Setting, Request, begin, opened, IsAnswerToAll, both, ScriptReader, Reading, read, read_end, requests_in, requests_of, empty_reader, most_script, AnswersScript, BreaksOff, AnswersFront, EndsScript, Sitting, Told, ToldSome, FlushFails, Sent, Finishes, read_append, read_none, answers_then, told_then, told_some_behind}
+use Rattle.stab_editor.proofs.Names.{Answer, ◌≡◌, ◌≤◌, ◌<◌, ℕ, ◌+◌, ◌-◌, Bool, false, ◌||◌, List, [], ◌∷◌, ◌++◌, length, take, refl, sym, ap, ◌∙◌, subst, arith, append_assoc, length-append, Result, Ok, Err, inl, inr, append-nil, take_all, take-append-add, IsErrAnd, InputView, OutputView, Gave, GaveAndFailed, GaveAll, IsAtEnd, TooLong, ReadFault, Fault, whole, gave_none, gave_more, gave_and_failed, took_more, Items, Environment, Request, begin, opened, IsAnswerToAll, both, ScriptReader, Reading, read, read_end, requests_in, requests_of, empty_reader, most_script, AnswersScript, BreaksOff, AnswersFront, EndsScript, Progress, Reported, ReportedSome, FlushFails, Sent, Finishes, read_append, read_none, answers_then, reported_then, reported_some_after}
 
--- the sitting before a script
-abbrev pub before_script : Setting → Items → Sitting
-before_script setting items = record { setting = setting; held = opened setting items; refused = false }
+-- the progress before a script
+abbrev pub before_script : Environment → Items → Progress
+before_script environment items = record { environment = environment; held = opened environment items; refused = false }
 
 -- what was read of a script so far, and answered
-pub record AnsweredSoFar (setting : Setting) (items : Items) (now : Sitting) (reader : ScriptReader) (taken : ℕ) (s s' : InputView) (o o' : OutputView) : Type 0 where
+pub record AnsweredSoFar (environment : Environment) (items : Items) (now : Progress) (reader : ScriptReader) (taken : ℕ) (s s' : InputView) (o o' : OutputView) : Type 0 where
   pub bytes : List ℕ
   pub gave : Gave s s' bytes
   pub counted : length bytes ≡ taken
   pub reading : reader ≡ (read empty_reader bytes).reader
-  pub told : Told (before_script setting items) now (requests_in bytes) o o'
+  pub reported : Reported (before_script environment items) now (requests_in bytes) o o'
 
 -- nothing was read yet, and the script's beginning was answered
-unfoldable pub so_far_none : (setting : Setting) (items : Items) (now : Sitting) (reader : ScriptReader) (s : InputView) (o o' : OutputView) → Told (before_script setting items) now (begin ∷ []) o o' → reader ≡ empty_reader
-    → AnsweredSoFar setting items now reader 0 s s o o'
-so_far_none setting items now reader s o o' told e = record {
+unfoldable pub so_far_none : (environment : Environment) (items : Items) (now : Progress) (reader : ScriptReader) (s : InputView) (o o' : OutputView) → Reported (before_script environment items) now (begin ∷ []) o o' → reader ≡ empty_reader
+    → AnsweredSoFar environment items now reader 0 s s o o'
+so_far_none environment items now reader s o o' reported e = record {
   bytes = [];
   gave = gave_none s;
   counted = refl;
   reading = e ∙ sym (ap (λ (r : Reading). r.reader) (read_none empty_reader));
-  told = subst (λ (r : Reading). Told (before_script setting items) now (begin ∷ r.requests) o o') (sym (read_none empty_reader)) told;
+  reported = subst (λ (r : Reading). Reported (before_script environment items) now (begin ∷ r.requests) o o') (sym (read_none empty_reader)) reported;
 }
 
 -- what bytes ask for after others
-pub behind_requests : (bytes piece : List ℕ) → requests_in (bytes ++ piece) ≡ requests_in bytes ++ (read (read empty_reader bytes).reader piece).requests
-behind_requests bytes piece = ap (λ (r : Reading). begin ∷ r.requests) (read_append empty_reader bytes piece)
+pub after_requests : (bytes piece : List ℕ) → requests_in (bytes ++ piece) ≡ requests_in bytes ++ (read (read empty_reader bytes).reader piece).requests
+after_requests bytes piece = ap (λ (r : Reading). begin ∷ r.requests) (read_append empty_reader bytes piece)
 
 -- a piece more was read and answered
-unfoldable pub told_more : {setting : Setting} {items : Items} {mid new : Sitting} {reader : ScriptReader} {o o' o'' : OutputView} (bytes piece : List ℕ)
-    → reader ≡ (read empty_reader bytes).reader → Told (before_script setting items) mid (requests_in bytes) o o' → Told mid new (read reader piece).requests o' o''
-    → Told (before_script setting items) new (requests_in (bytes ++ piece)) o o''
-told_more {setting} {items} {mid} {new} {reader} {o} {o'} {o''} bytes piece e before more =
-    let here : Told mid new (read (read empty_reader bytes).reader piece).requests o' o'' = record {
+unfoldable pub reported_more : {environment : Environment} {items : Items} {mid new : Progress} {reader : ScriptReader} {o o' o'' : OutputView} (bytes piece : List ℕ)
+    → reader ≡ (read empty_reader bytes).reader → Reported (before_script environment items) mid (requests_in bytes) o o' → Reported mid new (read reader piece).requests o' o''
+    → Reported (before_script environment items) new (requests_in (bytes ++ piece)) o o''
+reported_more {environment} {items} {mid} {new} {reader} {o} {o'} {o''} bytes piece e before more =
+    let here : Reported mid new (read (read empty_reader bytes).reader piece).requests o' o'' = record {
       answer = more.answer;
-      answers = subst (λ (d : ScriptReader). IsAnswerToAll mid.setting mid.held (read d piece).requests more.answer) e more.answers;
+      answers = subst (λ (d : ScriptReader). IsAnswerToAll mid.environment mid.held (read d piece).requests more.answer) e more.answers;
       took = more.took;
       leaves = more.leaves;
     } in
-    let all : Told (before_script setting items) new (requests_in bytes ++ (read (read empty_reader bytes).reader piece).requests) o o'' =
-    told_then (requests_in bytes) (read (read empty_reader bytes).reader piece).requests before here in
+    let all : Reported (before_script environment items) new (requests_in bytes ++ (read (read empty_reader bytes).reader piece).requests) o o'' =
+    reported_then (requests_in bytes) (read (read empty_reader bytes).reader piece).requests before here in
     record {
       answer = all.answer;
-      answers = subst (λ (l : List Request). IsAnswerToAll setting (opened setting items) l all.answer) (sym (behind_requests bytes piece)) all.answers;
+      answers = subst (λ (l : List Request). IsAnswerToAll environment (opened environment items) l all.answer) (sym (after_requests bytes piece)) all.answers;
       took = all.took;
       leaves = all.leaves;
     }
 
-unfoldable pub so_far_more : {setting : Setting} {items : Items} {mid new : Sitting} {reader reader' : ScriptReader} {taken : ℕ} {s s' s'' : InputView} {o o' o'' : OutputView} (piece : List ℕ) (taken' : ℕ)
-    → AnsweredSoFar setting items mid reader taken s s' o o' → Gave s' s'' piece → taken' ≡ taken + length piece
-    → reader' ≡ (read reader piece).reader → Told mid new (read reader piece).requests o' o''
-    → AnsweredSoFar setting items new reader' taken' s s'' o o''
-so_far_more {setting} {items} {mid} {new} {reader} {reader'} {taken} piece taken' before gave size e told = record {
+unfoldable pub so_far_more : {environment : Environment} {items : Items} {mid new : Progress} {reader reader' : ScriptReader} {taken : ℕ} {s s' s'' : InputView} {o o' o'' : OutputView} (piece : List ℕ) (taken' : ℕ)
+    → AnsweredSoFar environment items mid reader taken s s' o o' → Gave s' s'' piece → taken' ≡ taken + length piece
+    → reader' ≡ (read reader piece).reader → Reported mid new (read reader piece).requests o' o''
+    → AnsweredSoFar environment items new reader' taken' s s'' o o''
+so_far_more {environment} {items} {mid} {new} {reader} {reader'} {taken} piece taken' before gave size e reported = record {
   bytes = before.bytes ++ piece;
   gave = gave_more before.bytes piece before.gave gave;
   counted = length-append before.bytes piece ∙ ap (λ n. n + length piece) before.counted ∙ sym size;
   reading = e ∙ ap (λ (d : ScriptReader). (read d piece).reader) before.reading ∙ sym (ap (λ (r : Reading). r.reader) (read_append empty_reader before.bytes piece));
-  told = told_more before.bytes piece before.reading before.told told;
+  reported = reported_more before.bytes piece before.reading before.reported reported;
 }
 
 -- what is said of requests and their answer besides
-abbrev pub Said : Setting → Items → (List Request → Answer → Type 0) → List Request → Answer → Type 0
-Said setting items P requests a = IsAnswerToAll setting (opened setting items) requests a × P requests a
+abbrev pub Said : Environment → Items → (List Request → Answer → Type 0) → List Request → Answer → Type 0
+Said environment items P requests a = IsAnswerToAll environment (opened environment items) requests a × P requests a
 
 -- it holds of more requests, if the answer goes on
-abbrev pub Lasts : Setting → (List Request → Answer → Type 0) → Type 0
-Lasts setting P = (first rest : List Request) (a b : Answer) → P first a → IsAnswerToAll setting a.held rest b → P (first ++ rest) (both a b)
+abbrev pub Lasts : Environment → (List Request → Answer → Type 0) → Type 0
+Lasts environment P = (first rest : List Request) (a b : Answer) → P first a → IsAnswerToAll environment a.held rest b → P (first ++ rest) (both a b)
 
 -- so it holds of a piece more
-pub said_more : {setting : Setting} {items : Items} {mid new : Sitting} {reader : ScriptReader} {o o' o'' : OutputView} (P : List Request → Answer → Type 0) (bytes piece : List ℕ)
-    → Lasts setting P → (e : reader ≡ (read empty_reader bytes).reader) (before : Told (before_script setting items) mid (requests_in bytes) o o') (more : Told mid new (read reader piece).requests o' o'')
-    → P (requests_in bytes) before.answer → P (requests_in (bytes ++ piece)) (told_more bytes piece e before more).answer
-unfolding told_more told_then
-said_more {setting} {items} {mid} {new} {reader} P bytes piece lasts e before more p =
-    let at : IsAnswerToAll mid.setting mid.held (read (read empty_reader bytes).reader piece).requests more.answer =
-    subst (λ (d : ScriptReader). IsAnswerToAll mid.setting mid.held (read d piece).requests more.answer) e more.answers in
-    let here : IsAnswerToAll setting before.answer.held (read (read empty_reader bytes).reader piece).requests more.answer =
-    subst (λ (x : Sitting). IsAnswerToAll x.setting x.held (read (read empty_reader bytes).reader piece).requests more.answer) before.leaves at in
-    subst (λ (l : List Request). P l (both before.answer more.answer)) (sym (behind_requests bytes piece))
+pub said_more : {environment : Environment} {items : Items} {mid new : Progress} {reader : ScriptReader} {o o' o'' : OutputView} (P : List Request → Answer → Type 0) (bytes piece : List ℕ)
+    → Lasts environment P → (e : reader ≡ (read empty_reader bytes).reader) (before : Reported (before_script environment items) mid (requests_in bytes) o o') (more : Reported mid new (read reader piece).requests o' o'')
+    → P (requests_in bytes) before.answer → P (requests_in (bytes ++ piece)) (reported_more bytes piece e before more).answer
+unfolding reported_more reported_then
+said_more {environment} {items} {mid} {new} {reader} P bytes piece lasts e before more p =
+    let at : IsAnswerToAll mid.environment mid.held (read (read empty_reader bytes).reader piece).requests more.answer =
+    subst (λ (d : ScriptReader). IsAnswerToAll mid.environment mid.held (read d piece).requests more.answer) e more.answers in
+    let here : IsAnswerToAll environment before.answer.held (read (read empty_reader bytes).reader piece).requests more.answer =
+    subst (λ (x : Progress). IsAnswerToAll x.environment x.held (read (read empty_reader bytes).reader piece).requests more.answer) before.leaves at in
+    subst (λ (l : List Request). P l (both before.answer more.answer)) (sym (after_requests bytes piece))
     (lasts (requests_in bytes) (read (read empty_reader bytes).reader piece).requests before.answer more.answer p here)
 
--- and of some of them that were told, the last perhaps in part
-said_some : {setting : Setting} {items : Items} {now : Sitting} {o o' o'' : OutputView} (P : List Request → Answer → Type 0) (xs ys : List Request) (f : Fault) → Lasts setting P
-    → (before : Told (before_script setting items) now xs o o') (some : ToldSome now ys o' o'' f) → P xs before.answer
-    → P (told_some_behind xs ys f before some).first (told_some_behind xs ys f before some).answer
-unfolding told_some_behind
-said_some {setting} {items} P xs ys f lasts before some p =
-    let here : IsAnswerToAll setting before.answer.held some.first some.answer = subst (λ (x : Sitting). IsAnswerToAll x.setting x.held some.first some.answer) before.leaves some.answers in
+-- and of some of them that were reported, the last perhaps in part
+said_some : {environment : Environment} {items : Items} {now : Progress} {o o' o'' : OutputView} (P : List Request → Answer → Type 0) (xs ys : List Request) (f : Fault) → Lasts environment P
+    → (before : Reported (before_script environment items) now xs o o') (some : ReportedSome now ys o' o'' f) → P xs before.answer
+    → P (reported_some_after xs ys f before some).first (reported_some_after xs ys f before some).answer
+unfolding reported_some_after
+said_some {environment} {items} P xs ys f lasts before some p =
+    let here : IsAnswerToAll environment before.answer.held some.first some.answer = subst (λ (x : Progress). IsAnswerToAll x.environment x.held some.first some.answer) before.leaves some.answers in
     lasts xs some.first before.answer some.answer p here
 
 -- the same replies, if the requests are written otherwise
-abbrev some_same : {old : Sitting} {o o' : OutputView} {f : Fault} (xs ys : List Request) → ys ≡ xs → ToldSome old xs o o' f → ToldSome old ys o o' f
+abbrev some_same : {old : Progress} {o o' : OutputView} {f : Fault} (xs ys : List Request) → ys ≡ xs → ReportedSome old xs o o' f → ReportedSome old ys o o' f
 some_same xs ys e some = record { first = some.first; rest = some.rest; split = e ∙ some.split; answer = some.answer; answers = some.answers; cut = some.cut }
 
 -- the script's input failed
-pub script_failed : {setting : Setting} {items : Items} {now : Sitting} {reader : ScriptReader} {taken : ℕ} {s s' s'' : InputView} {o o' : OutputView} (P : List Request → Answer → Type 0) (f : Fault)
-    → (before : AnsweredSoFar setting items now reader taken s s' o o') → P (requests_in before.bytes) before.told.answer → taken ≤ most_script → GaveAndFailed s' s'' [] → f ≡ whole ReadFault
-    → AnswersFront (Said setting items P) s s'' o o' f
-script_failed {setting} {items} {now} P f before p few failed e =
+pub script_failed : {environment : Environment} {items : Items} {now : Progress} {reader : ScriptReader} {taken : ℕ} {s s' s'' : InputView} {o o' : OutputView} (P : List Request → Answer → Type 0) (f : Fault)
+    → (before : AnsweredSoFar environment items now reader taken s s' o o') → P (requests_in before.bytes) before.reported.answer → taken ≤ most_script → GaveAndFailed s' s'' [] → f ≡ whole ReadFault
+    → AnswersFront (Said environment items P) s s'' o o' f
+script_failed {environment} {items} {now} P f before p few failed e =
     let same : take most_script before.bytes ≡ before.bytes = take_all most_script before.bytes (omega (arith, before.counted)) in
     record {
       bytes = before.bytes;
       within = inl (e, gave_and_failed before.bytes before.gave failed, omega (arith, before.counted));
-      answer = before.told.answer;
-      answers = subst (λ (l : List ℕ). Said setting items P (requests_in l) before.told.answer) (sym same) (before.told.answers, p);
-      took = before.told.took;
+      answer = before.reported.answer;
+      answers = subst (λ (l : List ℕ). Said environment items P (requests_in l) before.reported.answer) (sym same) (before.reported.answers, p);
+      took = before.reported.took;
     }
 
 -- what first bytes of a script ask for comes first
-front_requests : (front behind : List ℕ) → (more : List Request) × (requests_of (front ++ behind) ≡ requests_in front ++ more)
-front_requests front behind =
-    let r = read empty_reader (front ++ behind) in
-    let later = (read (read empty_reader front).reader behind).requests in (
+front_requests : (front following : List ℕ) → (more : List Request) × (requests_of (front ++ following) ≡ requests_in front ++ more)
+front_requests front following =
+    let r = read empty_reader (front ++ following) in
+    let later = (read (read empty_reader front).reader following).requests in (
       later ++ (read_end r.reader).requests,
-      ap (λ l. l ++ (read_end r.reader).requests) (behind_requests front behind)
+      ap (λ l. l ++ (read_end r.reader).requests) (after_requests front following)
           ∙ append_assoc (requests_in front) later (read_end r.reader).requests,
     )
 
 -- the output failed, or memory was refused, in what some first bytes of the script ask for
-pub script_broke : (setting : Setting) (items : Items) (P : List Request → Answer → Type 0) (s s' : InputView) (o o' : OutputView) (f : Fault) (front behind : List ℕ)
-    → Gave s s' (front ++ behind) → (some : ToldSome (before_script setting items) (requests_in front) o o' f) → P some.first some.answer → BreaksOff (Said setting items P) s s' o o' f
-script_broke setting items P s s' o o' f front behind gave some p =
-    let more = front_requests front (behind ++ s'.unread) in
+pub script_broke : (environment : Environment) (items : Items) (P : List Request → Answer → Type 0) (s s' : InputView) (o o' : OutputView) (f : Fault) (front following : List ℕ)
+    → Gave s s' (front ++ following) → (some : ReportedSome (before_script environment items) (requests_in front) o o' f) → P some.first some.answer → BreaksOff (Said environment items P) s s' o o' f
+script_broke environment items P s s' o o' f front following gave some p =
+    let more = front_requests front (following ++ s'.unread) in
     record {
-      bytes = front ++ behind;
+      bytes = front ++ following;
       unread = s'.unread;
       gave = gave;
       left = λ h. refl;
       first = some.first;
       rest = some.rest ++ more.0;
-      split = ap requests_of (append_assoc front behind s'.unread) ∙ more.1 ∙ ap (λ l. l ++ more.0) some.split ∙ append_assoc some.first some.rest more.0;
+      split = ap requests_of (append_assoc front following s'.unread) ∙ more.1 ∙ ap (λ l. l ++ more.0) some.split ∙ append_assoc some.first some.rest more.0;
       answer = some.answer;
       answers = (some.answers, p);
       cut = inl some.cut;
     }
 
 -- the output failed, or memory was refused, before the script was read
-pub greeting_broke : (setting : Setting) (items : Items) {o o' : OutputView} (P : List Request → Answer → Type 0) (s : InputView) (f : Fault) → ((requests : List Request) (a : Answer) → P requests a)
-    → ToldSome (before_script setting items) (begin ∷ []) o o' f → BreaksOff (Said setting items P) s s o o' f
-greeting_broke setting items {o} {o'} P s f always some =
-    script_broke setting items P s s o o' f [] [] (gave_none s) (some_same (begin ∷ []) (requests_in []) (ap (λ (r : Reading). begin ∷ r.requests) (read_none empty_reader)) some) (always _ _)
+pub greeting_broke : (environment : Environment) (items : Items) {o o' : OutputView} (P : List Request → Answer → Type 0) (s : InputView) (f : Fault) → ((requests : List Request) (a : Answer) → P requests a)
+    → ReportedSome (before_script environment items) (begin ∷ []) o o' f → BreaksOff (Said environment items P) s s o o' f
+greeting_broke environment items {o} {o'} P s f always some =
+    script_broke environment items P s s o o' f [] [] (gave_none s) (some_same (begin ∷ []) (requests_in []) (ap (λ (r : Reading). begin ∷ r.requests) (read_none empty_reader)) some) (always _ _)
 
 -- the same, after what was answered so far
-pub broke_behind : {setting : Setting} {items : Items} {now : Sitting} {reader : ScriptReader} {taken : ℕ} {s s' s'' : InputView} {o o' o'' : OutputView} (P : List Request → Answer → Type 0) (f : Fault) (part behind : List ℕ)
-    → Lasts setting P → (before : AnsweredSoFar setting items now reader taken s s' o o') → P (requests_in before.bytes) before.told.answer → Gave s' s'' (part ++ behind) → ToldSome now (read reader part).requests o' o'' f
-    → BreaksOff (Said setting items P) s s'' o o'' f
-broke_behind {setting} {items} {now} {reader} {taken} {s} {s'} {s''} {o} {o'} {o''} P f part behind lasts before p gave some =
+pub broke_after : {environment : Environment} {items : Items} {now : Progress} {reader : ScriptReader} {taken : ℕ} {s s' s'' : InputView} {o o' o'' : OutputView} (P : List Request → Answer → Type 0) (f : Fault) (part following : List ℕ)
+    → Lasts environment P → (before : AnsweredSoFar environment items now reader taken s s' o o') → P (requests_in before.bytes) before.reported.answer → Gave s' s'' (part ++ following) → ReportedSome now (read reader part).requests o' o'' f
+    → BreaksOff (Said environment items P) s s'' o o'' f
+broke_after {environment} {items} {now} {reader} {taken} {s} {s'} {s''} {o} {o'} {o''} P f part following lasts before p gave some =
     let later : List Request = (read (read empty_reader before.bytes).reader part).requests in
-    let here : ToldSome now later o' o'' f = some_same (read reader part).requests later (sym (ap (λ (d : ScriptReader). (read d part).requests) before.reading)) some in
-    let all : ToldSome (before_script setting items) (requests_in before.bytes ++ later) o o'' f = told_some_behind (requests_in before.bytes) later f before.told here in
-    let whole_gave : Gave s s'' ((before.bytes ++ part) ++ behind) = subst (λ (l : List ℕ). Gave s s'' l) (sym (append_assoc before.bytes part behind)) (gave_more before.bytes (part ++ behind) before.gave gave) in
-    script_broke setting items P s s'' o o'' f (before.bytes ++ part) behind whole_gave
-    (some_same (requests_in before.bytes ++ later) (requests_in (before.bytes ++ part)) (behind_requests before.bytes part) all)
-    (said_some P (requests_in before.bytes) later f lasts before.told here p)
+    let here : ReportedSome now later o' o'' f = some_same (read reader part).requests later (sym (ap (λ (d : ScriptReader). (read d part).requests) before.reading)) some in
+    let all : ReportedSome (before_script environment items) (requests_in before.bytes ++ later) o o'' f = reported_some_after (requests_in before.bytes) later f before.reported here in
+    let whole_gave : Gave s s'' ((before.bytes ++ part) ++ following) = subst (λ (l : List ℕ). Gave s s'' l) (sym (append_assoc before.bytes part following)) (gave_more before.bytes (part ++ following) before.gave gave) in
+    script_broke environment items P s s'' o o'' f (before.bytes ++ part) following whole_gave
+    (some_same (requests_in before.bytes ++ later) (requests_in (before.bytes ++ part)) (after_requests before.bytes part) all)
+    (said_some P (requests_in before.bytes) later f lasts before.reported here p)
 
 -- the script goes past its limit
-pub script_too_long : {setting : Setting} {items : Items} {now new : Sitting} {reader : ScriptReader} {taken : ℕ} {s s' s'' : InputView} {o o' o'' : OutputView} (P : List Request → Answer → Type 0) (f : Fault) (piece part : List ℕ)
-    → Lasts setting P → (before : AnsweredSoFar setting items now reader taken s s' o o') → P (requests_in before.bytes) before.told.answer
+pub script_too_long : {environment : Environment} {items : Items} {now new : Progress} {reader : ScriptReader} {taken : ℕ} {s s' s'' : InputView} {o o' o'' : OutputView} (P : List Request → Answer → Type 0) (f : Fault) (piece part : List ℕ)
+    → Lasts environment P → (before : AnsweredSoFar environment items now reader taken s s' o o') → P (requests_in before.bytes) before.reported.answer
     → taken ≤ most_script → length piece ≤ 4096 → most_script - taken < length piece → part ≡ take (most_script - taken) piece
-    → Gave s' s'' piece → Told now new (read reader part).requests o' o'' → f ≡ whole TooLong
-    → AnswersFront (Said setting items P) s s'' o o'' f
-script_too_long {setting} {items} {now} {new} {reader} {taken} {s} {s'} {s''} {o} {o'} {o''} P f piece part lasts before p few size past is gave told e =
-    let all = told_more before.bytes part before.reading before.told told in
+    → Gave s' s'' piece → Reported now new (read reader part).requests o' o'' → f ≡ whole TooLong
+    → AnswersFront (Said environment items P) s s'' o o'' f
+script_too_long {environment} {items} {now} {new} {reader} {taken} {s} {s'} {s''} {o} {o'} {o''} P f piece part lasts before p few size past is gave reported e =
+    let all = reported_more before.bytes part before.reading before.reported reported in
     let cut : take most_script (before.bytes ++ piece) ≡ before.bytes ++ part = cut_at before.bytes piece taken before.counted few ∙ ap (λ l. before.bytes ++ l) (sym is) in
     record {
       bytes = before.bytes ++ piece;
       within = inr (e, gave_more before.bytes piece before.gave gave, omega (arith, length-append before.bytes piece, before.counted), omega (arith, length-append before.bytes piece, before.counted));
       answer = all.answer;
-      answers = subst (λ (l : List ℕ). Said setting items P (requests_in l) all.answer) (sym cut) (all.answers, said_more P before.bytes part lasts before.reading before.told told p);
+      answers = subst (λ (l : List ℕ). Said environment items P (requests_in l) all.answer) (sym cut) (all.answers, said_more P before.bytes part lasts before.reading before.reported reported p);
       took = all.took;
     }
   where
@@ -187,41 +187,41 @@ gave_whole {a} {b} {c} bytes before end = record {
 }
 
 -- an answer to what the end asks for, from where the script was read to
-last_answers : {setting : Setting} {items : Items} {now : Sitting} {reader : ScriptReader} {taken : ℕ} {s s' : InputView} {o o' : OutputView} (before : AnsweredSoFar setting items now reader taken s s' o o') (answer : Answer)
-    → IsAnswerToAll now.setting now.held (read_end reader).requests answer → IsAnswerToAll setting before.told.answer.held (read_end (read empty_reader before.bytes).reader).requests answer
-last_answers {setting} {items} {now} {reader} before answer answers =
-    let at : IsAnswerToAll now.setting now.held (read_end (read empty_reader before.bytes).reader).requests answer =
-    subst (λ (d : ScriptReader). IsAnswerToAll now.setting now.held (read_end d).requests answer) before.reading answers in
-    subst (λ (x : Sitting). IsAnswerToAll x.setting x.held (read_end (read empty_reader before.bytes).reader).requests answer) before.told.leaves at
+last_answers : {environment : Environment} {items : Items} {now : Progress} {reader : ScriptReader} {taken : ℕ} {s s' : InputView} {o o' : OutputView} (before : AnsweredSoFar environment items now reader taken s s' o o') (answer : Answer)
+    → IsAnswerToAll now.environment now.held (read_end reader).requests answer → IsAnswerToAll environment before.reported.answer.held (read_end (read empty_reader before.bytes).reader).requests answer
+last_answers {environment} {items} {now} {reader} before answer answers =
+    let at : IsAnswerToAll now.environment now.held (read_end (read empty_reader before.bytes).reader).requests answer =
+    subst (λ (d : ScriptReader). IsAnswerToAll now.environment now.held (read_end d).requests answer) before.reading answers in
+    subst (λ (x : Progress). IsAnswerToAll x.environment x.held (read_end (read empty_reader before.bytes).reader).requests answer) before.reported.leaves at
 
 -- the script came to its end, and its last replies were sent
-ended_sent : {setting : Setting} {items : Items} {now : Sitting} {reader : ScriptReader} {taken : ℕ} {s s' s'' : InputView} {o o' o'' : OutputView} (P : List Request → Answer → Type 0) (refused : Bool)
-    → Lasts setting P → (before : AnsweredSoFar setting items now reader taken s s' o o') → P (requests_in before.bytes) before.told.answer
+ended_sent : {environment : Environment} {items : Items} {now : Progress} {reader : ScriptReader} {taken : ℕ} {s s' s'' : InputView} {o o' o'' : OutputView} (P : List Request → Answer → Type 0) (refused : Bool)
+    → Lasts environment P → (before : AnsweredSoFar environment items now reader taken s s' o o') → P (requests_in before.bytes) before.reported.answer
     → taken ≤ most_script → GaveAll s' s'' [] → Sent now (read_end reader).requests o' o'' refused
-    → AnswersScript (Said setting items P) s s'' o o'' refused
-ended_sent {setting} {items} {now} {reader} {taken} {s} {s'} {s''} {o} {o'} {o''} P refused lasts before p few gave sent =
+    → AnswersScript (Said environment items P) s s'' o o'' refused
+ended_sent {environment} {items} {now} {reader} {taken} {s} {s'} {s''} {o} {o'} {o''} P refused lasts before p few gave sent =
     let last = (read_end (read empty_reader before.bytes).reader).requests in
-    let a = before.told.answer in
+    let a = before.reported.answer in
     let here = last_answers before sent.answer sent.answers in
     record {
       script = before.bytes;
       within = omega (arith, before.counted);
       gave = gave_whole before.bytes before.gave gave;
       answer = both a sent.answer;
-      answers = (answers_then setting (opened setting items) (requests_in before.bytes) last a sent.answer before.told.answers here, lasts (requests_in before.bytes) last a sent.answer p here);
-      sent = record { between = sent.sent.between; took = took_more a.reply sent.answer.reply before.told.took sent.sent.took; flushed = sent.sent.flushed };
-      flag = sent.flag ∙ ap (λ (x : Sitting). x.refused || sent.answer.refused) before.told.leaves;
+      answers = (answers_then environment (opened environment items) (requests_in before.bytes) last a sent.answer before.reported.answers here, lasts (requests_in before.bytes) last a sent.answer p here);
+      sent = record { between = sent.sent.between; took = took_more a.reply sent.answer.reply before.reported.took sent.sent.took; flushed = sent.sent.flushed };
+      flag = sent.flag ∙ ap (λ (x : Progress). x.refused || sent.answer.refused) before.reported.leaves;
     }
 
 -- the script came to its end, and its last replies were cut off
-ended_cut : {setting : Setting} {items : Items} {now : Sitting} {reader : ScriptReader} {taken : ℕ} {s s' s'' : InputView} {o o' o'' : OutputView} (P : List Request → Answer → Type 0) (f : Fault)
-    → Lasts setting P → (before : AnsweredSoFar setting items now reader taken s s' o o') → P (requests_in before.bytes) before.told.answer
-    → GaveAll s' s'' [] → ToldSome now (read_end reader).requests o' o'' f
-    → BreaksOff (Said setting items P) s s'' o o'' f
-ended_cut {setting} {items} {now} {reader} {taken} {s} {s'} {s''} {o} {o'} {o''} P f lasts before p gave ends =
+ended_cut : {environment : Environment} {items : Items} {now : Progress} {reader : ScriptReader} {taken : ℕ} {s s' s'' : InputView} {o o' o'' : OutputView} (P : List Request → Answer → Type 0) (f : Fault)
+    → Lasts environment P → (before : AnsweredSoFar environment items now reader taken s s' o o') → P (requests_in before.bytes) before.reported.answer
+    → GaveAll s' s'' [] → ReportedSome now (read_end reader).requests o' o'' f
+    → BreaksOff (Said environment items P) s s'' o o'' f
+ended_cut {environment} {items} {now} {reader} {taken} {s} {s'} {s''} {o} {o'} {o''} P f lasts before p gave ends =
     let last : List Request = (read_end (read empty_reader before.bytes).reader).requests in
-    let some : ToldSome now last o' o'' f = some_same (read_end reader).requests last (sym (ap (λ (d : ScriptReader). (read_end d).requests) before.reading)) ends in
-    let all = told_some_behind (requests_in before.bytes) last f before.told some in
+    let some : ReportedSome now last o' o'' f = some_same (read_end reader).requests last (sym (ap (λ (d : ScriptReader). (read_end d).requests) before.reading)) ends in
+    let all = reported_some_after (requests_in before.bytes) last f before.reported some in
     record {
       bytes = before.bytes;
       unread = [];
@@ -231,18 +231,18 @@ ended_cut {setting} {items} {now} {reader} {taken} {s} {s'} {s''} {o} {o'} {o''}
       rest = all.rest;
       split = ap requests_of (append-nil before.bytes) ∙ all.split;
       answer = all.answer;
-      answers = (all.answers, said_some P (requests_in before.bytes) last f lasts before.told some p);
+      answers = (all.answers, said_some P (requests_in before.bytes) last f lasts before.reported some p);
       cut = inl all.cut;
     }
 
 -- the script came to its end, and the flush failed
-ended_unflushed : {setting : Setting} {items : Items} {now : Sitting} {reader : ScriptReader} {taken : ℕ} {s s' s'' : InputView} {o o' o'' : OutputView} (P : List Request → Answer → Type 0) (f : Fault)
-    → Lasts setting P → (before : AnsweredSoFar setting items now reader taken s s' o o') → P (requests_in before.bytes) before.told.answer
+ended_unflushed : {environment : Environment} {items : Items} {now : Progress} {reader : ScriptReader} {taken : ℕ} {s s' s'' : InputView} {o o' o'' : OutputView} (P : List Request → Answer → Type 0) (f : Fault)
+    → Lasts environment P → (before : AnsweredSoFar environment items now reader taken s s' o o') → P (requests_in before.bytes) before.reported.answer
     → GaveAll s' s'' [] → FlushFails now (read_end reader).requests o' o'' f
-    → BreaksOff (Said setting items P) s s'' o o'' f
-ended_unflushed {setting} {items} {now} {reader} {taken} {s} {s'} {s''} {o} {o'} {o''} P f lasts before p gave failed =
+    → BreaksOff (Said environment items P) s s'' o o'' f
+ended_unflushed {environment} {items} {now} {reader} {taken} {s} {s'} {s''} {o} {o'} {o''} P f lasts before p gave failed =
     let last = (read_end (read empty_reader before.bytes).reader).requests in
-    let a = before.told.answer in
+    let a = before.reported.answer in
     let here = last_answers before failed.answer failed.answers in
     record {
       bytes = before.bytes;
@@ -253,15 +253,15 @@ ended_unflushed {setting} {items} {now} {reader} {taken} {s} {s'} {s''} {o} {o'}
       rest = [];
       split = ap requests_of (append-nil before.bytes) ∙ sym (append-nil (requests_of before.bytes));
       answer = both a failed.answer;
-      answers = (answers_then setting (opened setting items) (requests_in before.bytes) last a failed.answer before.told.answers here, lasts (requests_in before.bytes) last a failed.answer p here);
-      cut = inr (failed.fault, record { between = failed.failed.between; took = took_more a.reply failed.answer.reply before.told.took failed.failed.took; failed = failed.failed.failed });
+      answers = (answers_then environment (opened environment items) (requests_in before.bytes) last a failed.answer before.reported.answers here, lasts (requests_in before.bytes) last a failed.answer p here);
+      cut = inr (failed.fault, record { between = failed.failed.between; took = took_more a.reply failed.answer.reply before.reported.took failed.failed.took; failed = failed.failed.failed });
     }
 
 -- the script came to its end
-pub script_ended : {setting : Setting} {items : Items} {now : Sitting} {reader : ScriptReader} {taken : ℕ} {s s' s'' : InputView} {o o' : OutputView} (P : List Request → Answer → Type 0) (o'' : OutputView) (r : Result Bool Fault)
-    → Lasts setting P → (before : AnsweredSoFar setting items now reader taken s s' o o') → P (requests_in before.bytes) before.told.answer
+pub script_ended : {environment : Environment} {items : Items} {now : Progress} {reader : ScriptReader} {taken : ℕ} {s s' s'' : InputView} {o o' : OutputView} (P : List Request → Answer → Type 0) (o'' : OutputView) (r : Result Bool Fault)
+    → Lasts environment P → (before : AnsweredSoFar environment items now reader taken s s' o o') → P (requests_in before.bytes) before.reported.answer
     → taken ≤ most_script → GaveAll s' s'' [] → Finishes now (read_end reader).requests o' o'' r
-    → EndsScript (Said setting items P) s s'' o o'' r
+    → EndsScript (Said environment items P) s s'' o o'' r
 script_ended P o'' (Ok refused) lasts before p few gave ends = ended_sent P refused lasts before p few gave ends
 script_ended P o'' (Err f) lasts before p few gave (inl some) = inl (ended_cut P f lasts before p gave some)
 script_ended P o'' (Err f) lasts before p few gave (inr failed) = inl (ended_unflushed P f lasts before p gave failed)

@@ -11,7 +11,7 @@ use Rattle.stab_circuit.specs.Steps.{qubits_of, check_within}
 use Rattle.stab_texts.specs.Endings.{Ends, TookAndFlushed, TookAndFlushFailed}
 use Rattle.stab_texts.specs.Sources.{coins_of_shot}
 use Rattle.stab_jobs.specs.declared.job.Source.{Source}
-use Rattle.stab_script.specs.Scripts.{Setting, Request, Held, Answer, IsPlainAnswer, IsAnswer, AreAnswers, opened, requests_in, requests_of, most_script}
+use Rattle.stab_script.specs.Scripts.{Environment, Request, Held, Answer, IsPlainAnswer, IsAnswer, AreAnswers, opened, requests_in, requests_of, most_script}
 
 -- the script was read to its end: its answer was written and flushed once, and the call says whether a line was refused
 pub record AnswersScript (answered : List Request → Answer → Type 0) (s s' : InputView) (o o' : OutputView) (refused : Bool) : Type 0 where
@@ -61,9 +61,9 @@ abbrev pub qubits_for : Option ℕ → Items → ℕ
 qubits_for (Some n) items = n
 qubits_for None items = qubits_of items
 
--- what a script is answered by: whether it is framed, the qubits, and the coins of shot 0
-abbrev pub setting_of : (framed : Bool) → Option ℕ → Source → Items → Setting
-setting_of framed qubits source items = record { framed = framed; qubits = qubits_for qubits items; coins = coins_of_shot source 0 }
+-- what a script is answered by: whether it is counted, the qubits, and the coins of shot 0
+abbrev pub environment_of : (counted : Bool) → Option ℕ → Source → Items → Environment
+environment_of counted qubits source items = record { counted = counted; qubits = qubits_for qubits items; coins = coins_of_shot source 0 }
 
 -- how a call ends that opens a session on these items and answers a script so: the items, on this many qubits, or memory were refused before the
 -- script was read, or the script ended
@@ -73,16 +73,16 @@ EndsOn answered n items s s' o o' (Err f) =
     (IsCallFault (check_within n items) f × (s' ≡ s) × (o' ≡ o)) ⊎ ((check_within n items ≡ None) × EndsScript answered s s' o o' (Err f))
 
 -- how a call of `edit` ends that answers requests so, over the inputs of a circuit and of a script, and an output
-abbrev pub EndsEditBy : (Setting → Held → Request → Answer → Type 0) → (framed : Bool) → Option ℕ → Source → InputView → InputView → InputView → InputView → OutputView → OutputView → Result Bool Fault → Type 0
-EndsEditBy answers framed qubits source i i' s s' o o' r =
+abbrev pub EndsEditBy : (Environment → Held → Request → Answer → Type 0) → (counted : Bool) → Option ℕ → Source → InputView → InputView → InputView → InputView → OutputView → OutputView → Result Bool Fault → Type 0
+EndsEditBy answers counted qubits source i i' s s' o o' r =
     Ends (λ _. (s' ≡ s) × (o' ≡ o))
-    (λ items. EndsOn (AreAnswers (answers (setting_of framed qubits source items)) (opened (setting_of framed qubits source items) items)) (qubits_for qubits items) items s s' o o')
+    (λ items. EndsOn (AreAnswers (answers (environment_of counted qubits source items)) (opened (environment_of counted qubits source items) items)) (qubits_for qubits items) items s s' o o')
     i i' r
 
--- How a call of `edit` ends whose script is not framed.
+-- How a call of `edit` ends whose script is not counted.
 abbrev pub EndsPlainEdit : Option ℕ → Source → InputView → InputView → InputView → InputView → OutputView → OutputView → Result Bool Fault → Type 0
 EndsPlainEdit qubits source i i' s s' o o' r = EndsEditBy IsPlainAnswer false qubits source i i' s s' o o' r
 
 -- How a call of `edit` ends.
-abbrev pub EndsEdit : (framed : Bool) → Option ℕ → Source → InputView → InputView → InputView → InputView → OutputView → OutputView → Result Bool Fault → Type 0
-EndsEdit framed qubits source i i' s s' o o' r = EndsEditBy IsAnswer framed qubits source i i' s s' o o' r
+abbrev pub EndsEdit : (counted : Bool) → Option ℕ → Source → InputView → InputView → InputView → InputView → OutputView → OutputView → Result Bool Fault → Type 0
+EndsEdit counted qubits source i i' s s' o o' r = EndsEditBy IsAnswer counted qubits source i i' s s' o o' r

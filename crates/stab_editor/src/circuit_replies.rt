@@ -7,7 +7,7 @@ ghost use Rattle.stab_edits.specs.Views.{circuit_items};
 ghost use Rattle.stab_results.specs.declared.format.Format.TheVariants.{F01};
 ghost use Rattle.stab_texts.specs.Deterministic.{IsDeterministicText};
 ghost use Rattle.stab_script.specs.CoinReplies.{coins_shown, why_shown};
-ghost use Rattle.stab_script.specs.FramedAnswers.{GivesText};
+ghost use Rattle.stab_script.specs.CountedAnswers.{GivesText};
 ghost use Rattle.stab_script.specs.Scripts.{options_asked};
 ghost use Rattle.stab_editor.specs.inner.Distances.{ShowsDistance};
 

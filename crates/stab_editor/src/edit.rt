@@ -21,14 +21,14 @@ use std::alloc::Global;
 /// exactly the first written, to what was handed over before, in whole lines, after what the output
 /// held at first.
 ///
-/// A framed script is one that a program drives: it is greeted by a line of numbers before it is
+/// A counted script is one that a program drives: it is greeted by a line of numbers before it is
 /// read, each reply that is no refusal says first how many lines it has, and it may ask for more.
 pub fn run_edit_watched<I: Input, S: Input, O: Output, W: Watcher<S, O>>(
     alloc: Global,
     circuit_input: &mut I,
     script_input: &mut S,
     out: &mut O,
-    framed: bool,
+    counted: bool,
     qubits: Option<usize>,
     stride: usize,
     source: &Source,
@@ -36,8 +36,8 @@ pub fn run_edit_watched<I: Input, S: Input, O: Output, W: Watcher<S, O>>(
     requires in_range { IfSome qubits (λ n. n ≤ most_qubits) }
     requires stride_above { 1 ≤ stride }
     requires stride_within { stride ≤ most_stride }
-    ensures ends { EndsEdit framed qubits source.now (I.seen circuit_input.old) (I.seen circuit_input.new) (S.seen script_input.old) (S.seen script_input.new) (O.seen out.old) (O.seen out.new) result }
-    ensures turns { EditsInTurn framed qubits source.now (I.seen circuit_input.old) (I.seen circuit_input.new) (S.seen script_input.old) (S.seen script_input.new) (O.seen out.old) (O.seen out.new) (W.log script_input.old) (W.log script_input.new) result }
+    ensures ends { EndsEdit counted qubits source.now (I.seen circuit_input.old) (I.seen circuit_input.new) (S.seen script_input.old) (S.seen script_input.new) (O.seen out.old) (O.seen out.new) result }
+    ensures turns { EditsInTurn counted qubits source.now (I.seen circuit_input.old) (I.seen circuit_input.new) (S.seen script_input.old) (S.seen script_input.new) (O.seen out.old) (O.seen out.new) (W.log script_input.old) (W.log script_input.new) result }
 {
     let circuit = read_circuit(alloc, circuit_input)?;
     let n = match qubits {
@@ -49,7 +49,7 @@ pub fn run_edit_watched<I: Input, S: Input, O: Output, W: Watcher<S, O>>(
             let coins = SeedCoins::new(*seed, 0);
             edit_circuit::<SeedCoins, S, O, W>(
                 alloc,
-                framed,
+                counted,
                 circuit,
                 n,
                 stride,
@@ -62,7 +62,7 @@ pub fn run_edit_watched<I: Input, S: Input, O: Output, W: Watcher<S, O>>(
             let coins = ListCoins::new(list.as_slice());
             edit_circuit::<ListCoins, S, O, W>(
                 alloc,
-                framed,
+                counted,
                 circuit,
                 n,
                 stride,

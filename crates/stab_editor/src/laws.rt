@@ -5,7 +5,7 @@ ghost use Rattle.stab_editor.specs.ScriptLaws.{AnswersBeginWithAnswers, Circuits
 use stab_analysis::laws::{coins_have_rows, deterministic_has_no_decider};
 use stab_circuit::laws::{
     edited_items_are_of_lines, item_texts_are_lines, item_texts_have_one_meaning,
-    lines_keep_qubits_apart, split_items_are_of_lines, splits_leave_the_steps, texts_are_lines,
+    lines_keep_qubits_distinct, split_items_are_of_lines, splits_leave_the_steps, texts_are_lines,
 };
 use stab_errors::laws::circuits_have_distances;
 use stab_regions::fault_laws::deterministic_parities;
@@ -35,7 +35,7 @@ pub fn scripts_have_an_answer()
     coins_have_rows();
     deterministic_has_no_decider();
     circuits_have_distances();
-    lines_keep_qubits_apart();
+    lines_keep_qubits_distinct();
 }
 
 /// A script that asks for no distance has at most one answer, on all items that can be edited. Of a distance several sets of

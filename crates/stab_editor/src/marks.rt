@@ -24,16 +24,16 @@ pub(crate) fn mark_at<C: Coins>(alloc: Global, session: &Session<C>) -> Result<M
     Ok(mark)
 }
 
-/// The mark before a script, which only a framed one has.
+/// The mark before a script, which only a counted one has.
 pub(crate) fn first_mark<C: Coins>(
     alloc: Global,
-    framed: bool,
+    counted: bool,
     session: &Session<C>,
 ) -> Result<MarkedBits, Fault>
-    ensures value { IfOk result (λ m. mark_shown m ≡ first_mark_of framed (session_run C.sequence session.now)) }
+    ensures value { IfOk result (λ m. mark_shown m ≡ first_mark_of counted (session_run C.sequence session.now)) }
     ensures err { IfErr result (λ f. f ≡ whole OutOfMemory) }
 {
-    if framed {
+    if counted {
         return mark_at(alloc, session);
     }
     Ok(MarkedBits::none(alloc))

@@ -6,7 +6,7 @@ use stab_io::{Fault, Refusal};
 use stab_results::Kinds;
 use stab_run::Coins;
 use stab_script::{
-    Answer, Answered, FramedRequest, ItemEdit, MarkedBits, Reply, Request, SessionNumbers, Show,
+    Answer, Answered, CountedRequest, ItemEdit, MarkedBits, Reply, Request, SessionNumbers, Show,
     memory, push_changes, read_string, show_place,
 };
 use stab_session::{Edit, Session};
@@ -16,7 +16,7 @@ use std::alloc::Global;
 /// A session that answers requests.
 pub(crate) struct SessionAnswers<C: Coins> {
     alloc: Global,
-    framed: bool,
+    counted: bool,
     session: Session<C>,
     mark: MarkedBits,
 }
@@ -26,7 +26,7 @@ impl<C: Coins> Drop for SessionAnswers<C> {
     fn drop(self) {
         let SessionAnswers {
             alloc: _,
-            framed: _,
+            counted: _,
             session: _,
             mark: _,
         } = self;
@@ -45,32 +45,32 @@ impl<C: Coins> SessionAnswers<C> {
     ghost use Rattle.stab_texts.specs.FaultLines.{refused_text};
     ghost use Rattle.stab_texts.specs.Coins.{bits_of};
     ghost use Rattle.stab_script.specs.Changes.{changed_text, changed_records_text, mark_shown};
-    ghost use Rattle.stab_script.specs.FramedReplies.{text_found, session_numbers, reply_text};
+    ghost use Rattle.stab_script.specs.CountedReplies.{text_found, session_numbers, reply_text};
     ghost use Rattle.stab_script.specs.CoinReplies.{coins_shown, why_shown};
     ghost use Rattle.stab_script.specs.PlaceCounts.{place_text};
     ghost use Rattle.stab_script.specs.Signs.{string_of_word, sign_in, sign_line};
-    ghost use Rattle.stab_script.specs.Scripts.{IsDistanceAnswer, IsPut, IsDeterministicAnswer, decided, edited_items, edit_of, first_mark as first_mark_of, framed_answer, framed_shown, held_behind, held_split, options_asked};
-    ghost use Rattle.stab_script.specs.FramedAnswers.{GivesText};
-    ghost use Rattle.stab_script.specs.Requests.{framed_asked};
-    ghost use Rattle.stab_editor.specs.inner.SessionAnswers.{ShowsOf, session_setting, session_run, held_of, answered};
+    ghost use Rattle.stab_script.specs.Scripts.{IsDistanceAnswer, IsPut, IsDeterministicAnswer, decided, edited_items, edit_of, first_mark as first_mark_of, counted_answer, counted_shown, held_after, held_split, options_asked};
+    ghost use Rattle.stab_script.specs.CountedAnswers.{GivesText};
+    ghost use Rattle.stab_script.specs.Requests.{counted_asked};
+    ghost use Rattle.stab_editor.specs.inner.SessionAnswers.{ShowsOf, session_environment, session_run, held_of, answered};
     ghost use Rattle.stab_script.specs.declared.request.Show.TheVariants.{Stabilisers};
 
-    /// A session that answers requests; one of a framed script has its first mark. Fault
+    /// A session that answers requests; one of a counted script has its first mark. Fault
     /// `OutOfMemory` alone.
     pub(crate) fn new(
         alloc: Global,
-        framed: bool,
+        counted: bool,
         session: Session<C>,
     ) -> Result<SessionAnswers<C>, Fault>
         ensures session { IfOk result (λ a. a.session ≡ session) }
-        ensures framed { IfOk result (λ a. a.framed ≡ framed) }
-        ensures mark { IfOk result (λ a. mark_shown a.mark ≡ first_mark_of framed (session_run C.sequence session)) }
+        ensures counted { IfOk result (λ a. a.counted ≡ counted) }
+        ensures mark { IfOk result (λ a. mark_shown a.mark ≡ first_mark_of counted (session_run C.sequence session)) }
         ensures err { IfErr result (λ f. f ≡ whole OutOfMemory) }
     {
-        let mark = first_mark(alloc, framed, &session)?;
+        let mark = first_mark(alloc, counted, &session)?;
         Ok(SessionAnswers {
             alloc,
-            framed,
+            counted,
             session,
             mark,
         })
@@ -79,7 +79,7 @@ impl<C: Coins> SessionAnswers<C> {
     /// The reduced rows of the session's group.
     fn show_rows(&mut self) -> Result<Reply, Fault>
         ensures session { self.new.session ≡ self.old.session }
-        ensures framed { self.new.framed ≡ self.old.framed }
+        ensures counted { self.new.counted ≡ self.old.counted }
         ensures mark { self.new.mark ≡ self.old.mark }
         ensures shows { IfOk result (λ r. ShowsOf C.sequence self.old.session Stabilisers r.written) }
         ensures err { IfErr result (λ f. f ≡ whole OutOfMemory) }
@@ -93,7 +93,7 @@ impl<C: Coins> SessionAnswers<C> {
     /// What `show` writes of the session.
     fn show(&mut self, what: Show) -> Result<Reply, Fault>
         ensures session { self.new.session ≡ self.old.session }
-        ensures framed { self.new.framed ≡ self.old.framed }
+        ensures counted { self.new.counted ≡ self.old.counted }
         ensures mark { self.new.mark ≡ self.old.mark }
         ensures shows { IfOk result (λ r. ShowsOf C.sequence self.old.session what r.written) }
         ensures err { IfErr result (λ f. f ≡ whole OutOfMemory) }
@@ -109,7 +109,7 @@ impl<C: Coins> SessionAnswers<C> {
     }
 
     /// The numbers of the session.
-    #[tactic(auto, using(crate::proofs::SessionAnswerLaws::steps_told))]
+    #[tactic(auto, using(crate::proofs::SessionAnswerLaws::steps_reported))]
     fn numbers(&self) -> SessionNumbers
         ensures value { result ≡ session_numbers self.now.session.qubits (session_run C.sequence self.now.session) self.now.session.items }
     {
@@ -159,7 +159,7 @@ impl<C: Coins> SessionAnswers<C> {
     /// The sign of the string of a word.
     fn sign(&mut self, word: &[u8]) -> Result<Reply, Refusal>
         ensures session { self.new.session ≡ self.old.session }
-        ensures framed { self.new.framed ≡ self.old.framed }
+        ensures counted { self.new.counted ≡ self.old.counted }
         ensures mark { self.new.mark ≡ self.old.mark }
         ensures shows { GivesText result (text_found (λ p. sign_line (sign_in (member (session_run C.sequence self.old.session).trace) p)) (string_of_word self.old.session.qubits word.now)) }
     {
@@ -204,7 +204,7 @@ impl<C: Coins> SessionAnswers<C> {
     /// Counts changes from now on.
     fn mark(&mut self) -> Result<Reply, Fault>
         ensures session { self.new.session ≡ self.old.session }
-        ensures framed { self.new.framed ≡ self.old.framed }
+        ensures counted { self.new.counted ≡ self.old.counted }
         ensures mark { OnOk result (mark_shown self.new.mark ≡ bits_of (session_run C.sequence self.old.session)) }
         ensures kept { OnErr result (self.new.mark ≡ self.old.mark) }
         ensures written { IfOk result (λ r. r.written ≡ []) }
@@ -216,7 +216,7 @@ impl<C: Coins> SessionAnswers<C> {
 
     /// Splits a round off the block at a place.
     fn split(&mut self, place: Path, round: u64) -> Result<Reply, Refusal>
-        ensures setting { session_setting C.sequence self.new.framed self.new.session ≡ session_setting C.sequence self.old.framed self.old.session }
+        ensures environment { session_environment C.sequence self.new.counted self.new.session ≡ session_environment C.sequence self.old.counted self.old.session }
         ensures held { OnOk result (held_of self.new.session self.new.mark ≡ held_split (held_of self.old.session self.old.mark) (split_list place round (entries self.old.session.items))) }
         ensures kept { OnErr result (held_of self.new.session self.new.mark ≡ held_of self.old.session self.old.mark) }
         ensures shows { GivesText result (text_found (λ list. []) (split_list place round (entries self.old.session.items))) }
@@ -227,40 +227,40 @@ impl<C: Coins> SessionAnswers<C> {
         }
     }
 
-    /// What only a framed script is shown.
-    fn show_framed(&mut self, request: &FramedRequest) -> Result<Reply, Refusal>
-        ensures setting { session_setting C.sequence self.new.framed self.new.session ≡ session_setting C.sequence self.old.framed self.old.session }
+    /// What only a counted script is shown.
+    fn show_counted(&mut self, request: &CountedRequest) -> Result<Reply, Refusal>
+        ensures environment { session_environment C.sequence self.new.counted self.new.session ≡ session_environment C.sequence self.old.counted self.old.session }
         ensures kept { OnErr result (held_of self.new.session self.new.mark ≡ held_of self.old.session self.old.mark) }
-        ensures held { OnOk result (held_of self.new.session self.new.mark ≡ held_behind (session_run C.sequence self.old.session) (held_of self.old.session self.old.mark) (framed_asked request.now)) }
-        ensures shows { GivesText result (framed_shown self.old.session.qubits (session_run C.sequence self.old.session) (held_of self.old.session self.old.mark) (framed_asked request.now)) }
+        ensures held { OnOk result (held_of self.new.session self.new.mark ≡ held_after (session_run C.sequence self.old.session) (held_of self.old.session self.old.mark) (counted_asked request.now)) }
+        ensures shows { GivesText result (counted_shown self.old.session.qubits (session_run C.sequence self.old.session) (held_of self.old.session self.old.mark) (counted_asked request.now)) }
     {
         match request {
-            FramedRequest::Mark => memory(self.mark()),
-            FramedRequest::Split { place, round } => self.split(*place, *round),
-            FramedRequest::Numbers => memory(Reply::numbers(self.alloc, self.numbers())),
-            FramedRequest::Changed => memory(self.changed()),
-            FramedRequest::ChangedRecords => memory(self.changed_records()),
-            FramedRequest::Sign(word) => self.sign(word.as_slice()),
-            FramedRequest::Item(place) => self.item(*place),
-            FramedRequest::Place(place) => self.place(*place),
-            FramedRequest::Coins => memory(self.coins()),
-            FramedRequest::Why(bit) => self.why(*bit),
+            CountedRequest::Mark => memory(self.mark()),
+            CountedRequest::Split { place, round } => self.split(*place, *round),
+            CountedRequest::Numbers => memory(Reply::numbers(self.alloc, self.numbers())),
+            CountedRequest::Changed => memory(self.changed()),
+            CountedRequest::ChangedRecords => memory(self.changed_records()),
+            CountedRequest::Sign(word) => self.sign(word.as_slice()),
+            CountedRequest::Item(place) => self.item(*place),
+            CountedRequest::Place(place) => self.place(*place),
+            CountedRequest::Coins => memory(self.coins()),
+            CountedRequest::Why(bit) => self.why(*bit),
         }
     }
 
-    /// The answer to what only a framed script may ask for.
-    #[tactic(auto, using(crate::proofs::SessionAnswerLaws::told_framed, crate::proofs::SessionAnswerLaws::framed_refused))]
-    fn answer_framed(&mut self, request: &FramedRequest) -> Result<Answered, Fault>
-        ensures setting { OnOk result (session_setting C.sequence self.new.framed self.new.session ≡ session_setting C.sequence self.old.framed self.old.session) }
-        ensures answers { IfOk result (λ a. answered (held_of self.new.session self.new.mark) a.reply.written a.refused ≡ framed_answer self.old.framed self.old.session.qubits (session_run C.sequence self.old.session) (held_of self.old.session self.old.mark) (framed_asked request.now)) }
+    /// The answer to what only a counted script may ask for.
+    #[tactic(auto, using(crate::proofs::SessionAnswerLaws::reported_counted, crate::proofs::SessionAnswerLaws::counted_refused))]
+    fn answer_counted(&mut self, request: &CountedRequest) -> Result<Answered, Fault>
+        ensures environment { OnOk result (session_environment C.sequence self.new.counted self.new.session ≡ session_environment C.sequence self.old.counted self.old.session) }
+        ensures answers { IfOk result (λ a. answered (held_of self.new.session self.new.mark) a.reply.written a.refused ≡ counted_answer self.old.counted self.old.session.qubits (session_run C.sequence self.old.session) (held_of self.old.session self.old.mark) (counted_asked request.now)) }
         ensures err { IfErr result (λ f. f ≡ whole OutOfMemory) }
     {
-        if !self.framed {
+        if !self.counted {
             return self.refuse(Refusal::BadCommand);
         }
-        match self.show_framed(request) {
+        match self.show_counted(request) {
             Ok(reply) => Ok(Answered {
-                reply: reply.told(self.alloc, true)?,
+                reply: reply.reported(self.alloc, true)?,
                 refused: false,
             }),
             Err(refusal) => {
@@ -270,34 +270,36 @@ impl<C: Coins> SessionAnswers<C> {
         }
     }
 
-    /// The answer to a request for the bits that are the same for all random bits, which only a framed
+    /// The answer to a request for the bits that are the same for all random bits, which only a counted
     /// script may make.
     #[tactic(auto, using(stab_script::proofs::PlaceCountLaws::session_checked))]
     fn answer_deterministic(&self) -> Result<Answered, Fault>
-        ensures answers { IfOk result (λ a. IsDeterministicAnswer self.now.framed (held_of self.now.session self.now.mark) (answered (held_of self.now.session self.now.mark) a.reply.written a.refused)) }
+        ensures answers { IfOk result (λ a. IsDeterministicAnswer self.now.counted (held_of self.now.session self.now.mark) (answered (held_of self.now.session self.now.mark) a.reply.written a.refused)) }
         ensures err { IfErr result (λ f. f ≡ whole OutOfMemory) }
     {
-        if !self.framed {
+        if !self.counted {
             return self.refuse(Refusal::BadCommand);
         }
         Ok(Answered {
-            reply: show_deterministic(self.alloc, self.session.circuit())?.told(self.alloc, true)?,
+            reply: show_deterministic(self.alloc, self.session.circuit())?.reported(
+                self.alloc, true,
+            )?,
             refused: false,
         })
     }
 
-    /// The answer to a request for a distance, which only a framed script may make.
-    #[tactic(auto, using(stab_script::proofs::PlaceCountLaws::session_checked, crate::proofs::DistanceLaws::distance_told, crate::proofs::DistanceLaws::distance_refused))]
+    /// The answer to a request for a distance, which only a counted script may make.
+    #[tactic(auto, using(stab_script::proofs::PlaceCountLaws::session_checked, crate::proofs::DistanceLaws::distance_reported, crate::proofs::DistanceLaws::distance_refused))]
     fn answer_distance(&self, everywhere: bool, most: usize) -> Result<Answered, Fault>
-        ensures answers { IfOk result (λ a. IsDistanceAnswer self.now.framed (held_of self.now.session self.now.mark) (options_asked everywhere most) (answered (held_of self.now.session self.now.mark) a.reply.written a.refused)) }
+        ensures answers { IfOk result (λ a. IsDistanceAnswer self.now.counted (held_of self.now.session self.now.mark) (options_asked everywhere most) (answered (held_of self.now.session self.now.mark) a.reply.written a.refused)) }
         ensures err { IfErr result (λ f. f ≡ whole OutOfMemory) }
     {
-        if !self.framed {
+        if !self.counted {
             return self.refuse(Refusal::BadCommand);
         }
         match show_distance(self.alloc, self.session.circuit(), everywhere, most) {
             Ok(reply) => Ok(Answered {
-                reply: reply.told(self.alloc, true)?,
+                reply: reply.reported(self.alloc, true)?,
                 refused: false,
             }),
             Err(refusal) => {
@@ -325,13 +327,13 @@ impl<C: Coins> SessionAnswers<C> {
 
     /// Makes an edit.
     fn apply(&mut self, edit: Edit) -> Result<Answered, Fault>
-        ensures setting { OnOk result (session_setting C.sequence self.new.framed self.new.session ≡ session_setting C.sequence self.old.framed self.old.session) }
-        ensures answers { IfOk result (λ a. answered (held_of self.new.session self.new.mark) a.reply.written a.refused ≡ decided self.old.framed (held_of self.old.session self.old.mark) (edited_items self.old.session.qubits edit self.old.session.items)) }
+        ensures environment { OnOk result (session_environment C.sequence self.new.counted self.new.session ≡ session_environment C.sequence self.old.counted self.old.session) }
+        ensures answers { IfOk result (λ a. answered (held_of self.new.session self.new.mark) a.reply.written a.refused ≡ decided self.old.counted (held_of self.old.session self.old.mark) (edited_items self.old.session.qubits edit self.old.session.items)) }
         ensures err { IfErr result (λ f. f ≡ whole OutOfMemory) }
     {
         match self.session.apply(edit) {
             Ok(_) => {
-                let reply = Reply::ok(self.alloc, self.framed)?;
+                let reply = Reply::ok(self.alloc, self.counted)?;
                 Ok(Answered {
                     reply,
                     refused: false,
@@ -346,8 +348,8 @@ impl<C: Coins> SessionAnswers<C> {
 
     /// Makes an edit that puts in an item.
     fn put_item(&mut self, edit: ItemEdit, place: Path, item: Item) -> Result<Answered, Fault>
-        ensures setting { OnOk result (session_setting C.sequence self.new.framed self.new.session ≡ session_setting C.sequence self.old.framed self.old.session) }
-        ensures answers { IfOk result (λ a. answered (held_of self.new.session self.new.mark) a.reply.written a.refused ≡ decided self.old.framed (held_of self.old.session self.old.mark) (edited_items self.old.session.qubits (edit_of edit place item) self.old.session.items)) }
+        ensures environment { OnOk result (session_environment C.sequence self.new.counted self.new.session ≡ session_environment C.sequence self.old.counted self.old.session) }
+        ensures answers { IfOk result (λ a. answered (held_of self.new.session self.new.mark) a.reply.written a.refused ≡ decided self.old.counted (held_of self.old.session self.old.mark) (edited_items self.old.session.qubits (edit_of edit place item) self.old.session.items)) }
         ensures err { IfErr result (λ f. f ≡ whole OutOfMemory) }
     {
         match edit {
@@ -358,8 +360,8 @@ impl<C: Coins> SessionAnswers<C> {
 
     /// Makes an edit that puts in the item of a text.
     fn put(&mut self, edit: ItemEdit, place: Path, text: &[u8]) -> Result<Answered, Fault>
-        ensures setting { OnOk result (session_setting C.sequence self.new.framed self.new.session ≡ session_setting C.sequence self.old.framed self.old.session) }
-        ensures answers { IfOk result (λ a. IsPut self.old.framed (held_of self.old.session self.old.mark) (λ item. edited_items self.old.session.qubits (edit_of edit place item) self.old.session.items) text.now (answered (held_of self.new.session self.new.mark) a.reply.written a.refused)) }
+        ensures environment { OnOk result (session_environment C.sequence self.new.counted self.new.session ≡ session_environment C.sequence self.old.counted self.old.session) }
+        ensures answers { IfOk result (λ a. IsPut self.old.counted (held_of self.old.session self.old.mark) (λ item. edited_items self.old.session.qubits (edit_of edit place item) self.old.session.items) text.now (answered (held_of self.new.session self.new.mark) a.reply.written a.refused)) }
         ensures err { IfErr result (λ f. f ≡ whole OutOfMemory) }
     {
         match read_item(self.alloc, text) {
@@ -376,25 +378,25 @@ impl<C: Coins> SessionAnswers<C> {
 }
 
 impl<C: Coins> Answer for SessionAnswers<C> {
-    ghost use Rattle.stab_editor.specs.inner.SessionAnswers.{session_setting, held_of};
+    ghost use Rattle.stab_editor.specs.inner.SessionAnswers.{session_environment, held_of};
 
-    ghost setting = { λ a. session_setting C.sequence a.framed a.session };
+    ghost environment = { λ a. session_environment C.sequence a.counted a.session };
 
     ghost held = { λ a. held_of a.session a.mark };
 
     fn answer(&mut self, request: Request) -> Result<Answered, Fault> {
         match request {
             Request::Begin => Ok(Answered {
-                reply: Reply::greeting(self.alloc, self.framed, self.numbers())?,
+                reply: Reply::greeting(self.alloc, self.counted, self.numbers())?,
                 refused: false,
             }),
             Request::Put { edit, place, text } => self.put(edit, place, text.as_slice()),
             Request::Delete { place } => self.apply(Edit::Delete { place }),
             Request::Show(what) => Ok(Answered {
-                reply: self.show(what)?.told(self.alloc, self.framed)?,
+                reply: self.show(what)?.reported(self.alloc, self.counted)?,
                 refused: false,
             }),
-            Request::Framed(request) => self.answer_framed(&request),
+            Request::Counted(request) => self.answer_counted(&request),
             Request::Deterministic => self.answer_deterministic(),
             Request::Distance { everywhere, most } => self.answer_distance(everywhere, most),
             Request::Refuse(refusal) => self.refuse(refusal),

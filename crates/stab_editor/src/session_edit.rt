@@ -20,7 +20,7 @@ use std::alloc::Global;
 /// The most bytes of a script.
 const MOST_SCRIPT: usize = 67_108_864;
 
-/// Reads a script to its end, and writes the reply to each request before it reads on. A framed one
+/// Reads a script to its end, and writes the reply to each request before it reads on. A counted one
 /// is greeted first.
 pub(crate) fn run_script<A: Answer, S: Input, O: Output, W: Watcher<S, O>>(
     alloc: Global,
@@ -28,12 +28,12 @@ pub(crate) fn run_script<A: Answer, S: Input, O: Output, W: Watcher<S, O>>(
     script: &mut S,
     out: &mut O,
 ) -> Result<bool, Fault>
-    requires opened { A.held answers ≡ opened (A.setting answers) (A.held answers).items }
-    ensures ends { EndsScript (IsAnswerToAll (A.setting answers) (opened (A.setting answers) (A.held answers).items)) (S.seen script.old) (S.seen script.new) (O.seen out.old) (O.seen out.new) result }
-    ensures turns { TakesTurns (A.setting answers) (A.held answers).items (S.seen script.old) (S.seen script.new) (O.seen out.old) (O.seen out.new) (W.log script.old) (W.log script.new) result }
+    requires opened { A.held answers ≡ opened (A.environment answers) (A.held answers).items }
+    ensures ends { EndsScript (IsAnswerToAll (A.environment answers) (opened (A.environment answers) (A.held answers).items)) (S.seen script.old) (S.seen script.new) (O.seen out.old) (O.seen out.new) result }
+    ensures turns { TakesTurns (A.environment answers) (A.held answers).items (S.seen script.old) (S.seen script.new) (O.seen out.old) (O.seen out.new) (W.log script.old) (W.log script.new) result }
 {
     let mut editor = Editor::new(alloc, answers);
-    editor.tell_request(out, Request::Begin)?;
+    editor.report_request(out, Request::Begin)?;
     let mut buf = [0u8; 4096];
     let mut taken = 0;
     'reads: loop {
@@ -80,7 +80,7 @@ fn open_session<C: Coins>(
 }
 
 /// Opens a session of a circuit on n qubits, and answers a script on it, each reply before it reads on,
-/// with each read made by a watcher. A framed script is greeted first.
+/// with each read made by a watcher. A counted script is greeted first.
 ///
 /// True if a line was refused. Faults: those of the circuit on this many qubits, with the script
 /// unread and the output untouched; `ReadFault` if the script's input failed and `TooLong` for a script
@@ -88,7 +88,7 @@ fn open_session<C: Coins>(
 /// if the output failed, and `OutOfMemory`, both after a prefix of all replies.
 pub fn edit_circuit<C: Coins, S: Input, O: Output, W: Watcher<S, O>>(
     alloc: Global,
-    framed: bool,
+    counted: bool,
     circuit: Circuit,
     n: usize,
     stride: usize,
@@ -99,10 +99,10 @@ pub fn edit_circuit<C: Coins, S: Input, O: Output, W: Watcher<S, O>>(
     requires in_range { n ≤ most_qubits }
     requires stride_above { 1 ≤ stride }
     requires stride_within { stride ≤ most_stride }
-    ensures ends { EndsOn (IsAnswerToAll (record { framed = framed; qubits = n; coins = C.sequence coins }) (opened (record { framed = framed; qubits = n; coins = C.sequence coins }) (circuit_items circuit))) n (circuit_items circuit) (S.seen script.old) (S.seen script.new) (O.seen out.old) (O.seen out.new) result }
-    ensures turns { ((script.new ≡ script.old) × (out.new ≡ out.old)) ⊎ TakesTurns (record { framed = framed; qubits = n; coins = C.sequence coins }) (circuit_items circuit) (S.seen script.old) (S.seen script.new) (O.seen out.old) (O.seen out.new) (W.log script.old) (W.log script.new) result }
+    ensures ends { EndsOn (IsAnswerToAll (record { counted = counted; qubits = n; coins = C.sequence coins }) (opened (record { counted = counted; qubits = n; coins = C.sequence coins }) (circuit_items circuit))) n (circuit_items circuit) (S.seen script.old) (S.seen script.new) (O.seen out.old) (O.seen out.new) result }
+    ensures turns { ((script.new ≡ script.old) × (out.new ≡ out.old)) ⊎ TakesTurns (record { counted = counted; qubits = n; coins = C.sequence coins }) (circuit_items circuit) (S.seen script.old) (S.seen script.new) (O.seen out.old) (O.seen out.new) (W.log script.old) (W.log script.new) result }
 {
     let session = open_session(alloc, circuit, n, stride, coins)?;
-    let answers = SessionAnswers::new(alloc, framed, session)?;
+    let answers = SessionAnswers::new(alloc, counted, session)?;
     run_script::<SessionAnswers<C>, S, O, W>(alloc, answers, script, out)
 }

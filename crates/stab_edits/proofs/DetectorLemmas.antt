@@ -11,8 +11,8 @@ found (Some ks) e = refl
 all_front : (x : OneItem) (xs : List OneItem) → list_all detects (x ∷ xs) ≡ true → detects x ≡ true
 all_front x xs e = grind arith
 
-all_behind : (x : OneItem) (xs : List OneItem) → list_all detects (x ∷ xs) ≡ true → list_all detects xs ≡ true
-all_behind x xs e = grind arith
+all_after : (x : OneItem) (xs : List OneItem) → list_all detects (x ∷ xs) ≡ true → list_all detects xs ≡ true
+all_after x xs e = grind arith
 
 -- each has one step
 detector_steps : (xs : List OneItem) → list_all detects xs ≡ true → unroll (listed xs) ≡ map detector (map lookbacks_at xs)
@@ -20,7 +20,7 @@ detector_steps [] e = refl
 detector_steps (x ∷ xs) e =
     unroll_before x (listed xs)
     ∙ ap (λ l. l ++ unroll (listed xs)) (detector_step x (lookbacks_at x) (found (detector_of x) (all_front x xs e)))
-    ∙ ap (λ l. detector (lookbacks_at x) ∷ l) (detector_steps xs (all_behind x xs e))
+    ∙ ap (λ l. detector (lookbacks_at x) ∷ l) (detector_steps xs (all_after x xs e))
 
 -- the front of a part of a list, and what is after it
 front_of_part : {X : Type 0} (n m : ℕ) (ys : List X) → ys ≡ take n (take m ys) ++ drop (length (take n (take m ys))) ys
@@ -44,10 +44,10 @@ pub detectors_taken : (w : Walk) (seen : List OneItem) (ds : Detectors) (most : 
 detectors_taken w seen ds most given part e =
     let xs = w.top.items.now in
     let n = length (lookbacks_of ds) in
-    let behind = unroll (listed (drop (w.top.place + n) xs)) in
+    let following = unroll (listed (drop (w.top.place + n) xs)) in
     let cut : drop w.top.place xs ≡ ds.items.now ++ drop (w.top.place + n) xs =
     front_from xs seen ds.items.now w.top.place most n part e
     ∙ ap (λ k. ds.items.now ++ drop (w.top.place + k) xs) (sym (length-map ds.items.now lookbacks_at)) in
-    let here : unroll (listed (drop w.top.place xs)) ≡ map detector (lookbacks_of ds) ++ behind =
-    ap (λ l. unroll (listed l)) cut ∙ steps-append ds.items.now (drop (w.top.place + n) xs) ∙ ap (λ l. l ++ behind) (detector_steps ds.items.now ds.all) in
+    let here : unroll (listed (drop w.top.place xs)) ≡ map detector (lookbacks_of ds) ++ following =
+    ap (λ l. unroll (listed l)) cut ∙ steps-append ds.items.now (drop (w.top.place + n) xs) ∙ ap (λ l. l ++ following) (detector_steps ds.items.now ds.all) in
     items_taken w n (map detector (lookbacks_of ds)) given here

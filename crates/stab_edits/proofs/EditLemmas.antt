@@ -1,5 +1,5 @@
 -- Edits of lists of items, and the steps that they leave.
-use Rattle.stab_edits.proofs.Names.{◌≡◌, ◌≤◌, ◌<◌, refl, ap, sym, ◌∙◌, subst, ℕ, ◌+◌, suc, zero, Bool, true, false, List, [], ◌∷◌, ◌++◌, length, take, drop, set, arith, append_assoc, nat_le, nat_lt, if◌then◌else◌, Option, Some, None, Result, Ok, Err, ◌⊎◌, inl, inr, set_split, take-append-drop, drop_at, take_at, length-take-le, length-append, drop-set-lt, insert, remove, slice_get, slice_get_within, Refusal, PlaceOutOfRange, Edit, Insert, Replace, Delete, Items, OneItem, operation, repeat, done, next, block, before, listed, entries, Step, unroll, rounds, with_item, rebuilt, edited_inside, edit_path, changed, edited_in, edited, inner, steps_in, steps_before, behind_taken, behind_put, outermost, first_changed, old_end, new_end, BeginsWith, LeavesTheRest, listed-append, unroll-join}
+use Rattle.stab_edits.proofs.Names.{◌≡◌, ◌≤◌, ◌<◌, refl, ap, sym, ◌∙◌, subst, ℕ, ◌+◌, suc, zero, Bool, true, false, List, [], ◌∷◌, ◌++◌, length, take, drop, set, arith, append_assoc, nat_le, nat_lt, if◌then◌else◌, Option, Some, None, Result, Ok, Err, ◌⊎◌, inl, inr, set_split, take-append-drop, drop_at, take_at, length-take-le, length-append, drop-set-lt, insert, remove, slice_get, slice_get_within, Refusal, PlaceOutOfRange, Edit, Insert, Replace, Delete, Items, OneItem, operation, repeat, done, next, block, before, listed, entries, Step, unroll, rounds, with_item, rebuilt, edited_inside, edit_path, changed, edited_in, edited, inner, steps_in, steps_before, after_taken, after_put, outermost, first_changed, old_end, new_end, BeginsWith, LeavesTheRest, listed-append, unroll-join}
 
 pub entries-before : (x : OneItem) (xs : Items) → entries (before x xs) ≡ x ∷ entries xs
 entries-before (operation op) xs = refl
@@ -33,10 +33,10 @@ put_in (Insert at x) = x ∷ []
 put_in (Replace at x) = x ∷ []
 put_in (Delete at) = []
 
-pub behind_put_is : (edit : Edit) → behind_put edit ≡ (edit_path edit).place + length (put_in edit)
-behind_put_is (Insert at x) = refl
-behind_put_is (Replace at x) = refl
-behind_put_is (Delete at) = omega arith
+pub after_put_is : (edit : Edit) → after_put edit ≡ (edit_path edit).place + length (put_in edit)
+after_put_is (Insert at x) = refl
+after_put_is (Replace at x) = refl
+after_put_is (Delete at) = omega arith
 
 pub if_ok : {A B : Type 0} (c : Bool) (a b : A) (r : B) → (if c then Ok a else Err r) ≡ Ok b → (c ≡ true) × (a ≡ b)
 if_ok true a b r e = (refl, cc)
@@ -53,7 +53,7 @@ next_place p = omega arith
 
 -- a list that is changed, in parts
 pub changed_split : (edit : Edit) (xs ys : List OneItem) → changed edit xs ≡ Ok ys
-    → ((edit_path edit).place ≤ length xs) × (ys ≡ take (edit_path edit).place xs ++ (put_in edit ++ drop (behind_taken edit) xs))
+    → ((edit_path edit).place ≤ length xs) × (ys ≡ take (edit_path edit).place xs ++ (put_in edit ++ drop (after_taken edit) xs))
 changed_split (Insert at x) xs ys e =
     let h = if_ok (nat_le at.place (length xs)) (insert xs at.place x) ys PlaceOutOfRange e in
     (le_holds at.place (length xs) h.0, sym h.1)
@@ -69,15 +69,15 @@ changed_split (Delete at) xs ys e =
 pub changed_before : (edit : Edit) (xs ys : List OneItem) → changed edit xs ≡ Ok ys → take (edit_path edit).place ys ≡ take (edit_path edit).place xs
 changed_before edit xs ys e =
     let s = changed_split edit xs ys e in
-    ap (take (edit_path edit).place) s.1 ∙ take_at (take (edit_path edit).place xs) (put_in edit ++ drop (behind_taken edit) xs) (edit_path edit).place (length-take-le (edit_path edit).place xs s.0)
+    ap (take (edit_path edit).place) s.1 ∙ take_at (take (edit_path edit).place xs) (put_in edit ++ drop (after_taken edit) xs) (edit_path edit).place (length-take-le (edit_path edit).place xs s.0)
 
-pub changed_behind : (edit : Edit) (xs ys : List OneItem) → changed edit xs ≡ Ok ys → drop (behind_taken edit) xs ≡ drop (behind_put edit) ys
-changed_behind edit xs ys e =
+pub changed_after : (edit : Edit) (xs ys : List OneItem) → changed edit xs ≡ Ok ys → drop (after_taken edit) xs ≡ drop (after_put edit) ys
+changed_after edit xs ys e =
     let s = changed_split edit xs ys e in
     let front = take (edit_path edit).place xs ++ put_in edit in
-    let rest = drop (behind_taken edit) xs in
-    let long : length front ≡ behind_put edit = length-append (take (edit_path edit).place xs) (put_in edit) ∙ ap (λ n. n + length (put_in edit)) (length-take-le (edit_path edit).place xs s.0) ∙ sym (behind_put_is edit) in
-    sym (ap (drop (behind_put edit)) (s.1 ∙ sym (append_assoc (take (edit_path edit).place xs) (put_in edit) rest)) ∙ drop_at front rest (behind_put edit) long)
+    let rest = drop (after_taken edit) xs in
+    let long : length front ≡ after_put edit = length-append (take (edit_path edit).place xs) (put_in edit) ∙ ap (λ n. n + length (put_in edit)) (length-take-le (edit_path edit).place xs s.0) ∙ sym (after_put_is edit) in
+    sym (ap (drop (after_put edit)) (s.1 ∙ sym (append_assoc (take (edit_path edit).place xs) (put_in edit) rest)) ∙ drop_at front rest (after_put edit) long)
 
 -- a list with an item rebuilt in it
 pub record Rebuilds (edit : List OneItem → Result (List OneItem) Refusal) (b : ℕ) (xs ys : List OneItem) : Type 0 where
@@ -113,8 +113,8 @@ AreSame front old new = (old ≡ new) ⊎ (BeginsWith front old × BeginsWith fr
 pub begins_before : (front old rest : List Step) → BeginsWith front old → BeginsWith front (old ++ rest)
 begins_before front old rest h = (h.0 ++ rest, ap (λ l. l ++ rest) h.1 ∙ append_assoc front h.0 rest)
 
-pub begins_behind : (some front old : List Step) → BeginsWith front old → BeginsWith (some ++ front) (some ++ old)
-begins_behind some front old h = (h.0, ap (λ l. some ++ l) h.1 ∙ sym (append_assoc some front h.0))
+pub begins_after : (some front old : List Step) → BeginsWith front old → BeginsWith (some ++ front) (some ++ old)
+begins_after some front old h = (h.0, ap (λ l. some ++ l) h.1 ∙ sym (append_assoc some front h.0))
 
 same_rounds : (n : ℕ) (front old new : List Step) → AreSame front old new → AreSame front (rounds n old) (rounds n new)
 same_rounds zero front old new h = inl refl
@@ -123,7 +123,7 @@ same_rounds (suc n) front old new (inr h) = inr (begins_before front old (rounds
 
 same_around : (some rest front old new : List Step) → AreSame front old new → AreSame (some ++ front) (some ++ (old ++ rest)) (some ++ (new ++ rest))
 same_around some rest front old new (inl e) = inl (ap (λ l. some ++ (l ++ rest)) e)
-same_around some rest front old new (inr h) = inr (begins_behind some front (old ++ rest) (begins_before front old rest h.0), begins_behind some front (new ++ rest) (begins_before front new rest h.1))
+same_around some rest front old new (inr h) = inr (begins_after some front (old ++ rest) (begins_before front old rest h.0), begins_after some front (new ++ rest) (begins_before front new rest h.1))
 
 taken_of : (front all : List Step) → BeginsWith front all → take (length front) all ≡ front
 taken_of front all h = ap (take (length front)) h.1 ∙ take_at front h.0 (length front) refl
@@ -162,18 +162,18 @@ edit_before : (edit : Edit) (old new : List OneItem) → edited edit old ≡ Ok 
 edit_before edit old new e = same_taken (steps_before (edit_path edit) old) (steps old) (steps new) (edit_same edit (edit_path edit).blocks old new e)
 
 -- an edit leaves the items after the outermost one around its place
-left_behind : (edit : Edit) (bs : List ℕ) (xs ys : List OneItem) → edited_in edit bs xs ≡ Ok ys
-    → drop (outermost (behind_taken edit) bs) xs ≡ drop (outermost (behind_put edit) bs) ys
-left_behind edit [] xs ys e = changed_behind edit xs ys e
-left_behind edit (b ∷ bs) xs ys e =
+left_after : (edit : Edit) (bs : List ℕ) (xs ys : List OneItem) → edited_in edit bs xs ≡ Ok ys
+    → drop (outermost (after_taken edit) bs) xs ≡ drop (outermost (after_put edit) bs) ys
+left_after edit [] xs ys e = changed_after edit xs ys e
+left_after edit (b ∷ bs) xs ys e =
     let r = rebuilds (edited_in edit bs) b xs ys (slice_get xs b) refl e in
     sym (ap (drop (b + 1)) r.same ∙ drop-set-lt (b + 1) xs b (repeat r.count r.tag (listed r.within)) (omega arith))
 
-edit_behind : (edit : Edit) (old new : List OneItem) → edited edit old ≡ Ok new → drop (old_end edit old) (steps old) ≡ drop (new_end edit new) (steps new)
-edit_behind edit old new e =
-    let n = outermost (behind_taken edit) (edit_path edit).blocks in
-    let m = outermost (behind_put edit) (edit_path edit).blocks in
-    steps_dropped n old ∙ ap steps (left_behind edit (edit_path edit).blocks old new e) ∙ sym (steps_dropped m new)
+edit_after : (edit : Edit) (old new : List OneItem) → edited edit old ≡ Ok new → drop (old_end edit old) (steps old) ≡ drop (new_end edit new) (steps new)
+edit_after edit old new e =
+    let n = outermost (after_taken edit) (edit_path edit).blocks in
+    let m = outermost (after_put edit) (edit_path edit).blocks in
+    steps_dropped n old ∙ ap steps (left_after edit (edit_path edit).blocks old new e) ∙ sym (steps_dropped m new)
 
 pub edits_leave : (edit : Edit) (old new : List OneItem) → edited edit old ≡ Ok new → LeavesTheRest edit old new
-edits_leave edit old new e = record { before = edit_before edit old new e; behind = edit_behind edit old new e }
+edits_leave edit old new e = record { before = edit_before edit old new e; following = edit_after edit old new e }

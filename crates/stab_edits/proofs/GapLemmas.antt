@@ -23,15 +23,15 @@ length-more n [] = refl
 length-more n (x ∷ []) = refl
 length-more n (x ∷ y ∷ ys) = ap suc (length-more n (y ∷ ys))
 
-more-behind : (n : ℕ) (xs : List ℕ) (y : ℕ) (ys : List ℕ) → with_more n (xs ++ y ∷ ys) ≡ xs ++ with_more n (y ∷ ys)
-more-behind n [] y ys = refl
-more-behind n (x ∷ []) y ys = refl
-more-behind n (x ∷ z ∷ zs) y ys = ap (λ l. x ∷ l) (more-behind n (z ∷ zs) y ys)
+more-following : (n : ℕ) (xs : List ℕ) (y : ℕ) (ys : List ℕ) → with_more n (xs ++ y ∷ ys) ≡ xs ++ with_more n (y ∷ ys)
+more-following n [] y ys = refl
+more-following n (x ∷ []) y ys = refl
+more-following n (x ∷ z ∷ zs) y ys = ap (λ l. x ∷ l) (more-following n (z ∷ zs) y ys)
 
 -- more on the last of two lists, of which the second is empty only if the first is
 more-append : (n : ℕ) (xs ys : List ℕ) → (ys ≡ [] → xs ≡ []) → with_more n (xs ++ ys) ≡ xs ++ with_more n ys
 more-append n xs [] h = ap (λ l. with_more n (l ++ [])) (h refl) ∙ sym (append-nil xs ∙ h refl)
-more-append n xs (y ∷ ys) h = more-behind n xs y ys
+more-append n xs (y ∷ ys) h = more-following n xs y ys
 
 empty_front : (xs ys : List ℕ) → xs ++ ys ≡ [] → xs ≡ []
 empty_front [] ys e = refl
@@ -74,16 +74,16 @@ rounds-front (suc n) lead x xs =
     ∙ ap (λ l. l ++ round_gaps (suc n) lead (xs ++ x ∷ [])) (sym (more-last lead x xs))
 
 -- the lengths of pieces of rounds
-pub lengths-rounds : (n : ℕ) (round : List Step → List (List Step)) (lead behind : List Step) → ((b : List Step) → map length (round b) ≡ with_more (length b) (map length (round [])))
-    → map length (round_pieces n round lead behind) ≡ with_more (length behind) (round_gaps n (length lead) (map length (round [])))
-lengths-rounds zero round lead behind h = refl
-lengths-rounds (suc zero) round lead behind h = h behind
-lengths-rounds (suc (suc n)) round lead behind h =
+pub lengths-rounds : (n : ℕ) (round : List Step → List (List Step)) (lead following : List Step) → ((b : List Step) → map length (round b) ≡ with_more (length b) (map length (round [])))
+    → map length (round_pieces n round lead following) ≡ with_more (length following) (round_gaps n (length lead) (map length (round [])))
+lengths-rounds zero round lead following h = refl
+lengths-rounds (suc zero) round lead following h = h following
+lengths-rounds (suc (suc n)) round lead following h =
     let gaps = map length (round []) in
-    map-append length (round lead) (round_pieces (suc n) round lead behind)
-    ∙ ap (λ l. l ++ map length (round_pieces (suc n) round lead behind)) (h lead)
-    ∙ ap (λ l. with_more (length lead) gaps ++ l) (lengths-rounds (suc n) round lead behind h)
-    ∙ sym (more-append (length behind) (with_more (length lead) gaps) (round_gaps (suc n) (length lead) gaps) (no_rounds n (length lead) gaps))
+    map-append length (round lead) (round_pieces (suc n) round lead following)
+    ∙ ap (λ l. l ++ map length (round_pieces (suc n) round lead following)) (h lead)
+    ∙ ap (λ l. with_more (length lead) gaps ++ l) (lengths-rounds (suc n) round lead following h)
+    ∙ sym (more-append (length following) (with_more (length lead) gaps) (round_gaps (suc n) (length lead) gaps) (no_rounds n (length lead) gaps))
 
 -- the same, if the last of the copies was taken off
 pub rounds-popped : (n lead x k : ℕ) (xs all front : List ℕ) → 0 < n → all ≡ copies n (xs ++ (x + lead) ∷ []) → length all ≡ k → front ≡ take (k - 1) all

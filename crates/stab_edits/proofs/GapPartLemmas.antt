@@ -1,30 +1,30 @@
 -- The gaps after an item in blocks, list by list and block by block.
 use Rattle.stab_edits.proofs.Names.{◌≡◌, ◌≤◌, ◌<◌, refl, ap, sym, ◌∙◌, subst, ℕ, ◌+◌, ◌*◌, suc, zero, min, List, [], ◌∷◌, ◌++◌, length, take, drop, map, All, arith, append-nil, Option, Some, None, Result, Ok, Err, IfOk, IfSome, IfNone, length-append, drop_min, drop-drop, drop-take, length-map, slice_get, Summary, OneItem, repeat, listed, Step, unroll, rounds, summary_of, Path, item_in, found_inside, item_at, inner, steps_in, outermost, rounds_in, pieces_in, pieces, HaveRounds, AreGaps, item_steps, with_more, round_gaps, block_pieces, AreGapsIn, AreGapsInside}
 use Rattle.stab_edits.proofs.EditLemmas.{entries-listed, got_split, steps-append, steps_split, next_place}
-use Rattle.stab_edits.proofs.PieceLemmas.{lengths-block_end, lengths-block_behind, count-block, count-block_behind, lead_short, gaps_short}
+use Rattle.stab_edits.proofs.PieceLemmas.{lengths-block_end, lengths-block_after, count-block, count-block_after, lead_short, gaps_short}
 
 -- the steps of a list
 abbrev steps : List OneItem → List Step
 steps xs = unroll (listed xs)
 
 -- the steps after the item at a place, counted
-pub counted_behind : (place k : ℕ) (xs rest : List OneItem) (x : OneItem) (behind : List OneItem) (s : Summary) → k ≡ min place (length xs) → rest ≡ drop k xs → rest ≡ x ∷ behind
-    → s ≡ summary_of (listed behind) → s.steps ≡ min (length (steps (drop (place + 1) xs))) 1048577
-counted_behind place k xs rest x behind s at back is e =
-    let left : drop place xs ≡ x ∷ behind = sym (drop_min place xs) ∙ ap (λ n. drop n xs) (sym at) ∙ sym back ∙ is in
-    let next : drop (place + 1) xs ≡ behind = sym (drop-drop 1 place xs) ∙ ap (drop 1) left in
+pub counted_after : (place k : ℕ) (xs rest : List OneItem) (x : OneItem) (following : List OneItem) (s : Summary) → k ≡ min place (length xs) → rest ≡ drop k xs → rest ≡ x ∷ following
+    → s ≡ summary_of (listed following) → s.steps ≡ min (length (steps (drop (place + 1) xs))) 1048577
+counted_after place k xs rest x following s at back is e =
+    let left : drop place xs ≡ x ∷ following = sym (drop_min place xs) ∙ ap (λ n. drop n xs) (sym at) ∙ sym back ∙ is in
+    let next : drop (place + 1) xs ≡ following = sym (drop-drop 1 place xs) ∙ ap (drop 1) left in
     ap (λ t. t.steps) e ∙ ap (λ l. min (length (steps l)) 1048577) (sym next)
 
 -- a list of few steps has few after a place, which are counted
-few_behind : (place s : ℕ) (xs : List OneItem) → s ≡ min (length (steps (drop place xs))) 1048577 → length (steps xs) ≤ 1048576 → s ≡ length (steps (drop place xs) ++ [])
-few_behind place s xs e few =
+few_after : (place s : ℕ) (xs : List OneItem) → s ≡ min (length (steps (drop place xs))) 1048577 → length (steps xs) ≤ 1048576 → s ≡ length (steps (drop place xs) ++ [])
+few_after place s xs e few =
     let all = ap length (steps_split place xs) in
     let both = length-append (steps (take place xs)) (steps (drop place xs)) in
     let short : s ≡ length (steps (drop place xs)) = grind (arith, e, few, all, both) in
     short ∙ ap length (sym (append-nil (steps (drop place xs))))
 
-pub behind_few : (place s : ℕ) (xs : List OneItem) → s ≡ min (length (steps (drop place xs))) 1048577 → length (steps xs) ≤ 1048576 → s ≤ 1048576
-behind_few place s xs e few =
+pub after_few : (place s : ℕ) (xs : List OneItem) → s ≡ min (length (steps (drop place xs))) 1048577 → length (steps xs) ≤ 1048576 → s ≤ 1048576
+after_few place s xs e few =
     let all = ap length (steps_split place xs) in
     let both = length-append (steps (take place xs)) (steps (drop place xs)) in
     grind (arith, e, few, all, both)
@@ -32,7 +32,7 @@ behind_few place s xs e few =
 -- in the innermost list
 pub gaps_at : (blocks : List ℕ) (place s : ℕ) (xs : List OneItem) (gaps : List ℕ) → length blocks ≡ 0 → gaps ≡ s ∷ [] → s ≡ min (length (steps (drop (place + 1) xs))) 1048577 → length (steps xs) ≤ 1048576
     → AreGapsIn blocks place xs gaps
-gaps_at [] place s xs gaps none is e few = record { lengths = is ∙ ap (λ n. n ∷ []) (few_behind (place + 1) s xs e few); rounds = tt }
+gaps_at [] place s xs gaps none is e few = record { lengths = is ∙ ap (λ n. n ∷ []) (few_after (place + 1) s xs e few); rounds = tt }
 gaps_at (b ∷ bs) place s xs gaps none is e few = absurd (omega (arith, none))
 
 -- in a list around a block
@@ -42,8 +42,8 @@ gaps_around blocks b bs place s xs gaps all e h counted few is = subst (λ l. Ar
   lengths =
       is
       ∙ ap (with_more s) h.lengths
-      ∙ ap (λ n. with_more n (map length (block_pieces (place + 1) bs place (slice_get xs b) []))) (few_behind (b + 1) s xs counted few)
-      ∙ sym (lengths-block_behind (place + 1) bs place (slice_get xs b) (steps (drop (b + 1) xs) ++ []));
+      ∙ ap (λ n. with_more n (map length (block_pieces (place + 1) bs place (slice_get xs b) []))) (few_after (b + 1) s xs counted few)
+      ∙ sym (lengths-block_after (place + 1) bs place (slice_get xs b) (steps (drop (b + 1) xs) ++ []));
   rounds = (h.some, h.rounds);
 })
 
@@ -53,7 +53,7 @@ pub many_around : (blocks : List ℕ) (b : ℕ) (bs : List ℕ) (place : ℕ) (x
     → (x : OneItem) → item_in blocks place xs ≡ Ok x → 1048576 < length (pieces_in (place + 1) blocks place xs [])
 many_around blocks b bs place xs e many x found =
     let more = many x (sym (ap (λ l. item_in l place xs) e) ∙ found) in
-    let same = ap (λ l. length (pieces_in (place + 1) l place xs [])) e ∙ count-block_behind (place + 1) bs place (slice_get xs b) (steps (drop (b + 1) xs) ++ []) in
+    let same = ap (λ l. length (pieces_in (place + 1) l place xs [])) e ∙ count-block_after (place + 1) bs place (slice_get xs b) (steps (drop (b + 1) xs) ++ []) in
     omega (arith, more, same)
 
 -- an item of a list has no more steps than the list
@@ -174,16 +174,16 @@ many_at {g = g} {q = q} bs e f many =
 
 -- what was said, and what was not
 
-pub told_is : {A : Type 0} (P : A → Type 0) (f : Option A) (x : A) → f ≡ Some x → IfSome f P → P x
-told_is P f x e h = subst (λ o. IfSome o P) e h
+pub determined_is : {A : Type 0} (P : A → Type 0) (f : Option A) (x : A) → f ≡ Some x → IfSome f P → P x
+determined_is P f x e h = subst (λ o. IfSome o P) e h
 
 pub none_is : {A : Type 0} {P : Type 0} (f : Option A) → f ≡ None → IfNone f P → P
 none_is {P = P} f e h = subst (λ o. IfNone o P) e h
 
-pub told_so : {A E : Type 0} (P Q : A → Type 0) (r : Result (Option A) E) → ((x : A) → P x → Q x) → IfOk r (λ f. IfSome f P) → IfOk r (λ f. IfSome f Q)
-told_so P Q (Ok (Some x)) f h = f x h
-told_so P Q (Ok None) f h = tt
-told_so P Q (Err e) f h = tt
+pub determined_so : {A E : Type 0} (P Q : A → Type 0) (r : Result (Option A) E) → ((x : A) → P x → Q x) → IfOk r (λ f. IfSome f P) → IfOk r (λ f. IfSome f Q)
+determined_so P Q (Ok (Some x)) f h = f x h
+determined_so P Q (Ok None) f h = tt
+determined_so P Q (Err e) f h = tt
 
 pub none_so : {A E : Type 0} {P Q : Type 0} (r : Result (Option A) E) → (P → Q) → IfOk r (λ f. IfNone f P) → IfOk r (λ f. IfNone f Q)
 none_so (Ok (Some x)) f h = tt

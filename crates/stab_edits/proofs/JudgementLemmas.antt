@@ -1,6 +1,6 @@
 -- What an edit comes to, by kept summaries.
 use Rattle.stab_edits.proofs.Names.{◌≡◌, ◌≤◌, ◌<◌, refl, ap, sym, ◌∙◌, subst, ℕ, ◌+◌, ◌*◌, suc, zero, min, List, [], ◌∷◌, ◌++◌, length, take, drop, arith, Option, Some, None, Result, Ok, Err, IfOk, length-append, slice_get, Refusal, Summary, Judgement, Edit, OneItem, operation, repeat, listed, Step, unroll, rounds, rebuilt, edited_inside, edit_path, edited_in, inner, steps_in, summary_of, followed_by, repeated, window, IsSummary, Splice, splice_block, splice_of, spliced, IsWithin, summed, judgement_of, block_refusal, BeginsWith, steps_within, PutsGood, IsGoodList, IsCount, IsTag, listed-append, summary-join, block_summary, block_good}
-use Rattle.stab_edits.proofs.EditLemmas.{entries-listed, got_split, steps-append, steps_split, begins_before, begins_behind}
+use Rattle.stab_edits.proofs.EditLemmas.{entries-listed, got_split, steps-append, steps_split, begins_before, begins_after}
 use Rattle.stab_edits.proofs.SpliceLemmas.{edited_spliced, splice_within}
 
 inside_is : (edit : List OneItem → Result (List OneItem) Refusal) (n : ℕ) (tag : List ℕ) (body : List OneItem) (g : Option OneItem) → g ≡ Some (repeat n tag (listed body)) → edited_inside edit g ≡ rebuilt n tag (edit body)
@@ -10,10 +10,10 @@ err_rebuilt : (n b w : ℕ) (tag : List ℕ) (q : Result (List OneItem) Refusal)
 err_rebuilt n b w tag q r e = ap (λ t. judgement_of w (splice_block b (rebuilt n tag t))) e
 
 ok_rebuilt : (n b w : ℕ) (tag : List ℕ) (q : Result (List OneItem) Refusal) (s : Summary) → 0 < n → summed q ≡ Ok s
-    → judgement_of w (splice_block b (rebuilt n tag q)) ≡ Ok (record { first = b; behind = b + 1; put = repeated n s; within = w })
+    → judgement_of w (splice_block b (rebuilt n tag q)) ≡ Ok (record { first = b; following = b + 1; put = repeated n s; within = w })
 ok_rebuilt n b w tag (Ok ys) s h e =
     let same : summary_of (listed ys) ≡ s = cc in
-    ap (λ t. Ok (record { first = b; behind = b + 1; put = t; within = w })) (block_summary n tag (listed ys) h ∙ ap (repeated n) same)
+    ap (λ t. Ok (record { first = b; following = b + 1; put = t; within = w })) (block_summary n tag (listed ys) h ∙ ap (repeated n) same)
 ok_rebuilt n b w tag (Err r) s h e = absurd (cc)
 
 -- in a block
@@ -32,7 +32,7 @@ judged_err edit b n w bs blocks tag xs body r e f h =
 
 pub judged_ok : (edit : Edit) (b n w : ℕ) (bs blocks tag : List ℕ) (xs body : List OneItem) (s : Summary) → blocks ≡ b ∷ bs → slice_get xs b ≡ Some (repeat n tag (listed body)) → 0 < n → Ok s ≡ summed (edited_in edit bs body)
     → w ≡ min (length (steps_in bs (edit_path edit).place body)) 1048577
-    → Ok (record { first = b; behind = b + 1; put = repeated n s; within = w }) ≡ judgement_of (min (length (steps_within blocks (edit_path edit).place xs)) 1048577) (splice_of edit blocks xs)
+    → Ok (record { first = b; following = b + 1; put = repeated n s; within = w }) ≡ judgement_of (min (length (steps_within blocks (edit_path edit).place xs)) 1048577) (splice_of edit blocks xs)
 judged_ok edit b n w bs blocks tag xs body s e f pos h v =
     sym (
     ap (λ l. judgement_of (min (length l) 1048577) (splice_of edit blocks xs)) (within_block b (edit_path edit).place n bs blocks tag xs body e f)
@@ -52,14 +52,14 @@ judged_good edit b n bs blocks tag xs body e f c t g =
     subst (λ q. IfOk q PutsGood) (sym (splice_inside edit b n bs blocks tag xs body e f)) (rebuilt_good n b tag (edited_in edit bs body) c t g)
 
 -- where a judgement lies in the list
-within_by : (q : Result Splice Refusal) (w : ℕ) (j : Judgement) (xs : List OneItem) → ((s : Splice) → q ≡ Ok s → IsWithin s xs) → Ok j ≡ judgement_of w q → (j.first ≤ j.behind) × (j.behind ≤ length xs)
+within_by : (q : Result Splice Refusal) (w : ℕ) (j : Judgement) (xs : List OneItem) → ((s : Splice) → q ≡ Ok s → IsWithin s xs) → Ok j ≡ judgement_of w q → (j.first ≤ j.following) × (j.following ≤ length xs)
 within_by (Ok s) v j xs f e =
     let w = f s refl in
-    let same : j ≡ record { first = s.first; behind = s.behind; put = summary_of (listed s.put); within = v } = cc in
-    (omega (arith, ap (λ t. t.first) same, ap (λ t. t.behind) same, w.order), omega (arith, ap (λ t. t.behind) same, w.end))
+    let same : j ≡ record { first = s.first; following = s.following; put = summary_of (listed s.put); within = v } = cc in
+    (omega (arith, ap (λ t. t.first) same, ap (λ t. t.following) same, w.order), omega (arith, ap (λ t. t.following) same, w.end))
 within_by (Err r) w j xs f e = absurd (cc)
 
-pub judged_within : (edit : Edit) (blocks : List ℕ) (w : ℕ) (xs : List OneItem) (j : Judgement) → Ok j ≡ judgement_of w (splice_of edit blocks xs) → (j.first ≤ j.behind) × (j.behind ≤ length xs)
+pub judged_within : (edit : Edit) (blocks : List ℕ) (w : ℕ) (xs : List OneItem) (j : Judgement) → Ok j ≡ judgement_of w (splice_of edit blocks xs) → (j.first ≤ j.following) × (j.following ≤ length xs)
 judged_within edit blocks w xs j e = within_by (splice_of edit blocks xs) w j xs (λ s h. splice_within edit blocks xs s h) e
 
 -- the summary of a list with items put into it
@@ -70,23 +70,23 @@ put_summary front put back near far =
     let small : window (unroll (listed (put ++ back))) ≤ 16777215 = omega (arith, ap (λ s. s.window) inner, near, far) in
     ap summary_of (listed-append front (put ++ back)) ∙ summary-join (listed front) (listed (put ++ back)) small ∙ ap (followed_by (summary_of (listed front))) inner
 
-summed_by : (q : Result Splice Refusal) (w : ℕ) (j : Judgement) (xs : List OneItem) → Ok j ≡ judgement_of w q → IsSummary j.put → (summary_of (listed (drop j.behind xs))).window ≤ 16777215
-    → Ok (followed_by (summary_of (listed (take j.first xs))) (followed_by j.put (summary_of (listed (drop j.behind xs))))) ≡ summed (spliced xs q)
+summed_by : (q : Result Splice Refusal) (w : ℕ) (j : Judgement) (xs : List OneItem) → Ok j ≡ judgement_of w q → IsSummary j.put → (summary_of (listed (drop j.following xs))).window ≤ 16777215
+    → Ok (followed_by (summary_of (listed (take j.first xs))) (followed_by j.put (summary_of (listed (drop j.following xs))))) ≡ summed (spliced xs q)
 summed_by (Ok s) w j xs e small far =
-    let same : j ≡ record { first = s.first; behind = s.behind; put = summary_of (listed s.put); within = w } = cc in
+    let same : j ≡ record { first = s.first; following = s.following; put = summary_of (listed s.put); within = w } = cc in
     let first : j.first ≡ s.first = ap (λ t. t.first) same in
-    let behind : j.behind ≡ s.behind = ap (λ t. t.behind) same in
+    let following : j.following ≡ s.following = ap (λ t. t.following) same in
     let put : j.put ≡ summary_of (listed s.put) = ap (λ t. t.put) same in
     let near : (summary_of (listed s.put)).window ≤ 16777215 = omega (arith, small.window, ap (λ t. t.window) put) in
-    let far' : (summary_of (listed (drop s.behind xs))).window ≤ 16777215 = subst (λ n. (summary_of (listed (drop n xs))).window ≤ 16777215) behind far in
-    ap (λ n. Ok (followed_by (summary_of (listed (take n xs))) (followed_by j.put (summary_of (listed (drop j.behind xs)))))) first
-    ∙ ap (λ n. Ok (followed_by (summary_of (listed (take s.first xs))) (followed_by j.put (summary_of (listed (drop n xs)))))) behind
-    ∙ ap (λ t. Ok (followed_by (summary_of (listed (take s.first xs))) (followed_by t (summary_of (listed (drop s.behind xs)))))) put
-    ∙ ap Ok (sym (put_summary (take s.first xs) s.put (drop s.behind xs) near far'))
+    let far' : (summary_of (listed (drop s.following xs))).window ≤ 16777215 = subst (λ n. (summary_of (listed (drop n xs))).window ≤ 16777215) following far in
+    ap (λ n. Ok (followed_by (summary_of (listed (take n xs))) (followed_by j.put (summary_of (listed (drop j.following xs)))))) first
+    ∙ ap (λ n. Ok (followed_by (summary_of (listed (take s.first xs))) (followed_by j.put (summary_of (listed (drop n xs)))))) following
+    ∙ ap (λ t. Ok (followed_by (summary_of (listed (take s.first xs))) (followed_by t (summary_of (listed (drop s.following xs)))))) put
+    ∙ ap Ok (sym (put_summary (take s.first xs) s.put (drop s.following xs) near far'))
 summed_by (Err r) w j xs e small far = absurd (cc)
 
-summed_judged : (edit : Edit) (blocks : List ℕ) (w : ℕ) (xs : List OneItem) (j : Judgement) → Ok j ≡ judgement_of w (splice_of edit blocks xs) → IsSummary j.put → (summary_of (listed (drop j.behind xs))).window ≤ 16777215
-    → Ok (followed_by (summary_of (listed (take j.first xs))) (followed_by j.put (summary_of (listed (drop j.behind xs))))) ≡ summed (edited_in edit blocks xs)
+summed_judged : (edit : Edit) (blocks : List ℕ) (w : ℕ) (xs : List OneItem) (j : Judgement) → Ok j ≡ judgement_of w (splice_of edit blocks xs) → IsSummary j.put → (summary_of (listed (drop j.following xs))).window ≤ 16777215
+    → Ok (followed_by (summary_of (listed (take j.first xs))) (followed_by j.put (summary_of (listed (drop j.following xs))))) ≡ summed (edited_in edit blocks xs)
 summed_judged edit blocks w xs j e small far = summed_by (splice_of edit blocks xs) w j xs e small far ∙ ap summed (sym (edited_spliced edit blocks xs))
 
 err_by : (q : Result Splice Refusal) (w : ℕ) (xs : List OneItem) (r : Refusal) → Err r ≡ judgement_of w q → spliced xs q ≡ Err r
@@ -97,7 +97,7 @@ pub edit_refused : (edit : Edit) (blocks : List ℕ) (w : ℕ) (xs : List OneIte
 edit_refused edit blocks w xs r e = edited_spliced edit blocks xs ∙ err_by (splice_of edit blocks xs) w xs r e
 
 pub summed_around : (edit : Edit) (blocks : List ℕ) (w : ℕ) (xs front back : List OneItem) (j : Judgement) (s : Summary) → Ok j ≡ judgement_of w (splice_of edit blocks xs) → IsSummary j.put
-    → front ≡ take j.first xs → back ≡ drop j.behind xs → (summary_of (listed back)).window ≤ 16777215 → s ≡ followed_by (summary_of (listed front)) (followed_by j.put (summary_of (listed back)))
+    → front ≡ take j.first xs → back ≡ drop j.following xs → (summary_of (listed back)).window ≤ 16777215 → s ≡ followed_by (summary_of (listed front)) (followed_by j.put (summary_of (listed back)))
     → Ok s ≡ summed (edited_in edit blocks xs)
 summed_around edit blocks w xs front back j s e small f g far h =
     ap Ok h
@@ -148,7 +148,7 @@ begins_block b p n bs blocks tag xs body e f h inside =
     let within = steps_in bs p body in
     let turns = begins_rounds n within (unroll (listed body)) h inside in
     let more = begins_before within (rounds n (unroll (listed body))) (unroll (listed (drop (suc b) xs))) turns in
-    let whole = begins_behind front within (rounds n (unroll (listed body)) ++ unroll (listed (drop (suc b) xs))) more in
+    let whole = begins_after front within (rounds n (unroll (listed body)) ++ unroll (listed (drop (suc b) xs))) more in
     let all : unroll (listed xs) ≡ front ++ (rounds n (unroll (listed body)) ++ unroll (listed (drop (suc b) xs))) =
     ap (λ l. unroll (listed l)) (got_split xs b (repeat n tag (listed body)) f) ∙ steps-append (take b xs) (repeat n tag (listed body) ∷ drop (suc b) xs) in
     subst (λ l. BeginsWith l (unroll (listed xs))) (sym (steps_block b p n bs blocks tag xs body e f)) (subst (BeginsWith (front ++ within)) (sym all) whole)

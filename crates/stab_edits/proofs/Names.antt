@@ -23,10 +23,10 @@ pub use Rattle.stab_lines.specs.declared.product.Factor.{Factor}
 pub use Rattle.stab_lines.specs.declared.range.MeasureTarget.{MeasureTarget}
 pub use Rattle.stab_items.specs.Items.{OneItem, Items, operation, repeat, done, next, block, before, listed, join, depth, depth_of, entries, AreGood}
 pub use Rattle.stab_items.specs.Steps.{steps_of, Step, one, two, collapse, detector, measured, controlled_step, rounds, unroll, detector_of, looks_too_far, past_named, qubits_of, most_steps, check_within}
-pub use Rattle.stab_edits.specs.Cursors.{IsApart, step_shown, lookbacks_of}
+pub use Rattle.stab_edits.specs.Cursors.{HasDistinctQubits, step_shown, lookbacks_of}
 pub use Rattle.stab_edits.specs.declared.circuit.stretches.Stretch.{Stretch}
 pub use Rattle.stab_items.specs.declared.summary.Summary.{Summary}
-pub use Rattle.stab_edits.specs.Edits.{outermost, with_item, rebuilt, edited_inside, changed, edited_in, edited, taken_in, taken, list_verdict, verdict, inner, edit_refusal, list_refusal, edit_path, taken_at, steps_in, steps_before, first_changed, behind_taken, behind_put, old_end, new_end, IsInsert, LeavesTheRest}
+pub use Rattle.stab_edits.specs.Edits.{outermost, with_item, rebuilt, edited_inside, changed, edited_in, edited, taken_in, taken, list_verdict, verdict, inner, edit_refusal, list_refusal, edit_path, taken_at, steps_in, steps_before, first_changed, after_taken, after_put, old_end, new_end, IsInsert, LeavesTheRest}
 pub use Rattle.stab_edits.specs.StepPaths.{outside, within, path_rounds, paths_from, paths_of, item_steps_left}
 pub use Rattle.stab_edits.specs.inner.Stretches.{AreStretches, WereStretches, items_in}
 pub use Rattle.stab_items.specs.inner.Summaries.{window, summary_of, followed_by, repeated, judged, IsSummary, IsSumOf}

@@ -12,11 +12,11 @@ items_taken w n ss given here =
     let xs = w.top.items.now in
     let more = rounds w.top.rounds (unroll (listed xs)) in
     let others = levels_left [] w.around.items in
-    let behind = unroll (listed (drop (w.top.place + n) xs)) in
+    let following = unroll (listed (drop (w.top.place + n) xs)) in
     ap (λ l. l ++ ahead w) given
     ∙ ap (λ l. (l ++ more) ++ others) here
-    ∙ ap (λ l. l ++ others) (append_assoc ss behind more)
-    ∙ append_assoc ss (behind ++ more) others
+    ∙ ap (λ l. l ++ others) (append_assoc ss following more)
+    ∙ append_assoc ss (following ++ more) others
     ∙ ap (λ l. ss ++ (l ++ ahead (past_items w n))) (sym given)
 
 -- past this many items

@@ -17,13 +17,13 @@ interleaved-append gates (p ∷ ps) qs =
 
 -- rounds of steps, of which each is some steps, and then an item's before each piece
 rounds-pieces : (n : ℕ) (gates body lead : List Step) (round : List Step → List (List Step)) → ((b : List Step) → body ++ b ≡ lead ++ interleaved gates (round b)) → 0 < n
-    → (behind : List Step) → rounds n body ++ behind ≡ lead ++ interleaved gates (round_pieces n round lead behind)
-rounds-pieces zero gates body lead round h some behind = absurd (omega (arith, some))
-rounds-pieces (suc zero) gates body lead round h some behind = ap (λ l. l ++ behind) (append-nil body) ∙ h behind
-rounds-pieces (suc (suc n)) gates body lead round h some behind =
-    let rest = round_pieces (suc n) round lead behind in
-    append_assoc body (rounds (suc n) body) behind
-    ∙ ap (λ l. body ++ l) (rounds-pieces (suc n) gates body lead round h (omega arith) behind)
+    → (following : List Step) → rounds n body ++ following ≡ lead ++ interleaved gates (round_pieces n round lead following)
+rounds-pieces zero gates body lead round h some following = absurd (omega (arith, some))
+rounds-pieces (suc zero) gates body lead round h some following = ap (λ l. l ++ following) (append-nil body) ∙ h following
+rounds-pieces (suc (suc n)) gates body lead round h some following =
+    let rest = round_pieces (suc n) round lead following in
+    append_assoc body (rounds (suc n) body) following
+    ∙ ap (λ l. body ++ l) (rounds-pieces (suc n) gates body lead round h (omega arith) following)
     ∙ sym (append_assoc body lead (interleaved gates rest))
     ∙ ap (λ l. l ++ interleaved gates rest) (h lead)
     ∙ append_assoc lead (interleaved gates (round lead)) (interleaved gates rest)
@@ -47,58 +47,58 @@ around_block xs b (Some (repeat count tag body)) e some =
 
 -- the steps of a list, and some after them, by the pieces
 pub steps-pieces : (gates : List Step) (end : ℕ) (bs : List ℕ) (place : ℕ) (xs : List OneItem) → Stands gates end bs place xs
-    → (behind : List Step) → steps xs ++ behind ≡ steps_in bs place xs ++ interleaved gates (pieces_in end bs place xs behind)
-steps-pieces gates end [] place xs stands behind =
+    → (following : List Step) → steps xs ++ following ≡ steps_in bs place xs ++ interleaved gates (pieces_in end bs place xs following)
+steps-pieces gates end [] place xs stands following =
     let front = steps (take place xs) in
     let back = steps (drop end xs) in
-    ap (λ l. l ++ behind) (steps_split end xs ∙ ap (λ l. l ++ back) stands)
-    ∙ append_assoc (front ++ gates) back behind
-    ∙ append_assoc front gates (back ++ behind)
-    ∙ ap (λ l. front ++ (gates ++ l)) (sym (append-nil (back ++ behind)))
-steps-pieces gates end (b ∷ bs) place xs stands behind =
+    ap (λ l. l ++ following) (steps_split end xs ∙ ap (λ l. l ++ back) stands)
+    ∙ append_assoc (front ++ gates) back following
+    ∙ append_assoc front gates (back ++ following)
+    ∙ ap (λ l. front ++ (gates ++ l)) (sym (append-nil (back ++ following)))
+steps-pieces gates end (b ∷ bs) place xs stands following =
     let x = slice_get xs b in
     let front = steps (take b xs) in
     let all = rounds (rounds_in x) (steps (inner x)) in
     let back = steps (drop (b + 1) xs) in
     let lead = steps_in bs place (inner x) in
     let round = pieces_in end bs place (inner x) in
-    ap (λ l. l ++ behind) (around_block xs b x refl stands.0)
-    ∙ append_assoc front (all ++ back) behind
-    ∙ ap (λ l. front ++ l) (append_assoc all back behind)
-    ∙ ap (λ l. front ++ l) (rounds-pieces (rounds_in x) gates (steps (inner x)) lead round (steps-pieces gates end bs place (inner x) stands.1) stands.0 (back ++ behind))
-    ∙ sym (append_assoc front lead (interleaved gates (round_pieces (rounds_in x) round lead (back ++ behind))))
+    ap (λ l. l ++ following) (around_block xs b x refl stands.0)
+    ∙ append_assoc front (all ++ back) following
+    ∙ ap (λ l. front ++ l) (append_assoc all back following)
+    ∙ ap (λ l. front ++ l) (rounds-pieces (rounds_in x) gates (steps (inner x)) lead round (steps-pieces gates end bs place (inner x) stands.1) stands.0 (back ++ following))
+    ∙ sym (append_assoc front lead (interleaved gates (round_pieces (rounds_in x) round lead (back ++ following))))
 
 -- the lengths of pieces, if more steps are after the last
-pub lengths-pieces : (end : ℕ) (bs : List ℕ) (place : ℕ) (xs : List OneItem) (behind : List Step)
-    → map length (pieces_in end bs place xs behind) ≡ with_more (length behind) (map length (pieces_in end bs place xs []))
-lengths-pieces end [] place xs behind =
+pub lengths-pieces : (end : ℕ) (bs : List ℕ) (place : ℕ) (xs : List OneItem) (following : List Step)
+    → map length (pieces_in end bs place xs following) ≡ with_more (length following) (map length (pieces_in end bs place xs []))
+lengths-pieces end [] place xs following =
     let back = steps (drop end xs) in
-    ap (λ n. n ∷ []) (length-append back behind ∙ ap (λ n. n + length behind) (sym (ap length (append-nil back))))
-lengths-pieces end (b ∷ bs) place xs behind =
+    ap (λ n. n ∷ []) (length-append back following ∙ ap (λ n. n + length following) (sym (ap length (append-nil back))))
+lengths-pieces end (b ∷ bs) place xs following =
     let x = slice_get xs b in
     let back = steps (drop (b + 1) xs) in
     let lead = steps_in bs place (inner x) in
     let round = pieces_in end bs place (inner x) in
     let gaps = round_gaps (rounds_in x) (length lead) (map length (round [])) in
     let each = lengths-pieces end bs place (inner x) in
-    lengths-rounds (rounds_in x) round lead (back ++ behind) each
-    ∙ ap (λ n. with_more n gaps) (length-append back behind ∙ ap (λ n. n + length behind) (sym (ap length (append-nil back))))
-    ∙ sym (more-twice (length behind) (length (back ++ [])) gaps)
-    ∙ ap (with_more (length behind)) (sym (lengths-rounds (rounds_in x) round lead (back ++ []) each))
+    lengths-rounds (rounds_in x) round lead (back ++ following) each
+    ∙ ap (λ n. with_more n gaps) (length-append back following ∙ ap (λ n. n + length following) (sym (ap length (append-nil back))))
+    ∙ sym (more-twice (length following) (length (back ++ [])) gaps)
+    ∙ ap (with_more (length following)) (sym (lengths-rounds (rounds_in x) round lead (back ++ []) each))
 
 -- the lengths of the pieces in a block
-pub lengths-block : (end : ℕ) (bs : List ℕ) (place : ℕ) (x : Option OneItem) (behind : List Step)
-    → map length (block_pieces end bs place x behind) ≡ with_more (length behind) (round_gaps (rounds_in x) (length (steps_in bs place (inner x))) (map length (pieces_in end bs place (inner x) [])))
-lengths-block end bs place x behind = lengths-rounds (rounds_in x) (pieces_in end bs place (inner x)) (steps_in bs place (inner x)) behind (lengths-pieces end bs place (inner x))
+pub lengths-block : (end : ℕ) (bs : List ℕ) (place : ℕ) (x : Option OneItem) (following : List Step)
+    → map length (block_pieces end bs place x following) ≡ with_more (length following) (round_gaps (rounds_in x) (length (steps_in bs place (inner x))) (map length (pieces_in end bs place (inner x) [])))
+lengths-block end bs place x following = lengths-rounds (rounds_in x) (pieces_in end bs place (inner x)) (steps_in bs place (inner x)) following (lengths-pieces end bs place (inner x))
 
 pub lengths-block_end : (end : ℕ) (bs : List ℕ) (place : ℕ) (x : Option OneItem)
     → map length (block_pieces end bs place x []) ≡ round_gaps (rounds_in x) (length (steps_in bs place (inner x))) (map length (pieces_in end bs place (inner x) []))
 lengths-block_end end bs place x =
     lengths-block end bs place x [] ∙ more-none (round_gaps (rounds_in x) (length (steps_in bs place (inner x))) (map length (pieces_in end bs place (inner x) [])))
 
-pub lengths-block_behind : (end : ℕ) (bs : List ℕ) (place : ℕ) (x : Option OneItem) (behind : List Step)
-    → map length (block_pieces end bs place x behind) ≡ with_more (length behind) (map length (block_pieces end bs place x []))
-lengths-block_behind end bs place x behind = lengths-block end bs place x behind ∙ ap (with_more (length behind)) (sym (lengths-block_end end bs place x))
+pub lengths-block_after : (end : ℕ) (bs : List ℕ) (place : ℕ) (x : Option OneItem) (following : List Step)
+    → map length (block_pieces end bs place x following) ≡ with_more (length following) (map length (block_pieces end bs place x []))
+lengths-block_after end bs place x following = lengths-block end bs place x following ∙ ap (with_more (length following)) (sym (lengths-block_end end bs place x))
 
 -- how many pieces there are in a block
 pub count-block : (end : ℕ) (bs : List ℕ) (place : ℕ) (x : Option OneItem) → length (block_pieces end bs place x []) ≡ rounds_in x * length (pieces_in end bs place (inner x) [])
@@ -108,11 +108,11 @@ count-block end bs place x =
     ∙ length-rounds (rounds_in x) (length (steps_in bs place (inner x))) (map length (pieces_in end bs place (inner x) []))
     ∙ ap (λ n. rounds_in x * n) (length-map (pieces_in end bs place (inner x) []) length)
 
-pub count-block_behind : (end : ℕ) (bs : List ℕ) (place : ℕ) (x : Option OneItem) (behind : List Step) → length (block_pieces end bs place x behind) ≡ length (block_pieces end bs place x [])
-count-block_behind end bs place x behind =
-    sym (length-map (block_pieces end bs place x behind) length)
-    ∙ ap length (lengths-block_behind end bs place x behind)
-    ∙ length-more (length behind) (map length (block_pieces end bs place x []))
+pub count-block_after : (end : ℕ) (bs : List ℕ) (place : ℕ) (x : Option OneItem) (following : List Step) → length (block_pieces end bs place x following) ≡ length (block_pieces end bs place x [])
+count-block_after end bs place x following =
+    sym (length-map (block_pieces end bs place x following) length)
+    ∙ ap length (lengths-block_after end bs place x following)
+    ∙ length-more (length following) (map length (block_pieces end bs place x []))
     ∙ length-map (block_pieces end bs place x []) length
 
 -- no piece is longer than the steps that they are of

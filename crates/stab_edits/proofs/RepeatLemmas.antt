@@ -37,13 +37,13 @@ repeated : (front ss rest : List Step) (n : ℕ) → 0 < length ss → 1 < n
     → IsRepeat (front ++ (rounds n ss ++ rest)) (repeat_as (length front) (n, ss))
 repeated front ss rest n some many =
     let all = front ++ (rounds n ss ++ rest) in
-    let behind : drop (length front) all ≡ rounds n ss ++ rest = drop_at front (rounds n ss ++ rest) (length front) refl in
-    let round : take (length ss) (drop (length front) all) ≡ ss = ap (take (length ss)) behind ∙ first_round n ss rest many in
+    let following : drop (length front) all ≡ rounds n ss ++ rest = drop_at front (rounds n ss ++ rest) (length front) refl in
+    let round : take (length ss) (drop (length front) all) ≡ ss = ap (take (length ss)) following ∙ first_round n ss rest many in
     record {
       some = some;
       many = many;
       inside = omega (arith, length-append front (rounds n ss ++ rest), length-append (rounds n ss) rest, length-rounds n ss);
-      again = ap (take (n * length ss)) behind ∙ take_at (rounds n ss) rest (n * length ss) (length-rounds n ss) ∙ ap (rounds n) (sym round);
+      again = ap (take (n * length ss)) following ∙ take_at (rounds n ss) rest (n * length ss) (length-rounds n ss) ∙ ap (rounds n) (sym round);
       within = ap (looks_too_far (window ss)) round ∙ looks_too_far_window (window ss) ss ∙ below_itself (window ss);
     }
 
@@ -53,18 +53,18 @@ later : (from n : ℕ) (all : List Step) (rs : List Repeat) → from ≤ n → A
 later from n all [] h a = tt
 later from n all (r ∷ rs) h a = (omega (arith, h, a.0), a.1, a.2)
 
-block_chosen : (a b : Bool) (front ss rest : List Step) (n from behind : ℕ) (f : ℕ × List Step) (rs : List Repeat) → nat_lt 0 (length ss) ≡ a → nat_lt 1 n ≡ b
-    → (0 < length ss → 1 < n → IsFiner n ss f) → from ≤ length front → behind ≡ length front + n * length ss
-    → AreRepeats behind (front ++ (rounds n ss ++ rest)) rs → AreRepeats from (front ++ (rounds n ss ++ rest)) ((if a && b then repeat_as (length front) f ∷ [] else []) ++ rs)
-block_chosen true true front ss rest n from behind f rs some many is h at more =
+block_chosen : (a b : Bool) (front ss rest : List Step) (n from following : ℕ) (f : ℕ × List Step) (rs : List Repeat) → nat_lt 0 (length ss) ≡ a → nat_lt 1 n ≡ b
+    → (0 < length ss → 1 < n → IsFiner n ss f) → from ≤ length front → following ≡ length front + n * length ss
+    → AreRepeats following (front ++ (rounds n ss ++ rest)) rs → AreRepeats from (front ++ (rounds n ss ++ rest)) ((if a && b then repeat_as (length front) f ∷ [] else []) ++ rs)
+block_chosen true true front ss rest n from following f rs some many is h at more =
     let fine = is (ltb-true 0 (length ss) some) (ltb-true 1 n many) in
     let same : n * length ss ≡ f.0 * length f.1 = sym (length-rounds n ss) ∙ ap length (sym fine.same) ∙ length-rounds f.0 f.1 in (
       h,
       subst (λ zs. IsRepeat (front ++ (zs ++ rest)) (repeat_as (length front) f)) fine.same (repeated front f.1 rest f.0 fine.some fine.many),
       subst (λ k. AreRepeats k (front ++ (rounds n ss ++ rest)) rs) (at ∙ ap (λ k. length front + k) same) more,
     )
-block_chosen true false front ss rest n from behind f rs some many is h at more = later from behind (front ++ (rounds n ss ++ rest)) rs (omega (arith, h, at)) more
-block_chosen false b front ss rest n from behind f rs some many is h at more = later from behind (front ++ (rounds n ss ++ rest)) rs (omega (arith, h, at)) more
+block_chosen true false front ss rest n from following f rs some many is h at more = later from following (front ++ (rounds n ss ++ rest)) rs (omega (arith, h, at)) more
+block_chosen false b front ss rest n from following f rs some many is h at more = later from following (front ++ (rounds n ss ++ rest)) rs (omega (arith, h, at)) more
 
 are_repeats : (front : List Step) (xs : List OneItem) (from : ℕ) → from ≤ length front → AreRepeats from (front ++ unroll (listed xs)) (repeats_in (length front) xs)
 are_repeats front [] from h = tt

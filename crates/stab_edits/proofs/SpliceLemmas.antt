@@ -4,19 +4,19 @@ use Rattle.stab_edits.proofs.EditLemmas.{if_ok, le_holds, lt_holds, next_place}
 
 -- the list that is left by a splice
 abbrev left : List OneItem → Splice → List OneItem
-left xs s = take s.first xs ++ (s.put ++ drop s.behind xs)
+left xs s = take s.first xs ++ (s.put ++ drop s.following xs)
 
 same_if : (c : Bool) (ys xs : List OneItem) (s : Splice) → (c ≡ true → ys ≡ left xs s) → (if c then Ok ys else Err PlaceOutOfRange) ≡ spliced xs (if c then Ok s else Err PlaceOutOfRange)
 same_if true ys xs s f = ap Ok (f refl)
 same_if false ys xs s f = refl
 
 changed_spliced : (edit : Edit) (xs : List OneItem) → changed edit xs ≡ spliced xs (splice_at edit (length xs))
-changed_spliced (Insert at x) xs = same_if (nat_le at.place (length xs)) (insert xs at.place x) xs (record { first = at.place; behind = at.place; put = x ∷ [] }) (λ h. refl)
+changed_spliced (Insert at x) xs = same_if (nat_le at.place (length xs)) (insert xs at.place x) xs (record { first = at.place; following = at.place; put = x ∷ [] }) (λ h. refl)
 changed_spliced (Replace at x) xs =
-    same_if (nat_lt at.place (length xs)) (set xs at.place x) xs (record { first = at.place; behind = at.place + 1; put = x ∷ [] })
+    same_if (nat_lt at.place (length xs)) (set xs at.place x) xs (record { first = at.place; following = at.place + 1; put = x ∷ [] })
     (λ h. set_split xs at.place x (lt_holds at.place (length xs) h) ∙ ap (λ n. take at.place xs ++ x ∷ drop n xs) (next_place at.place))
 changed_spliced (Delete at) xs =
-    same_if (nat_lt at.place (length xs)) (remove xs at.place) xs (record { first = at.place; behind = at.place + 1; put = [] }) (λ h. ap (λ n. take at.place xs ++ drop n xs) (next_place at.place))
+    same_if (nat_lt at.place (length xs)) (remove xs at.place) xs (record { first = at.place; following = at.place + 1; put = [] }) (λ h. ap (λ n. take at.place xs ++ drop n xs) (next_place at.place))
 
 -- an edit inside an item is of an item that is there
 there_is : (edit : List OneItem → Result (List OneItem) Refusal) (b : ℕ) (xs : List OneItem) (g : Option OneItem) (x : OneItem) → slice_get xs b ≡ g → edited_inside edit g ≡ Ok x → b < length xs
@@ -36,18 +36,18 @@ edited_spliced edit (b ∷ bs) xs =
 -- a splice is of a part of the list
 at_within : (edit : Edit) (xs : List OneItem) (s : Splice) → splice_at edit (length xs) ≡ Ok s → IsWithin s xs
 at_within (Insert at x) xs s e =
-    let h = if_ok (nat_le at.place (length xs)) (record { first = at.place; behind = at.place; put = x ∷ [] }) s PlaceOutOfRange e in
+    let h = if_ok (nat_le at.place (length xs)) (record { first = at.place; following = at.place; put = x ∷ [] }) s PlaceOutOfRange e in
     subst (λ t. IsWithin t xs) h.1 (record { order = omega arith; end = le_holds at.place (length xs) h.0 })
 at_within (Replace at x) xs s e =
-    let h = if_ok (nat_lt at.place (length xs)) (record { first = at.place; behind = at.place + 1; put = x ∷ [] }) s PlaceOutOfRange e in
+    let h = if_ok (nat_lt at.place (length xs)) (record { first = at.place; following = at.place + 1; put = x ∷ [] }) s PlaceOutOfRange e in
     subst (λ t. IsWithin t xs) h.1 (record { order = omega arith; end = omega (arith, lt_holds at.place (length xs) h.0) })
 at_within (Delete at) xs s e =
-    let h = if_ok (nat_lt at.place (length xs)) (record { first = at.place; behind = at.place + 1; put = [] }) s PlaceOutOfRange e in
+    let h = if_ok (nat_lt at.place (length xs)) (record { first = at.place; following = at.place + 1; put = [] }) s PlaceOutOfRange e in
     subst (λ t. IsWithin t xs) h.1 (record { order = omega arith; end = omega (arith, lt_holds at.place (length xs) h.0) })
 
 block_within : (b : ℕ) (xs : List OneItem) (r : Result OneItem Refusal) (s : Splice) → ((x : OneItem) → r ≡ Ok x → b < length xs) → splice_block b r ≡ Ok s → IsWithin s xs
 block_within b xs (Ok x) s f e =
-    let same : record { first = b; behind = b + 1; put = x ∷ [] } ≡ s = cc in
+    let same : record { first = b; following = b + 1; put = x ∷ [] } ≡ s = cc in
     subst (λ t. IsWithin t xs) same (record { order = omega arith; end = omega (arith, f x refl) })
 block_within b xs (Err r) s f e = absurd (cc)
 

@@ -52,12 +52,12 @@ steps_split (suc n) (x ∷ xs) =
 paths-append : (place : ℕ) (xs ys : List OneItem) → paths_from place (listed (xs ++ ys)) ≡ paths_from place (listed xs) ++ paths_from (place + length xs) (listed ys)
 paths-append place [] ys = let same : place ≡ place + 0 = omega arith in ap (λ p. paths_from p (listed ys)) same
 paths-append place (x ∷ xs) ys =
-    let behind = paths_from (place + suc (length xs)) (listed ys) in
+    let following = paths_from (place + suc (length xs)) (listed ys) in
     let further : place + 1 + length xs ≡ place + suc (length xs) = omega arith in
     paths_before place x (listed (xs ++ ys))
     ∙ ap (λ l. paths_from place (before x done) ++ l) (paths-append (place + 1) xs ys ∙ ap (λ p. paths_from (place + 1) (listed xs) ++ paths_from p (listed ys)) further)
-    ∙ sym (append_assoc (paths_from place (before x done)) (paths_from (place + 1) (listed xs)) behind)
-    ∙ ap (λ l. l ++ behind) (sym (paths_before place x (listed xs)))
+    ∙ sym (append_assoc (paths_from place (before x done)) (paths_from (place + 1) (listed xs)) following)
+    ∙ ap (λ l. l ++ following) (sym (paths_before place x (listed xs)))
 
 -- the paths from a step on, by the items from a place on
 pub paths_from_place : (xs : List OneItem) (place rest step : ℕ) → place ≤ length xs → length (unroll (listed (take place xs))) + rest ≡ step

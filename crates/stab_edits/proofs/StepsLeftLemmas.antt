@@ -30,9 +30,9 @@ left_passed xs p w n x h e is enough =
     sym (ap (λ l. item_steps_left l w) (items_from xs p x h e) ∙ left_past x (listed (drop (p + 1) xs)) w n is enough)
 
 -- after the first items
-left_behind : (xs ys : List OneItem) (m : ℕ) → item_steps_left (listed (xs ++ ys)) (length (unroll (listed xs)) + m) ≡ item_steps_left (listed ys) m
-left_behind [] ys m = let none : 0 + m ≡ m = omega arith in ap (item_steps_left (listed ys)) none
-left_behind (x ∷ xs) ys m =
+left_after : (xs ys : List OneItem) (m : ℕ) → item_steps_left (listed (xs ++ ys)) (length (unroll (listed xs)) + m) ≡ item_steps_left (listed ys) m
+left_after [] ys m = let none : 0 + m ≡ m = omega arith in ap (item_steps_left (listed ys)) none
+left_after (x ∷ xs) ys m =
     let a = length (unroll (before x done)) in
     let b = length (unroll (listed xs)) in
     let first : length (unroll (before x (listed xs))) ≡ a + b = ap length (unroll_before x (listed xs)) ∙ length-append (unroll (before x done)) (unroll (listed xs)) in
@@ -41,11 +41,11 @@ left_behind (x ∷ xs) ys m =
     ap (item_steps_left (before x (listed (xs ++ ys)))) at
     ∙ left_past x (listed (xs ++ ys)) (a + (b + m)) a refl (omega arith)
     ∙ ap (item_steps_left (listed (xs ++ ys))) less
-    ∙ left_behind xs ys m
+    ∙ left_after xs ys m
 
 pub left_from_place : (xs : List OneItem) (place rest step : ℕ) → length (unroll (listed (take place xs))) + rest ≡ step → item_steps_left (listed (drop place xs)) rest ≡ item_steps_left (listed xs) step
 left_from_place xs place rest step e =
-    sym (left_behind (take place xs) (drop place xs) rest)
+    sym (left_after (take place xs) (drop place xs) rest)
     ∙ ap (item_steps_left (listed (take place xs ++ drop place xs))) e
     ∙ ap (λ l. item_steps_left (listed l) step) (take-append-drop place xs)
 

@@ -148,12 +148,12 @@ same_before : (ss : List Stretch) (place len some : ℕ) (ys : List OneItem) (we
 same_before ss place len some ys were before =
     let xs = were.old in
     let cut = were.splice in
-    let left : take cut.first xs ++ (cut.put ++ drop cut.behind xs) ≡ ys = cc in
+    let left : take cut.first xs ++ (cut.put ++ drop cut.following xs) ≡ ys = cc in
     let short : length (take cut.first xs) ≡ cut.first = length-take-le cut.first xs (omega (arith, were.within.order, were.within.end)) in
-    ap (take some) (sym left) ∙ take-append-le some (take cut.first xs) (cut.put ++ drop cut.behind xs) (omega (arith, short, were.first, before)) ∙ take-take some cut.first xs (omega (arith, were.first, before))
+    ap (take some) (sym left) ∙ take-append-le some (take cut.first xs) (cut.put ++ drop cut.following xs) (omega (arith, short, were.first, before)) ∙ take-take some cut.first xs (omega (arith, were.first, before))
 
-pub stays_behind : (ss : List Stretch) (k place len first : ℕ) (ys : List OneItem) → WereStretches ss place len ys → length ss ≤ k → first ≡ items_in (take k ss) → first ≤ place → AreStretches ss ys
-stays_behind ss k place len first ys were h at before =
+pub stays_after : (ss : List Stretch) (k place len first : ℕ) (ys : List OneItem) → WereStretches ss place len ys → length ss ≤ k → first ≡ items_in (take k ss) → first ≤ place → AreStretches ss ys
+stays_after ss k place len first ys were h at before =
     let all : items_in (take k ss) ≡ items_in ss = ap items_in (take_all k ss h) in
     same_stretches ss were.old ys were.are (same_before ss place len (items_in ss) ys were (omega (arith, all, at, before)))
 
@@ -164,11 +164,11 @@ end_within ss k place len first s ys were h e at = omega (arith, items_next ss k
 -- the stretches of a list in which one was renewed that an edit lies in
 pub renewed_at : (ss : List Stretch) (k place len first : ℕ) (s new : Stretch) (ys own : List OneItem) → WereStretches ss place len ys → k < length ss → s ≡ get_or ss k s → first ≡ items_in (take k ss) → first ≤ place
     → place < first + s.items → own ≡ drop first (take (length ys - (len - (first + s.items))) ys) → new.items ≡ length own → IsSumOf (listed own) new.summary → AreStretches (set ss k new) ys
-renewed_at ss k place len first s new ys own were h e at before behind is items sum =
+renewed_at ss k place len first s new ys own were h e at before following is items sum =
     let xs = were.old in
     let cut = were.splice in
     let front = take cut.first xs ++ cut.put in
-    let back = drop cut.behind xs in
+    let back = drop cut.following xs in
     let end = first + s.items in
     let kept = length ys - (len - end) in
     let some = items_in (take k ss) in
@@ -177,13 +177,13 @@ renewed_at ss k place len first s new ys own were h e at before behind is items 
     let next : items_in (take (k + 1) ss) ≡ end = omega (arith, items_next ss k s h e, at) in
     let fits : end ≤ length xs = omega (arith, were.long, end_within ss k place len first s ys were h e at) in
     let short : length (take cut.first xs) ≡ cut.first = length-take-le cut.first xs (omega (arith, were.within.order, were.within.end)) in
-    let long : length ys ≡ length front + (length xs - cut.behind) = ap length whole ∙ length-append front back ∙ ap (λ n. length front + n) (length-drop cut.behind xs) in
+    let long : length ys ≡ length front + (length xs - cut.following) = ap length whole ∙ length-append front back ∙ ap (λ n. length front + n) (length-drop cut.following xs) in
     let joined : length front ≡ cut.first + length cut.put = length-append (take cut.first xs) cut.put ∙ ap (λ n. n + length cut.put) short in
-    let past : cut.behind ≤ end = omega (arith, were.one, behind) in
-    let cut_at : kept ≡ length front + (end - cut.behind) = omega (arith, long, were.long, fits, past) in
-    let further : cut.behind + (end - cut.behind) ≡ end = omega (arith, past) in
+    let past : cut.following ≤ end = omega (arith, were.one, following) in
+    let cut_at : kept ≡ length front + (end - cut.following) = omega (arith, long, were.long, fits, past) in
+    let further : cut.following + (end - cut.following) ≡ end = omega (arith, past) in
     let rest : drop kept ys ≡ drop end xs =
-    ap (drop kept) whole ∙ ap (λ n. drop n (front ++ back)) cut_at ∙ drop-append-add front back (end - cut.behind) ∙ drop-drop (end - cut.behind) cut.behind xs ∙ ap (λ n. drop n xs) further in
+    ap (drop kept) whole ∙ ap (λ n. drop n (front ++ back)) cut_at ∙ drop-append-add front back (end - cut.following) ∙ drop-drop (end - cut.following) cut.following xs ∙ ap (λ n. drop n xs) further in
     let same = same_before ss place len some ys were (omega (arith, before, at)) in
     let enough : some + new.items ≡ kept =
     omega (arith, items, ap length is, length-drop first (take kept ys), length-take kept ys, cut_at, joined, long, were.first, before, at, were.within.end, past, fits) in

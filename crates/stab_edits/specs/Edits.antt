@@ -20,7 +20,7 @@ abbrev pub rebuilt : ℕ → List ℕ → Result (List OneItem) Refusal → Resu
 rebuilt count tag (Ok body) = Ok (repeat count tag (listed body))
 rebuilt count tag (Err r) = Err r
 
--- the item that a path leads into, with its items edited: 12 if there is none, 17 if it is no block
+-- the item that a path goes into, with its items edited: 12 if there is none, 17 if it is no block
 abbrev pub edited_inside : (List OneItem → Result (List OneItem) Refusal) → Option OneItem → Result OneItem Refusal
 edited_inside edit None = Err PlaceOutOfRange
 edited_inside edit (Some (operation op)) = Err NotABlock
@@ -43,7 +43,7 @@ abbrev pub edited_in : Edit → List ℕ → List OneItem → Result (List OneIt
 edited_in edit [] xs = changed edit xs
 edited_in edit (b ∷ bs) xs = with_item b xs (edited_inside (edited_in edit bs) (slice_get xs b))
 
--- a list after an edit, or why its path leads to no place
+-- a list after an edit, or why its path goes to no place
 abbrev pub edited : Edit → List OneItem → Result (List OneItem) Refusal
 edited edit xs = edited_in edit (edit_path edit).blocks xs
 
@@ -112,33 +112,33 @@ abbrev pub first_changed : Edit → List OneItem → ℕ
 first_changed edit xs = length (steps_before (edit_path edit) xs)
 
 -- the place after what an edit takes out of the innermost list: that of an insertion at 5 is 5, and that of a deletion at 5 is 6
-abbrev pub behind_taken : Edit → ℕ
-behind_taken (Insert place x) = place.place
-behind_taken (Replace place x) = place.place + 1
-behind_taken (Delete place) = place.place + 1
+abbrev pub after_taken : Edit → ℕ
+after_taken (Insert place x) = place.place
+after_taken (Replace place x) = place.place + 1
+after_taken (Delete place) = place.place + 1
 
 -- the place after what an edit puts into the innermost list: that of an insertion at 5 is 6, and that of a deletion at 5 is 5
-abbrev pub behind_put : Edit → ℕ
-behind_put (Insert place x) = place.place + 1
-behind_put (Replace place x) = place.place + 1
-behind_put (Delete place) = place.place
+abbrev pub after_put : Edit → ℕ
+after_put (Insert place x) = place.place + 1
+after_put (Replace place x) = place.place + 1
+after_put (Delete place) = place.place
 
 -- the same place in the outermost list, from which an edit within a block takes the block, and puts it back: after the item at 5 of
 -- the outermost list it is 6; after the item at 5 of the block at 2 it is 3, after the block
 abbrev pub outermost : ℕ → List ℕ → ℕ
-outermost behind blocks = elim blocks [ [] ↦ behind | b ∷ bs ↦ b + 1 ]
+outermost following blocks = elim blocks [ [] ↦ following | b ∷ bs ↦ b + 1 ]
 
 -- how many steps of the old list are before the end of the outermost item that is taken out: if M 0 is deleted from H 0, M 0, X 0,
 -- these are 2, with its own; if Z 0 is inserted into the block of REPEAT 3 { H 0 } they are 3, with all rounds
 abbrev pub old_end : Edit → List OneItem → ℕ
-old_end edit old = length (unroll (listed (take (outermost (behind_taken edit) (edit_path edit).blocks) old)))
+old_end edit old = length (unroll (listed (take (outermost (after_taken edit) (edit_path edit).blocks) old)))
 
 -- how many steps of the new list are before the end of the outermost item that is put in: the deletion above leaves H 0, X 0, and this
 -- is 1; the insertion leaves REPEAT 3 { Z 0, H 0 }, and it is 6
 abbrev pub new_end : Edit → List OneItem → ℕ
-new_end edit new = length (unroll (listed (take (outermost (behind_put edit) (edit_path edit).blocks) new)))
+new_end edit new = length (unroll (listed (take (outermost (after_put edit) (edit_path edit).blocks) new)))
 
 -- an edit leaves the steps before the first changed one, and those after the outermost item around the place
 pub record LeavesTheRest (edit : Edit) (old new : List OneItem) : Type 0 where
   pub before : take (first_changed edit old) (unroll (listed old)) ≡ take (first_changed edit old) (unroll (listed new))
-  pub behind : drop (old_end edit old) (unroll (listed old)) ≡ drop (new_end edit new) (unroll (listed new))
+  pub following : drop (old_end edit old) (unroll (listed old)) ≡ drop (new_end edit new) (unroll (listed new))

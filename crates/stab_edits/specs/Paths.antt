@@ -20,7 +20,3 @@ slash = 47
 -- the text of a path: its numbers in decimal, joined by slashes
 abbrev pub path_text : Path → List ℕ
 path_text p = join_with_byte slash (map decimal (numbers p))
-
--- the most blocks around a place
-abbrev pub most_blocks : ℕ
-most_blocks = 16

@@ -23,7 +23,7 @@ abbrev pub item_in : List ℕ → ℕ → List OneItem → Result OneItem Refusa
 item_in [] place xs = item_there (slice_get xs place)
 item_in (b ∷ bs) place xs = found_inside (item_in bs place) (slice_get xs b)
 
--- the item at the place of a path, or why the path leads to none
+-- the item at the place of a path, or why the path goes to none
 abbrev pub item_at : Path → List OneItem → Result OneItem Refusal
 item_at path xs = item_in path.blocks path.place xs
 

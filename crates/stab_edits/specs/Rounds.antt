@@ -5,7 +5,7 @@ use Rattle.stab_items.specs.Items.{OneItem, operation, repeat, listed, before, d
 use Rattle.stab_items.specs.Steps.{Step, unroll}
 use Rattle.stab_edits.specs.declared.edit.Edit.{Edit}
 use Rattle.stab_edits.specs.Paths.{Path}
-use Rattle.stab_edits.specs.Edits.{edit_path, inner, steps_in, taken, put_item, behind_taken, behind_put, outermost, first_changed, old_end, new_end}
+use Rattle.stab_edits.specs.Edits.{edit_path, inner, steps_in, taken, put_item, after_taken, after_put, outermost, first_changed, old_end, new_end}
 
 -- the same steps before each of some pieces
 abbrev pub interleaved : List Step → List (List Step) → List Step
@@ -20,18 +20,18 @@ rounds_in (Some (repeat count tag body)) = count
 
 -- the pieces of this many rounds, by those of one, which depend on what comes after it: the steps before the place in the next round, and
 -- after the last round these
-abbrev pub round_pieces : ℕ → (List Step → List (List Step)) → (lead : List Step) → (behind : List Step) → List (List Step)
-round_pieces zero round lead behind = []
-round_pieces (suc zero) round lead behind = round behind
-round_pieces (suc (suc n)) round lead behind = round lead ++ round_pieces (suc n) round lead behind
+abbrev pub round_pieces : ℕ → (List Step → List (List Step)) → (lead : List Step) → (following : List Step) → List (List Step)
+round_pieces zero round lead following = []
+round_pieces (suc zero) round lead following = round following
+round_pieces (suc (suc n)) round lead following = round lead ++ round_pieces (suc n) round lead following
 
 -- the pieces that a list's steps, and these after them, come to after an item in the last of these blocks: where it ends in the
 -- innermost list, and where it begins there
-abbrev pub pieces_in : (end : ℕ) → List ℕ → (place : ℕ) → List OneItem → (behind : List Step) → List (List Step)
-pieces_in end [] place xs behind = (unroll (listed (drop end xs)) ++ behind) ∷ []
-pieces_in end (b ∷ bs) place xs behind =
+abbrev pub pieces_in : (end : ℕ) → List ℕ → (place : ℕ) → List OneItem → (following : List Step) → List (List Step)
+pieces_in end [] place xs following = (unroll (listed (drop end xs)) ++ following) ∷ []
+pieces_in end (b ∷ bs) place xs following =
     round_pieces (rounds_in (slice_get xs b)) (pieces_in end bs place (inner (slice_get xs b))) (steps_in bs place (inner (slice_get xs b)))
-    (unroll (listed (drop (b + 1) xs)) ++ behind)
+    (unroll (listed (drop (b + 1) xs)) ++ following)
 
 -- the pieces after each occurrence of an item from a path up to an end in the innermost list, the last up to the end of the outermost
 -- item: after X 0 in H 0, REPEAT 3 { Y 0, X 0, Z 0 } these are Z Y, Z Y and Z
@@ -61,7 +61,7 @@ steps_between first end steps = take (end - first) (drop first steps)
 -- the same pieces
 pub record ChangesEachRound (edit : Edit) (old new : List OneItem) : Type 0 where
   pub taken_out : steps_between (first_changed edit old) (old_end edit old) (unroll (listed old))
-      ≡ interleaved (item_steps (taken edit old)) (pieces (edit_path edit) (behind_taken edit) old)
+      ≡ interleaved (item_steps (taken edit old)) (pieces (edit_path edit) (after_taken edit) old)
   pub put_in : steps_between (first_changed edit old) (new_end edit new) (unroll (listed new))
-      ≡ interleaved (item_steps (put_item edit)) (pieces (edit_path edit) (behind_put edit) new)
-  pub same : pieces (edit_path edit) (behind_put edit) new ≡ pieces (edit_path edit) (behind_taken edit) old
+      ≡ interleaved (item_steps (put_item edit)) (pieces (edit_path edit) (after_put edit) new)
+  pub same : pieces (edit_path edit) (after_put edit) new ≡ pieces (edit_path edit) (after_taken edit) old

@@ -35,8 +35,8 @@ abbrev pub split_in : (round : ℕ) → List ℕ → ℕ → List OneItem → Re
 split_in round [] place xs = with_parts place xs (parts_of_item round (slice_get xs place))
 split_in round (b ∷ bs) place xs = with_item b xs (edited_inside (split_in round bs place) (slice_get xs b))
 
--- a list in which round R of the block at a path was split off, counted from 0: 12 if the path leads past a list or the block has no
--- such round, 17 if it leads into or to an item that is no block
+-- a list in which round R of the block at a path was split off, counted from 0: 12 if the path goes past a list or the block has no
+-- such round, 17 if it goes into or to an item that is no block
 abbrev pub split : Path → (round : ℕ) → List OneItem → Result (List OneItem) Refusal
 split path round xs = split_in round path.blocks path.place xs
 

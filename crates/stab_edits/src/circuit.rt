@@ -58,7 +58,7 @@ impl Circuit {
     ghost use Rattle.stab_gates.specs.Limits.{most_qubits};
     ghost use Rattle.stab_items.specs.Steps.{unroll, records_of, detectors_of, qubits_of, observables_of, most_steps, steps_cap, check_of, check_within, Checks};
     ghost use Rattle.stab_io.specs.Refusals.{Refuses};
-    ghost use Rattle.stab_edits.specs.Cursors.{IsApart};
+    ghost use Rattle.stab_edits.specs.Cursors.{HasDistinctQubits};
     ghost use Rattle.stab_edits.specs.Views.{circuit_items};
     ghost use Rattle.stab_edits.specs.inner.Stretches.{AreStretches};
 
@@ -95,12 +95,12 @@ impl Circuit {
     }
 
     /// The items of the outermost list. It takes no memory.
-    #[tactic(auto, using(stab_items::proofs::LineApartLemmas::good_apart))]
+    #[tactic(auto, using(stab_items::proofs::LineDistinctLemmas::good_distinct))]
     pub fn items(&self) -> &[Item]
         ensures value { result.now ≡ self.now }
         ensures shallow { depth (circuit_items self.now) ≤ 16 }
         ensures good { AreGood (circuit_items self.now) }
-        ensures apart { All IsApart (unroll (circuit_items self.now)) }
+        ensures distinct { All HasDistinctQubits (unroll (circuit_items self.now)) }
     {
         let _ = &self.total;
         self.items.as_slice()

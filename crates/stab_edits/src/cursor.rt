@@ -41,7 +41,7 @@ impl<'a> Cursor<'a> {
     ghost use Rattle.stab_io.specs.declared.refusal.Refusal.TheVariants.{OutOfMemory};
     ghost use Rattle.stab_items.specs.Steps.{check_of, unroll};
     ghost use Rattle.stab_edits.specs.Views.{circuit_items};
-    ghost use Rattle.stab_edits.specs.Cursors.{step_shown, steps_shown, IsApart, IsApartAlone};
+    ghost use Rattle.stab_edits.specs.Cursors.{step_shown, steps_shown, HasDistinctQubits, HaveDistinctQubits};
 
     /// The steps of a circuit from this one on, counted from 0.
     ///
@@ -53,7 +53,7 @@ impl<'a> Cursor<'a> {
         requires in_range { step ≤ length (unroll (circuit_items circuit.now)) }
         ensures all { IfOk result (λ c. c.all ≡ unroll (circuit_items circuit.now)) }
         ensures steps { IfOk result (λ c. c.left ≡ drop step (unroll (circuit_items circuit.now))) }
-        ensures apart { IfOk result (λ c. All IsApart c.all) }
+        ensures distinct { IfOk result (λ c. All HasDistinctQubits c.all) }
         ensures err { IfErr result (λ r. r ≡ OutOfMemory) }
     {
         let items = circuit.items();
@@ -67,7 +67,7 @@ impl<'a> Cursor<'a> {
     pub fn next(&mut self) -> Option<Step<'a>>
         ensures all { self.new.all ≡ self.old.all }
         ensures some { IfSome result (λ s. self.old.left ≡ step_shown s ∷ self.new.left) }
-        ensures apart { IfSome result (λ s. IsApart (step_shown s)) }
+        ensures distinct { IfSome result (λ s. HasDistinctQubits (step_shown s)) }
         ensures none { IfNone result ((self.old.left ≡ []) × (self.new.left ≡ [])) }
     {
         self.walk.next()
@@ -80,7 +80,7 @@ impl<'a> Cursor<'a> {
         ensures all { self.new.all ≡ self.old.all }
         ensures some { IfSome result (λ s. self.old.left ≡ steps_shown s ++ self.new.left) }
         ensures within { IfSome result (λ s. (0 < length (steps_shown s)) × (length (steps_shown s) ≤ most)) }
-        ensures apart { IfSome result IsApartAlone }
+        ensures distinct { IfSome result HaveDistinctQubits }
         ensures none { IfNone result ((self.old.left ≡ []) × (self.new.left ≡ [])) }
     {
         self.walk.next_steps(most)

@@ -15,12 +15,12 @@ use stab_items::{Item, Part, STEPS_CAP, Summary};
 use stab_lines::Count;
 
 /// What an edit comes to in a list of items: which items leave it, from the first up to the one
-/// before `behind`, the summary of what replaces them, and how many steps are before the
+/// before `following`, the summary of what replaces them, and how many steps are before the
 /// place within the first, counted up to 1,048,577.
 #[derive(Clone, Copy)]
 pub(crate) struct Judgement {
     pub(crate) first: usize,
-    pub(crate) behind: usize,
+    pub(crate) following: usize,
     pub(crate) put: Summary,
     pub(crate) within: u32,
 }
@@ -76,19 +76,19 @@ fn judge_at(len: usize, edit: &Edit) -> Result<Judgement, Refusal>
     match edit {
         Edit::Insert { item, .. } if place <= len => Ok(Judgement {
             first: place,
-            behind: place,
+            following: place,
             put: item.summary(),
             within: 0,
         }),
         Edit::Replace { item, .. } if place < len => Ok(Judgement {
             first: place,
-            behind: place + 1,
+            following: place + 1,
             put: item.summary(),
             within: 0,
         }),
         Edit::Delete { .. } if place < len => Ok(Judgement {
             first: place,
-            behind: place + 1,
+            following: place + 1,
             put: Summary::NONE,
             within: 0,
         }),
@@ -104,11 +104,11 @@ fn judge_at(len: usize, edit: &Edit) -> Result<Judgement, Refusal>
 fn judge(items: &[Item], blocks: &[usize], edit: &Edit) -> Result<Judgement, Refusal>
     ensures value { result ≡ judgement_of (min (length (steps_within blocks.now (edit_path edit.now).place items.now)) steps_cap) (splice_of edit.now blocks.now items.now) }
     ensures small { IfOk result (λ j. IsSummary j.put) }
-    ensures within { IfOk result (λ j. (j.first ≤ j.behind) × (j.behind ≤ length items.now) × (j.within ≤ steps_cap)) }
+    ensures within { IfOk result (λ j. (j.first ≤ j.following) × (j.following ≤ length items.now) × (j.within ≤ steps_cap)) }
     ensures front { OnOk result (BeginsWith (steps_of_place blocks.now (edit_path edit.now).place items.now) (unroll (listed items.now))) }
     ensures good { OnOk result (IfOk (splice_of edit.now blocks.now items.now) PutsGood) }
     ensures within_put { IfOk result (λ j. j.within ≤ j.put.steps) }
-    ensures within_gone { IfOk result (λ j. j.within ≤ length (unroll (listed (drop j.first (take j.behind items.now))))) }
+    ensures within_gone { IfOk result (λ j. j.within ≤ length (unroll (listed (drop j.first (take j.following items.now))))) }
 {
     match blocks.split_first() {
         None => judge_at(items.len(), edit),
@@ -118,7 +118,7 @@ fn judge(items: &[Item], blocks: &[usize], edit: &Edit) -> Result<Judgement, Ref
                 Err(refusal) => Err(refusal),
                 Ok(round) => Ok(Judgement {
                     first: *block,
-                    behind: *block + 1,
+                    following: *block + 1,
                     put: round.total.repeated(inner.count.number()),
                     within: round.first,
                 }),
@@ -166,12 +166,12 @@ fn edit_result_in(
         Err(refusal) => Err(refusal),
         Ok(judgement) => {
             let first = judgement.first;
-            let behind = judgement.behind;
+            let following = judgement.following;
             Ok(edit_result_of(
                 judgement,
                 summary_between(stretches, items, 0, first),
-                summary_between(stretches, items, first, behind),
-                summary_between(stretches, items, behind, items.len()),
+                summary_between(stretches, items, first, following),
+                summary_between(stretches, items, following, items.len()),
             ))
         }
     }

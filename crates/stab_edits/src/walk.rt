@@ -1,5 +1,5 @@
 ghost use Rattle.std.specs.Prelude.{◌≡◌, ◌<◌, ◌+◌, ◌^◌, slice_get, IfSome};
-ghost use Rattle.stab_edits.specs.Cursors.{step_shown, shown_step, IsApart};
+ghost use Rattle.stab_edits.specs.Cursors.{step_shown, shown_step, HasDistinctQubits};
 ghost use Rattle.stab_edits.specs.inner.Walks.{kind_steps};
 
 mod same;
@@ -55,7 +55,7 @@ impl<'a> Walk<'a> {
     ghost use Rattle.std.specs.Prelude.{◌≡◌, ◌≤◌, ◌<◌, ◌+◌, ◌∷◌, ◌++◌, [], Some, None, length, drop, map, IfOk, IfSome, IfNone};
     ghost use Rattle.stab_items.specs.Items.{depth, listed};
     ghost use Rattle.stab_items.specs.Steps.{unroll, detector, rounds as rounds_of};
-    ghost use Rattle.stab_edits.specs.Cursors.{step_shown, lookbacks_of, steps_shown, IsApart, IsApartAlone};
+    ghost use Rattle.stab_edits.specs.Cursors.{step_shown, lookbacks_of, steps_shown, HasDistinctQubits, HaveDistinctQubits};
     ghost use Rattle.stab_edits.specs.inner.Walks.{kind_steps, ahead, walk_left, walk_weight, weight_at, IsItemOf, IsWalk, SameKind, Takes, GoesOn, Reaches};
 
     /// A walk over items from a place on, with room for every level.
@@ -102,7 +102,7 @@ impl<'a> Walk<'a> {
         requires walks { IsWalk self.old }
         ensures walks { IsWalk self.new }
         ensures some { IfSome result (λ s. walk_left self.old ≡ step_shown s ∷ walk_left self.new) }
-        ensures apart { IfSome result (λ s. IsApart (step_shown s)) }
+        ensures distinct { IfSome result (λ s. HasDistinctQubits (step_shown s)) }
         ensures none { IfNone result ((self.new ≡ self.old) × (drop self.old.within (kind_steps self.old.kind) ≡ [])) }
     {
         let step = current(self.kind, self.within)?;
@@ -211,7 +211,7 @@ impl<'a> Walk<'a> {
         requires walks { IsWalk self.old }
         ensures walks { IsWalk self.new }
         ensures some { IfSome result (λ s. walk_left self.old ≡ step_shown s ∷ walk_left self.new) }
-        ensures apart { IfSome result (λ s. IsApart (step_shown s)) }
+        ensures distinct { IfSome result (λ s. HasDistinctQubits (step_shown s)) }
         ensures none { IfNone result ((walk_left self.old ≡ []) × (walk_left self.new ≡ [])) }
     {
         'walk: loop {
@@ -230,7 +230,7 @@ impl<'a> Walk<'a> {
         ensures walks { IsWalk self.new }
         ensures some { IfSome result (λ s. walk_left self.old ≡ steps_shown s ++ walk_left self.new) }
         ensures within { IfSome result (λ s. (0 < length (steps_shown s)) × (length (steps_shown s) ≤ most)) }
-        ensures apart { IfSome result IsApartAlone }
+        ensures distinct { IfSome result HaveDistinctQubits }
         ensures none { IfNone result ((self.new ≡ self.old) × (drop self.old.within (kind_steps self.old.kind) ≡ [])) }
     {
         let steps = steps_from(self.kind?, self.within, most)?;
@@ -267,7 +267,7 @@ impl<'a> Walk<'a> {
         ensures walks { IsWalk self.new }
         ensures some { IfSome result (λ s. walk_left self.old ≡ steps_shown s ++ walk_left self.new) }
         ensures within { IfSome result (λ s. (0 < length (steps_shown s)) × (length (steps_shown s) ≤ most)) }
-        ensures apart { IfSome result IsApartAlone }
+        ensures distinct { IfSome result HaveDistinctQubits }
         ensures none { IfNone result ((walk_left self.old ≡ []) × (walk_left self.new ≡ [])) }
     {
         'walk: loop {
@@ -286,7 +286,7 @@ impl<'a> Walk<'a> {
 /// The next step of an instruction of which this many were given.
 fn current(kind: Option<&Kind>, within: usize) -> Option<Step<'_>>
     ensures value { shown_step result ≡ slice_get (kind_steps kind.entry) within }
-    ensures apart { IfSome result (λ s. IsApart (step_shown s)) }
+    ensures distinct { IfSome result (λ s. HasDistinctQubits (step_shown s)) }
     ensures room { IfSome result (λ s. within + 1 < 2 ^ 64) }
 {
     match kind {

@@ -82,10 +82,10 @@ mapped-more f Is xs k x old now new lt is before adds =
     (adds-more Is (map f (take k xs)) (f x ∷ []) old now new before adds)
 
 -- a record by itself, with its places
-pub record-stands : (number : ℕ) (flip : PlacedLetter) (back : Option PlacedLetter) (front behind : Place) → flip.place ≡ front → IfSome back (λ f. f.place ≡ behind)
-    → (faults : List FaultPlace) → Stands front faults × Stands behind faults → ErrorStands faults (error.Record number flip back)
-record-stands number flip None front behind first second faults stand = subst (λ p. Stands p faults) (sym first) stand.0
-record-stands number flip (Some f) front behind first second faults stand =
+pub record-stands : (number : ℕ) (flip : PlacedLetter) (back : Option PlacedLetter) (front following : Place) → flip.place ≡ front → IfSome back (λ f. f.place ≡ following)
+    → (faults : List FaultPlace) → Stands front faults × Stands following faults → ErrorStands faults (error.Record number flip back)
+record-stands number flip None front following first second faults stand = subst (λ p. Stands p faults) (sym first) stand.0
+record-stands number flip (Some f) front following first second faults stand =
     (subst (λ p. Stands p faults) (sym first) stand.0, subst (λ p. Stands p faults) (sym second) stand.1)
 
 -- letters at a place, whose faults are from a row on

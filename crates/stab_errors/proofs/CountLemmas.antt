@@ -9,7 +9,7 @@ as-many-alike : {P Q : List ℕ → Type 0} (count : ℕ) → ((ks : List ℕ) �
 as-many-alike count to from are = record {
   set = are.set;
   is_one = λ k less. to (are.set k) (are.is_one k less);
-  apart = are.apart;
+  distinct = are.distinct;
   all = λ ks is. are.all ks (from ks is);
 }
 
@@ -18,7 +18,7 @@ as-many-none : {Q : List ℕ → Type 0} → ((ks : List ℕ) → Q ks → ⊥) 
 as-many-none none = record {
   set = λ k. [];
   is_one = λ k less. absurd (omega (arith, less));
-  apart = λ j k less. absurd (omega (arith, less));
+  distinct = λ j k less. absurd (omega (arith, less));
   all = λ ks is. absurd (none ks is);
 }
 

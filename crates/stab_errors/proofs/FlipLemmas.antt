@@ -167,12 +167,12 @@ module _ (n : ℕ) (everywhere : Bool) (items : Items) (deterministic : List Boo
   -- so the row of an error is what it flips
 
   module _ (coins : ℕ → Bool) (e : ErrorValue) (stands : ErrorStands faults e) (r : List ℕ) (is : IsRowOf rows e r) where
-    tells : (m : ℕ) → m < bits_in items → (b : Bool) → slice_index_or deterministic m false ≡ b
+    reports : (m : ℕ) → m < bits_in items → (b : Bool) → slice_index_or deterministic m false ≡ b
         → odd m r ≡ (slice_index_or deterministic m false && flip_together n items coins (faults_in (error_shown e)) m)
-    tells m inside true e_deterministic =
+    reports m inside true e_deterministic =
         is.value m ∙ sym (error-flips m inside ((table.are_deterministic.exact m inside).0 e_deterministic) coins e stands)
         ∙ sym (set (slice_index_or deterministic m false) (flip_together n items coins (faults_in (error_shown e)) m) e_deterministic)
-    tells m inside false e_deterministic =
+    reports m inside false e_deterministic =
         is.value m ∙ error-without m (λ t. e_deterministic) e
         ∙ sym (unset (slice_index_or deterministic m false) (flip_together n items coins (faults_in (error_shown e)) m) e_deterministic)
 
@@ -183,7 +183,7 @@ module _ (n : ℕ) (everywhere : Bool) (items : Items) (deterministic : List Boo
     row-is =
         ascending-is (bits_in items) 0 r (ascends-below 0 (0 + bits_in items) r is.ascending (λ m ge. past m (omega (arith, ge))))
         ∙ where-same (λ m. odd m r) (λ m. slice_index_or deterministic m false && flip_together n items coins (faults_in (error_shown e)) m) 0 (bits_in items)
-        (λ m ge inside. tells m (omega (arith, inside)) (slice_index_or deterministic m false) refl)
+        (λ m ge inside. reports m (omega (arith, inside)) (slice_index_or deterministic m false) refl)
 
   rows-are : (coins : ℕ → Bool) (errors : List ErrorValue) (made : List (List ℕ)) → All (ErrorStands faults) errors → AreRowsOf rows errors made
       → made ≡ map (flipped_by n items deterministic coins) (map error_shown errors)

@@ -1,5 +1,5 @@
 -- Graph-like errors: those of a table are those that flip at most two detectors by runs, and their least sets.
-use Rattle.stab_errors.proofs.Names.{◌≡◌, ℕ, ◌<◌, ◌⊎◌, refl, sym, ◌∙◌, subst, Bool, true, false, List, [], ◌∷◌, length, arith, Option, Some, All, unwrap_or, length-map, All-nil, All-cons, All-head, All-tail, All-weaker, parity-false, Items, bits_in, IsDeterministic, Answer, Least, NoneWithin, NoneAtAll, odd, IsGraphlike, IsGraphlikeError, IsLeastGraphlike, HasNoGraphlikeWithin, IsGraphlikeAnswer, graphlike-up_to, Error, faults_in, ErrorTableState, IsErrorTable, flip_together, AreUnseen, FlipsTwo, AreUnseenOf, NoneUnseenWithin, IsLeastSet, IsDistance, error_at, errors_at_numbers, with_observable, unroll, detectors_of, Result, Ok, Err, IfOk, Heard, TellsSearch, TellsUnseen}
+use Rattle.stab_errors.proofs.Names.{◌≡◌, ℕ, ◌<◌, ◌⊎◌, refl, sym, ◌∙◌, subst, Bool, true, false, List, [], ◌∷◌, length, arith, Option, Some, All, unwrap_or, length-map, All-nil, All-cons, All-head, All-tail, All-weaker, parity-false, Items, bits_in, IsDeterministic, Answer, Least, NoneWithin, NoneAtAll, odd, IsGraphlike, IsGraphlikeError, IsLeastGraphlike, HasNoGraphlikeWithin, IsGraphlikeAnswer, graphlike-up_to, Error, faults_in, ErrorTableState, IsErrorTable, flip_together, AreUnseen, FlipsTwo, AreUnseenOf, NoneUnseenWithin, IsLeastSet, IsDistance, error_at, errors_at_numbers, with_observable, unroll, detectors_of, Result, Ok, Err, IfOk, Heard, ReportsSearch, ReportsUnseen}
 use Rattle.std.proofs.Common.{None}
 use Rattle.stab_distance.specs.Tables.{ErrorTable, row}
 use Rattle.stab_errors.proofs.ObservedLemmas.{as-many-kept, same-detectors, odd-detector, from-kept, to-kept}
@@ -127,9 +127,9 @@ graphlike-answers t asked observable most bound searched (Err x) same e is answe
 -- and what is heard of its search
 pub graphlike-heard : {E : Type 0} (t : ErrorTableState) (asked observable most : Option ℕ) (bound : ℕ) (searched : ErrorTable) (old new : Option (List Heard)) (r : Result Answer E)
     → asked ≡ observable → bound ≡ unwrap_or most (length t.table.rows) → searched ≡ with_observable observable t.table
-    → TellsSearch (length searched.rows) bound (HasNoGraphlikeWithin searched) old new r
-    → (n : ℕ) (items : Items) → IsErrorTable n items t → TellsUnseen true asked n items t.errors most old new r
-graphlike-heard t asked observable most bound searched old new r same e is tells n items table =
-    subst (λ o. TellsUnseen true o n items t.errors most old new r) (sym same)
+    → ReportsSearch (length searched.rows) bound (HasNoGraphlikeWithin searched) old new r
+    → (n : ℕ) (items : Items) → IsErrorTable n items t → ReportsUnseen true asked n items t.errors most old new r
+graphlike-heard t asked observable most bound searched old new r same e is reports n items table =
+    subst (λ o. ReportsUnseen true o n items t.errors most old new r) (sym same)
     (heard-unseen n items observable t table true (HasNoGraphlikeWithin (with_observable observable t.table)) (none-graphlike-within n items observable t table) most bound old new r e
-    (subst (λ (s : ErrorTable). TellsSearch (length s.rows) bound (HasNoGraphlikeWithin s) old new r) is tells))
+    (subst (λ (s : ErrorTable). ReportsSearch (length s.rows) bound (HasNoGraphlikeWithin s) old new r) is reports))

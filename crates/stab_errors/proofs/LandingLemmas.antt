@@ -1,5 +1,5 @@
 -- Landings: a letter anywhere flips what letters of errors everywhere flip, at the next step on its qubit that has some.
-use Rattle.stab_errors.proofs.Names.{◌≡◌, ℕ, ◌+◌, ◌≤◌, ◌<◌, ◌⊎◌, inl, inr, refl, sym, ap, ◌∙◌, subst, Bool, true, false, List, [], ◌∷◌, ◌++◌, map, length, drop, arith, All, Contains, ◌==◌, PairGate, ◌≢◌, cases_eq, eqb-true, drop-drop, get_or-map, length-map, All-head, All-tail, Contains-append_left, Contains-append_right, Letter, I, ◌⊕◌, letters_anticommute, Gate, letter_image, Factor, is_on, Step, one, two, controlled, collapse, product, detector, observable, makes, records_of, detectors_of, StepFits, FaultPlace, Site, in_front, behind, fault_on, parity_kept, parity_flips, first_image, second_image, end-flips, one-flips, one-other, first-flips, second-flips, pair-other, controlled-passes, detector-passes, observable-passes, collapse-other, product-other, unrecorded-passes, reset-passes, reset-stops, kept-behind, count-least, Error, letter, letters_asked, pairs_asked, each_letter, each_product, product_at, wrong_product, errors_at, errors_from, ErrorLetters, flat_map}
+use Rattle.stab_errors.proofs.Names.{◌≡◌, ℕ, ◌+◌, ◌≤◌, ◌<◌, ◌⊎◌, inl, inr, refl, sym, ap, ◌∙◌, subst, Bool, true, false, List, [], ◌∷◌, ◌++◌, map, length, drop, arith, All, Contains, ◌==◌, PairGate, ◌≢◌, cases_eq, eqb-true, drop-drop, get_or-map, length-map, All-head, All-tail, Contains-append_left, Contains-append_right, Letter, I, ◌⊕◌, letters_anticommute, Gate, letter_image, Factor, is_on, Step, one, two, controlled, collapse, product, detector, observable, makes, records_of, detectors_of, StepFits, FaultPlace, Site, in_front, following, fault_on, parity_kept, parity_flips, first_image, second_image, end-flips, one-flips, one-other, first-flips, second-flips, pair-other, controlled-passes, detector-passes, observable-passes, collapse-other, product-other, unrecorded-passes, reset-passes, reset-stops, kept-following, count-least, Error, letter, letters_asked, pairs_asked, each_letter, each_product, product_at, wrong_product, errors_at, errors_from, ErrorLetters, flat_map}
 use Rattle.std.specs.Prelude.{◌||◌}
 
 -- lists of errors
@@ -32,16 +32,16 @@ contains-factor ls t q (f ∷ fs) l on has = by_first (f.qubit == q) refl (λ re
     by_first false e rest = Contains-append_right here later (letter (fault_on t (in_front q) l)) (rest (sym (ap (λ b. b || is_on q fs) e) ∙ on))
 
 -- errors after some steps are among those of all
-pub errors-behind : (asked : ErrorLetters) (t m : ℕ) (front ys : List Step) (e : Error) → Contains (errors_from asked (t + length front) (m + records_of front) ys) e → Contains (errors_from asked t m (front ++ ys)) e
-errors-behind asked t m [] ys e has =
+pub errors-following : (asked : ErrorLetters) (t m : ℕ) (front ys : List Step) (e : Error) → Contains (errors_from asked (t + length front) (m + records_of front) ys) e → Contains (errors_from asked t m (front ++ ys)) e
+errors-following asked t m [] ys e has =
     let steps : t + 0 ≡ t = omega arith in
     let records : m + 0 ≡ m = omega arith in
     subst (λ u. Contains (errors_from asked u m ys) e) steps (subst (λ k. Contains (errors_from asked (t + 0) k ys) e) records has)
-errors-behind asked t m (x ∷ xs) ys e has =
+errors-following asked t m (x ∷ xs) ys e has =
     let steps : t + length (x ∷ xs) ≡ (t + 1) + length xs = omega arith in
     let records : m + records_of (x ∷ xs) ≡ (m + makes x) + records_of xs = omega arith in
     Contains-append_right (errors_at asked t m x) (errors_from asked (t + 1) (m + makes x) (xs ++ ys)) e
-    (errors-behind asked (t + 1) (m + makes x) xs ys e
+    (errors-following asked (t + 1) (m + makes x) xs ys e
     (subst (λ u. Contains (errors_from asked u ((m + makes x) + records_of xs) ys) e) steps
     (subst (λ k. Contains (errors_from asked (t + length (x ∷ xs)) k ys) e) records has)))
 
@@ -90,7 +90,7 @@ module _ (n D : ℕ) (xs : List Step) (Is : ℕ → Type 0) where
     there = sym (drop-drop 1 t xs) ∙ ap (drop 1) are.there;
     few = omega (arith, are.few, count-least x rest);
     fits = All-tail (StepFits n) x rest are.fits;
-    kept = λ i is. kept-behind n D i x rest are.few (are.kept i is);
+    kept = λ i is. kept-following n D i x rest are.few (are.kept i is);
   }
 
   module _ (t m : ℕ) (k : Letter) (p : ℕ) (lt : p < n) (x : Step) (rest : List Step) (are : AreLast n D xs Is t (x ∷ rest)) where
@@ -143,26 +143,26 @@ module _ (n D : ℕ) (xs : List Step) (Is : ℕ → Type 0) where
     front-is : (l : Letter) (q i : ℕ) → parity_flips n D i l q (x ∷ rest) ≡ there_flips n D xs i (fault_on t (in_front q) l)
     front-is l q i = ap (parity_flips n D i l q) (sym are.there)
 
-    behind-is : (l : Letter) (q i : ℕ) → parity_flips n D i l q rest ≡ there_flips n D xs i (fault_on t (behind q) l)
-    behind-is l q i = ap (parity_flips n D i l q) (sym (last-next t x rest are).there)
+    following-is : (l : Letter) (q i : ℕ) → parity_flips n D i l q rest ≡ there_flips n D xs i (fault_on t (following q) l)
+    following-is l q i = ap (parity_flips n D i l q) (sym (last-next t x rest are).there)
 
   -- at each step
 
   module _ (t m : ℕ) (k : Letter) (p : ℕ) (lt : p < n) (rest : List Step) where
     at-one : (g : Gate) (q : ℕ) → AreLast n D xs Is t (one g q ∷ rest) → (p ≡ q) ⊎ (p ≡ q → ⊥) → Lands n D xs Is (t + 1) (m + 0) k p rest → Lands n D xs Is t m k p (one g q ∷ rest)
     at-one g q are (inl e) later =
-        stays t m k p lt (one g q) rest are (behind p) (letter_image g k).letter lt
-        (λ asked l has. subst (λ r. Contains (errors_at asked t m (one g q)) (letter (fault_on t (behind r) l))) (sym e) (contains-letter (letters_asked asked) (fault_on t (behind q)) l has))
+        stays t m k p lt (one g q) rest are (following p) (letter_image g k).letter lt
+        (λ asked l has. subst (λ r. Contains (errors_at asked t m (one g q)) (letter (fault_on t (following r) l))) (sym e) (contains-letter (letters_asked asked) (fault_on t (following q)) l has))
         (λ i is.
         ap (λ r. parity_flips n D i k p (one g r ∷ rest)) (sym e)
         ∙ one-flips n D i rest g k p lt (subst (λ r. detectors_of (one g r ∷ rest) ≤ D) (sym e) are.few)
-        ∙ behind-is t m k p lt (one g q) rest are (letter_image g k).letter p i)
-    at-one g q are (inr apart) later = passed t m k p lt (one g q) rest are (λ i is. one-other n D i rest g k q p lt apart are.few) later
+        ∙ following-is t m k p lt (one g q) rest are (letter_image g k).letter p i)
+    at-one g q are (inr distinct) later = passed t m k p lt (one g q) rest are (λ i is. one-other n D i rest g k q p lt distinct are.few) later
 
     at-collapse : (l : Letter) (q : ℕ) (recorded inverted resets : Bool) → AreLast n D xs Is t (collapse l q recorded inverted resets ∷ rest) → (p ≡ q) ⊎ (p ≡ q → ⊥)
         → Lands n D xs Is (t + 1) (m + makes (collapse l q recorded inverted resets)) k p rest → Lands n D xs Is t m k p (collapse l q recorded inverted resets ∷ rest)
-    at-collapse l q recorded inverted resets are (inr apart) later =
-        passed t m k p lt (collapse l q recorded inverted resets) rest are (λ i is. collapse-other n D i rest l q recorded inverted resets k p lt apart are.few) later
+    at-collapse l q recorded inverted resets are (inr distinct) later =
+        passed t m k p lt (collapse l q recorded inverted resets) rest are (λ i is. collapse-other n D i rest l q recorded inverted resets k p lt distinct are.few) later
     at-collapse l q true inverted resets are (inl e) later =
         stays t m k p lt (collapse l q true inverted resets) rest are (in_front p) k lt
         (λ asked j has. subst (λ r. Contains (errors_at asked t m (collapse l q true inverted resets)) (letter (fault_on t (in_front r) j))) (sym e) (measured asked j resets has))
@@ -208,22 +208,22 @@ module _ (n D : ℕ) (xs : List Step) (Is : ℕ → Type 0) where
         fit : (a < n) × (b < n) × (b ≢ a)
         fit = All-head (StepFits n) (two g a b) rest are.fits
 
-        behind-are : (l j : Letter) (i : ℕ) → parity_flips n D i l a rest ⊕ parity_flips n D i j b rest ≡ there_flips n D xs i (fault_on t (behind a) l) ⊕ there_flips n D xs i (fault_on t (behind b) j)
-        behind-are l j i = (λ u. behind-is t m k p lt (two g a b) rest are l a i u ⊕ behind-is t m k p lt (two g a b) rest are j b i u)
+        following-are : (l j : Letter) (i : ℕ) → parity_flips n D i l a rest ⊕ parity_flips n D i j b rest ≡ there_flips n D xs i (fault_on t (following a) l) ⊕ there_flips n D xs i (fault_on t (following b) j)
+        following-are l j i = (λ u. following-is t m k p lt (two g a b) rest are l a i u ⊕ following-is t m k p lt (two g a b) rest are j b i u)
 
         on-both : (image other : Letter) → ((i : ℕ) → Is i → parity_flips n D i k p (two g a b ∷ rest) ≡ parity_flips n D i image a rest ⊕ parity_flips n D i other b rest) → Lands n D xs Is t m k p (two g a b ∷ rest)
         on-both image other flips = inr (inr (record {
           step = t;
-          first = behind a;
-          second = behind b;
+          first = following a;
+          second = following b;
           image = image;
           other = other;
           first_inside = fit.0;
           second_inside = fit.1;
           listed = λ asked r has.
-              Contains-append_left (each_product asked (fault_on t (behind a)) (fault_on t (behind b))) (errors_from asked (t + 1) (m + 0) rest) (product_at (fault_on t (behind a)) (fault_on t (behind b)) r.0 r.1)
-              (contains-product (pairs_asked asked) (fault_on t (behind a)) (fault_on t (behind b)) r has);
-          flips = λ i is. flips i is ∙ behind-are image other i;
+              Contains-append_left (each_product asked (fault_on t (following a)) (fault_on t (following b))) (errors_from asked (t + 1) (m + 0) rest) (product_at (fault_on t (following a)) (fault_on t (following b)) r.0 r.1)
+              (contains-product (pairs_asked asked) (fault_on t (following a)) (fault_on t (following b)) r has);
+          flips = λ i is. flips i is ∙ following-are image other i;
         }))
 
         by_place : (p ≡ a) ⊎ (p ≡ a → ⊥) → (p ≡ b) ⊎ (p ≡ b → ⊥) → Lands n D xs Is t m k p (two g a b ∷ rest)

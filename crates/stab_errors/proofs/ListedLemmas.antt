@@ -1,9 +1,9 @@
 -- Listed errors: where a letter lands there are errors that flip what it flips: one of all letters, or some that have X or Z alone.
-use Rattle.stab_errors.proofs.Names.{◌≡◌, ℕ, ◌+◌, ◌≤◌, ◌<◌, ◌⊎◌, inl, inr, refl, sym, ap, ◌∙◌, subst, Bool, true, false, List, [], ◌∷◌, ◌++◌, length, take, drop, take-append-drop, length-take-le, arith, All, Contains, All-nil, All-cons, All-head, All-tail, All-append, All-drop, All-weaker, All-contains, flat_map, flat_map-append, Letter, I, X, Y, Z, ◌⊕◌, parity-false, Items, unroll, records_of, detectors_of, observables_of, Step, StepFits, FaultPlace, Site, fault_on, bits_in, IsDeterministic, flips, FaultFits, flips_together, FaultsAdd, DeterministicParities, PlacesFlipDeterministicParities, and-left, diagonal, parity_region, parity_kept, parity_flips, parity_deterministic, none-flips, y-flips, kept-last, count-behind, Error, letter, faults_in, letters_asked, pairs_asked, each_letter, product_at, errors_from, errors_of, letter_parts, ErrorLetters, flip_together, FlipAlike}
+use Rattle.stab_errors.proofs.Names.{◌≡◌, ℕ, ◌+◌, ◌≤◌, ◌<◌, ◌⊎◌, inl, inr, refl, sym, ap, ◌∙◌, subst, Bool, true, false, List, [], ◌∷◌, ◌++◌, length, take, drop, take-append-drop, length-take-le, arith, All, Contains, All-nil, All-cons, All-head, All-tail, All-append, All-drop, All-weaker, All-contains, flat_map, flat_map-append, Letter, I, X, Y, Z, ◌⊕◌, parity-false, Items, unroll, records_of, detectors_of, observables_of, Step, StepFits, FaultPlace, Site, fault_on, bits_in, IsDeterministic, flips, FaultFits, flips_together, FaultsAdd, DeterministicParities, PlacesFlipDeterministicParities, and-left, diagonal, parity_region, parity_kept, parity_flips, parity_deterministic, none-flips, y-flips, kept-last, count-following, Error, letter, faults_in, letters_asked, pairs_asked, each_letter, product_at, errors_from, errors_of, letter_parts, ErrorLetters, flip_together, FlipAlike}
 use Rattle.stab_jobs.specs.declared.job.ErrorLetters.TheVariants as letters_of
 use Rattle.stab_errors.proofs.FitLemmas.{Fits, together-append}
 use Rattle.stab_errors.proofs.PlaceFitLemmas.{errors-fit}
-use Rattle.stab_errors.proofs.LandingLemmas.{there_flips, LandsNowhere, Lands, AreLast, lands, errors-behind}
+use Rattle.stab_errors.proofs.LandingLemmas.{there_flips, LandsNowhere, Lands, AreLast, lands, errors-following}
 
 -- X and Z are asked for, alone and beside I
 
@@ -182,7 +182,7 @@ module _ (n : ℕ) (items : Items) (fits : All (StepFits n) (unroll items)) (fou
       let all : detectors_of (take k steps ++ drop k steps) ≤ all_detectors = subst (λ ys. detectors_of ys ≤ all_detectors) (sym parts) (omega arith) in
       record {
         there = ap (λ j. drop j steps) there;
-        few = omega (arith, all, count-behind (take k steps) (drop k steps));
+        few = omega (arith, all, count-following (take k steps) (drop k steps));
         fits = All-drop (StepFits n) k steps fits;
         kept = λ i is.
             kept-last n all_detectors i (take k steps) (drop k steps) all
@@ -195,7 +195,7 @@ module _ (n : ℕ) (items : Items) (fits : All (StepFits n) (unroll items)) (fou
 
   is-listed : (asked : ErrorLetters) (k : ℕ) (e : Error) → Contains (errors_from asked (0 + length (take k steps)) (0 + records_of (take k steps)) (back_from k)) e → Contains (errors_of true asked items) e
   is-listed asked k e has =
-      subst (λ ys. Contains (errors_from asked 0 0 ys) e) (take-append-drop k steps) (errors-behind asked 0 0 (take k steps) (back_from k) e has)
+      subst (λ ys. Contains (errors_from asked 0 0 ys) e) (take-append-drop k steps) (errors-following asked 0 0 (take k steps) (back_from k) e has)
 
   -- what faults flip together by runs is what they flip by the pass
 

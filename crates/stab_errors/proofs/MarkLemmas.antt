@@ -55,16 +55,16 @@ marks-join t xs ys =
     ∙ ap (λ k. marks_from t (instructions xs) ++ marks_from (t + k) (instructions ys)) (long-unrolled xs)
 
 -- one round more, after the others
-pub rounds-behind : (n : ℕ) (ops : List Operation) → instruction_rounds (n + 1) ops ≡ instruction_rounds n ops ++ ops
-rounds-behind zero ops = append-nil ops
-rounds-behind (suc n) ops =
+pub rounds-following : (n : ℕ) (ops : List Operation) → instruction_rounds (n + 1) ops ≡ instruction_rounds n ops ++ ops
+rounds-following zero ops = append-nil ops
+rounds-following (suc n) ops =
     let next : suc n + 1 ≡ suc (n + 1) = omega arith in
-    ap (λ k. instruction_rounds k ops) next ∙ ap (λ more. ops ++ more) (rounds-behind n ops) ∙ sym (append_assoc ops (instruction_rounds n ops) ops)
+    ap (λ k. instruction_rounds k ops) next ∙ ap (λ more. ops ++ more) (rounds-following n ops) ∙ sym (append_assoc ops (instruction_rounds n ops) ops)
 
 pub marks-round : (t n : ℕ) (body : Items) → marks_from t (instruction_rounds (n + 1) (instructions body))
     ≡ marks_from t (instruction_rounds n (instructions body)) ++ marks_from (t + n * length (unroll body)) (instructions body)
 marks-round t n body =
-    ap (marks_from t) (rounds-behind n (instructions body))
+    ap (marks_from t) (rounds-following n (instructions body))
     ∙ marks-append t (instruction_rounds n (instructions body)) (instructions body)
     ∙ ap (λ k. marks_from t (instruction_rounds n (instructions body)) ++ marks_from (t + k) (instructions body)) (long-rounds n body)
 

@@ -14,7 +14,7 @@ pub use Rattle.std.specs.Result.{IsErrAnd}
 pub use Rattle.std.specs.Prelude.{All, None, Result, IfOk, IfSome, Contains, ◌&&◌, ◌||◌, slice_index_or, ◌==◌, if◌then◌else◌, bytes_eq, codes}
 pub use Rattle.stab_edits.specs.Cursors.{step_shown}
 pub use Rattle.stab_circuit.specs.Items.{Items, OneItem, next, block, join}
-pub use Rattle.stab_circuit.specs.Steps.{Step, one, two, controlled, collapse, product, detector, observable, makes, records_of, IsApart, unroll, detectors_of, steps_of, rounds, controlled_step, measured, measured_product, check_of, most_steps, observables_of}
+pub use Rattle.stab_circuit.specs.Steps.{Step, one, two, controlled, collapse, product, detector, observable, makes, records_of, HasDistinctQubits, unroll, detectors_of, steps_of, rounds, controlled_step, measured, measured_product, check_of, most_steps, observables_of}
 pub use Rattle.stab_edits.specs.Views.{circuit_items}
 pub use Rattle.stab_distance.proofs.PartLemmas.{graphlike-up_to}
 pub use Rattle.stab_distance.proofs.ShortestLemmas.{none-up_to}
@@ -22,7 +22,7 @@ pub use Rattle.stab_distance.specs.Ascending.{AscendsFrom, IsAscending}
 pub use Rattle.stab_distance.specs.Counts.{HasNoneBelow, IsLogicalSetOf, AreAsMany, IsCount}
 pub use Rattle.stab_distance.specs.Graphlike.{IsGraphlike, IsGraphlikeError, IsLeastGraphlike, HasNoGraphlikeWithin, IsGraphlikeAnswer}
 pub use Rattle.stab_distance.specs.LogicalErrors.{HasNoneWithin, IsAnswer, IsLogicalError, IsLeast, HasNone, HasSome}
-pub use Rattle.stab_distance.specs.Progress.{Heard, begins, Hears, up_to, IsExcludedBy, TellsSearch}
+pub use Rattle.stab_distance.specs.Progress.{Heard, begins, Hears, up_to, IsExcludedBy, ReportsSearch}
 pub use Rattle.stab_distance.specs.Tables.{odd}
 pub use Rattle.stab_distance.specs.declared.answer.Answer.{Answer}
 pub use Rattle.stab_distance.specs.declared.answer.Answer.TheVariants.{Least, NoneWithin, NoneAtAll}
@@ -52,9 +52,9 @@ pub use Rattle.stab_regions.proofs.FaultTableLemmas.{deterministic-found}
 pub use Rattle.stab_regions.proofs.MoveLemmas.{long-parity}
 pub use Rattle.stab_regions.proofs.PassLemmas.{first_image, second_image, flips-letter, none-flips, y-flips, end-flips, one-flips, one-other, first-flips, second-flips, pair-other, controlled-passes, detector-passes, observable-passes, collapse-other, product-other, unrecorded-passes, reset-passes, reset-stops, wrong-measured, wrong-reset, wrong-product}
 pub use Rattle.stab_regions.proofs.ShowLemmas.{bits-letter}
-pub use Rattle.stab_regions.proofs.TurnedLemmas.{AreTurned, collapse-turned, product-turned, turned-front, kept-last, kept-behind, count-behind, count-least, named_there}
+pub use Rattle.stab_regions.proofs.NegatedLemmas.{AreNegated, collapse-negated, product-negated, negated-front, kept-last, kept-following, count-following, count-least, named_there}
 pub use Rattle.stab_regions.specs.FaultLaws.{FaultFits, flips_together, FaultsAdd, DeterministicParities, DeterministicParityBits, PlacesFlipDeterministicParities}
-pub use Rattle.stab_regions.specs.Faults.{Site, FaultPlace, fault_on, faults_on, in_front, behind, bits_in, IsDeterministic, AreDeterministic, flips, faults_of, fault_at, numbers_where, IsFaultTable, flipped, faults_from, marked_at, sites_at, with_gates, bit}
+pub use Rattle.stab_regions.specs.Faults.{Site, FaultPlace, fault_on, faults_on, in_front, following, bits_in, IsDeterministic, AreDeterministic, flips, faults_of, fault_at, numbers_where, IsFaultTable, flipped, faults_from, marked_at, sites_at, with_gates, bit}
 pub use Rattle.stab_regions.specs.Parities.{parity_region, parity_kept, parity_flips, parity_deterministic}
 pub use Rattle.stab_regions.specs.Rows.{row, bits_at}
 pub use Rattle.stab_run.proofs.FitLemmas.{check-fits}
@@ -69,7 +69,7 @@ pub use Rattle.stab_errors.specs.Errors.{Error, each_letter, each_product, error
 pub use Rattle.stab_errors.specs.EverywhereLaws.{inverted_once, with_inverted, FlipAlike}
 pub use Rattle.stab_errors.specs.Parts.{letter_parts, IsSplit, AreSplit, AreSearched, parts_of, fault_parts}
 pub use Rattle.stab_errors.specs.Placed.{letter_at, error_shown, fault_shown, faults_shown}
-pub use Rattle.stab_errors.specs.Unseen.{IsDistance, AreUnseen, FlipsTwo, AreUnseenOf, AreLeastUnseen, error_at, errors_at_numbers, NoneUnseen, NoneUnseenWithin, SomeUnseen, IsWithin, IsAskedFor, IsLeastSet, IsSetCount, TellsUnseen}
+pub use Rattle.stab_errors.specs.Unseen.{IsDistance, AreUnseen, FlipsTwo, AreUnseenOf, AreLeastUnseen, error_at, errors_at_numbers, NoneUnseen, NoneUnseenWithin, SomeUnseen, IsWithin, IsAskedFor, IsLeastSet, IsSetCount, ReportsUnseen}
 pub use Rattle.stab_errors.specs.declared.marks.Marks.{Marks as MarksValue}
 pub use Rattle.stab_errors.specs.declared.placed.Error.{Error as ErrorValue}
 pub use Rattle.stab_errors.specs.declared.placed.Place.{Place}

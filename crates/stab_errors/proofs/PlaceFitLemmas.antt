@@ -1,5 +1,5 @@
 -- Errors of a circuit: each fits it, those everywhere and those that it marks.
-use Rattle.stab_errors.proofs.Names.{◌≡◌, ℕ, ◌+◌, ◌≤◌, ◌<◌, subst, Bool, true, false, List, [], ◌∷◌, ◌++◌, length, arith, All, bytes_eq, codes, if◌then◌else◌, flat_map, get_or_default, All-nil, All-cons, All-head, All-tail, All-append, All-map, Letter, I, X, Y, Z, Factor, letter_of, Items, Step, one, two, controlled, collapse, product, detector, observable, unroll, makes, StepFits, flip_of, ErrorLetters, FaultPlace, Site, in_front, behind, fault_on, faults_on, faults_of, FaultFits, fault-fits, Error, Marks, letter, wrong_record, letters_asked, pairs_asked, each_letter, product_at, each_product, wrong_product, errors_at, errors_from, instructions, marks_from, letters_left, each_target, each_two_targets, errors_marked, errors_of, target_faults, marked_faults}
+use Rattle.stab_errors.proofs.Names.{◌≡◌, ℕ, ◌+◌, ◌≤◌, ◌<◌, subst, Bool, true, false, List, [], ◌∷◌, ◌++◌, length, arith, All, bytes_eq, codes, if◌then◌else◌, flat_map, get_or_default, All-nil, All-cons, All-head, All-tail, All-append, All-map, Letter, I, X, Y, Z, Factor, letter_of, Items, Step, one, two, controlled, collapse, product, detector, observable, unroll, makes, StepFits, flip_of, ErrorLetters, FaultPlace, Site, in_front, following, fault_on, faults_on, faults_of, FaultFits, fault-fits, Error, Marks, letter, wrong_record, letters_asked, pairs_asked, each_letter, product_at, each_product, wrong_product, errors_at, errors_from, instructions, marks_from, letters_left, each_target, each_two_targets, errors_marked, errors_of, target_faults, marked_faults}
 use Rattle.stab_errors.proofs.FitLemmas.{Fits}
 use Rattle.stab_errors.proofs.MarkLemmas.{marked-all}
 
@@ -57,8 +57,8 @@ module _ (n : ℕ) (items : Items) where
     front-fits : (q : ℕ) → q < n → (l : Letter) → Fit (fault_on t (in_front q) l)
     front-fits q less l = record { qubit = less; before = omega (arith, lt) }
 
-    behind-fits : (q : ℕ) → q < n → (l : Letter) → Fit (fault_on t (behind q) l)
-    behind-fits q less l = record { qubit = less; before = omega (arith, lt) }
+    following-fits : (q : ℕ) → q < n → (l : Letter) → Fit (fault_on t (following q) l)
+    following-fits q less l = record { qubit = less; before = omega (arith, lt) }
 
     factors-fit : (ls : List Letter) (factors : List Factor) → All (λ f. f.qubit < n) factors → All Is (flat_map (λ f. each_letter ls (fault_on t (in_front f.qubit))) factors)
     factors-fit ls [] fit = All-nil Is
@@ -72,26 +72,26 @@ module _ (n : ℕ) (items : Items) where
     product-record-fits (f ∷ fs) fit =
         let less = All-head (λ g. g.qubit < n) f fs fit in
         let l = flip_of (letter_of f.letter) in
-        All-cons Is (wrong_record m (fault_on t (in_front f.qubit) l) (fault_on t (behind f.qubit) l ∷ [])) []
-        (two-fit (fault_on t (in_front f.qubit) l) (fault_on t (behind f.qubit) l) (front-fits f.qubit less l) (behind-fits f.qubit less l)) (All-nil Is)
+        All-cons Is (wrong_record m (fault_on t (in_front f.qubit) l) (fault_on t (following f.qubit) l ∷ [])) []
+        (two-fit (fault_on t (in_front f.qubit) l) (fault_on t (following f.qubit) l) (front-fits f.qubit less l) (following-fits f.qubit less l)) (All-nil Is)
 
     step-fits : (asked : ErrorLetters) (x : Step) → StepFits n x → All Is (errors_at asked t m x)
-    step-fits asked (one g q) less = letters-fit (letters_asked asked) (fault_on t (behind q)) (behind-fits q less)
-    step-fits asked (two g a b) less = products-fit asked (fault_on t (behind a)) (fault_on t (behind b)) (behind-fits a less.0) (behind-fits b less.1)
-    step-fits asked (controlled l k q) less = letters-fit (letters_asked asked) (fault_on t (behind q)) (behind-fits q less)
-    step-fits asked (collapse l q false inverted resets) less = letters-fit (letters_asked asked) (fault_on t (behind q)) (behind-fits q less)
+    step-fits asked (one g q) less = letters-fit (letters_asked asked) (fault_on t (following q)) (following-fits q less)
+    step-fits asked (two g a b) less = products-fit asked (fault_on t (following a)) (fault_on t (following b)) (following-fits a less.0) (following-fits b less.1)
+    step-fits asked (controlled l k q) less = letters-fit (letters_asked asked) (fault_on t (following q)) (following-fits q less)
+    step-fits asked (collapse l q false inverted resets) less = letters-fit (letters_asked asked) (fault_on t (following q)) (following-fits q less)
     step-fits asked (collapse l q true inverted true) less =
         let ls = letters_asked asked in
         let wrong : Error = wrong_record m (fault_on t (in_front q) (flip_of l)) [] in
-        All-append Is (each_letter ls (fault_on t (in_front q))) (wrong ∷ each_letter ls (fault_on t (behind q))) (letters-fit ls (fault_on t (in_front q)) (front-fits q less))
-        (All-cons Is wrong (each_letter ls (fault_on t (behind q))) (one-fits (fault_on t (in_front q) (flip_of l)) (front-fits q less (flip_of l)))
-        (letters-fit ls (fault_on t (behind q)) (behind-fits q less)))
+        All-append Is (each_letter ls (fault_on t (in_front q))) (wrong ∷ each_letter ls (fault_on t (following q))) (letters-fit ls (fault_on t (in_front q)) (front-fits q less))
+        (All-cons Is wrong (each_letter ls (fault_on t (following q))) (one-fits (fault_on t (in_front q) (flip_of l)) (front-fits q less (flip_of l)))
+        (letters-fit ls (fault_on t (following q)) (following-fits q less)))
     step-fits asked (collapse l q true inverted false) less =
         let ls = letters_asked asked in
-        let wrong : Error = wrong_record m (fault_on t (in_front q) (flip_of l)) (fault_on t (behind q) (flip_of l) ∷ []) in
+        let wrong : Error = wrong_record m (fault_on t (in_front q) (flip_of l)) (fault_on t (following q) (flip_of l) ∷ []) in
         All-append Is (each_letter ls (fault_on t (in_front q))) (wrong ∷ []) (letters-fit ls (fault_on t (in_front q)) (front-fits q less))
         (All-cons Is wrong []
-        (two-fit (fault_on t (in_front q) (flip_of l)) (fault_on t (behind q) (flip_of l)) (front-fits q less (flip_of l)) (behind-fits q less (flip_of l))) (All-nil Is))
+        (two-fit (fault_on t (in_front q) (flip_of l)) (fault_on t (following q) (flip_of l)) (front-fits q less (flip_of l)) (following-fits q less (flip_of l))) (All-nil Is))
     step-fits asked (product factors inverted) less =
         All-append Is (flat_map (λ f. each_letter (letters_asked asked) (fault_on t (in_front f.qubit))) factors) (wrong_product t m factors)
         (factors-fit (letters_asked asked) factors less) (product-record-fits factors less)

@@ -1,5 +1,5 @@
 -- Unseen sets: logical errors of a table of errors are sets of errors that are unseen together, and the other way round.
-use Rattle.stab_errors.proofs.Names.{◌≡◌, ℕ, ◌+◌, ◌<◌, ◌≤◌, ◌⊎◌, inl, inr, refl, sym, ap, ◌∙◌, subst, Bool, true, false, List, [], ◌∷◌, length, arith, Option, Some, None, Result, Ok, Err, IfOk, IsErrAnd, unwrap_or, All, Contains, ◌&&◌, slice_index_or, flat_map, cases_lt, get_or-map, get_or_default, length-map, All-nil, All-cons, All-head, All-tail, All-map, All-weaker, Contains-get_or, ◌⊕◌, Items, unroll, detectors_of, I, bits_in, fault_on, in_front, odd-where, IsLogicalError, IsLeast, HasNoneWithin, HasNone, HasSome, Answer, Heard, begins, Hears, up_to, IsExcludedBy, TellsSearch, Error, letter, faults_in, ErrorTableState, IsErrorTable, flip_together, flipped_by, flip_each, AreUnseen, FlipsTwo, AreUnseenOf, NoneUnseen, NoneUnseenWithin, SomeUnseen, IsWithin, IsLeastSet, TellsUnseen, error_at, errors_at_numbers, with_observable, IsLogicalOf}
+use Rattle.stab_errors.proofs.Names.{◌≡◌, ℕ, ◌+◌, ◌<◌, ◌≤◌, ◌⊎◌, inl, inr, refl, sym, ap, ◌∙◌, subst, Bool, true, false, List, [], ◌∷◌, length, arith, Option, Some, None, Result, Ok, Err, IfOk, IsErrAnd, unwrap_or, All, Contains, ◌&&◌, slice_index_or, flat_map, cases_lt, get_or-map, get_or_default, length-map, All-nil, All-cons, All-head, All-tail, All-map, All-weaker, Contains-get_or, ◌⊕◌, Items, unroll, detectors_of, I, bits_in, fault_on, in_front, odd-where, IsLogicalError, IsLeast, HasNoneWithin, HasNone, HasSome, Answer, Heard, begins, Hears, up_to, IsExcludedBy, ReportsSearch, Error, letter, faults_in, ErrorTableState, IsErrorTable, flip_together, flipped_by, flip_each, AreUnseen, FlipsTwo, AreUnseenOf, NoneUnseen, NoneUnseenWithin, SomeUnseen, IsWithin, IsLeastSet, ReportsUnseen, error_at, errors_at_numbers, with_observable, IsLogicalOf}
 use Rattle.stab_regions.specs.Rows.{odd}
 use Rattle.stab_distance.specs.Tables.{ErrorTable, row, flips}
 use Rattle.stab_errors.proofs.ObservedLemmas.{as-many-kept, from-kept, to-kept}
@@ -190,20 +190,20 @@ module _ (n : ℕ) (items : Items) (observable : Option ℕ) (t : ErrorTableStat
 
   pub heard-unseen : {E : Type 0} (graphlike : Bool) (has_none : ℕ → Type 0) → ((k : ℕ) → has_none k → NoneUnseenWithin graphlike observable n items t.errors k)
       → (most : Option ℕ) (bound : ℕ) (old new : Option (List Heard)) (r : Result Answer E) → bound ≡ unwrap_or most (length rows)
-      → TellsSearch (length sought.rows) bound has_none old new r → TellsUnseen graphlike observable n items t.errors most old new r
-  heard-unseen {E} graphlike has_none none most bound old new r e tells = by_observable observable r searched
+      → ReportsSearch (length sought.rows) bound has_none old new r → ReportsUnseen graphlike observable n items t.errors most old new r
+  heard-unseen {E} graphlike has_none none most bound old new r e reports = by_observable observable r searched
     where
-      searched : TellsSearch (length t.errors) (unwrap_or most (length t.errors)) (NoneUnseenWithin graphlike observable n items t.errors) old new r
+      searched : ReportsSearch (length t.errors) (unwrap_or most (length t.errors)) (NoneUnseenWithin graphlike observable n items t.errors) old new r
       searched =
           let same : bound ≡ unwrap_or most (length t.errors) = e ∙ ap (λ k. unwrap_or most k) as-many in record {
-            last = tells.last;
-            none = none tells.last tells.none;
-            heard = subst (λ k. Hears old new (begins k ∷ up_to tells.last)) (as-many-sought ∙ as-many) tells.heard;
-            all = subst (λ k. IfOk r (λ a. IsExcludedBy k a tells.last)) same tells.all;
+            last = reports.last;
+            none = none reports.last reports.none;
+            heard = subst (λ k. Hears old new (begins k ∷ up_to reports.last)) (as-many-sought ∙ as-many) reports.heard;
+            all = subst (λ k. IfOk r (λ a. IsExcludedBy k a reports.last)) same reports.all;
           }
 
-      by_observable : (o : Option ℕ) (x : Result Answer E) → TellsSearch (length t.errors) (unwrap_or most (length t.errors)) (NoneUnseenWithin graphlike o n items t.errors) old new x
-          → TellsUnseen graphlike o n items t.errors most old new x
+      by_observable : (o : Option ℕ) (x : Result Answer E) → ReportsSearch (length t.errors) (unwrap_or most (length t.errors)) (NoneUnseenWithin graphlike o n items t.errors) old new x
+          → ReportsUnseen graphlike o n items t.errors most old new x
       by_observable None x is = is
       by_observable (Some j) (Ok a) is = is
       by_observable (Some j) (Err x) is = inr is
@@ -211,15 +211,15 @@ module _ (n : ℕ) (items : Items) (observable : Option ℕ) (t : ErrorTableStat
 -- what is heard of a search of a table in which an observable counts, or any
 pub heard-of : {E : Type 0} (t : ErrorTableState) (asked observable most : Option ℕ) (bound : ℕ) (searched : ErrorTable) (old new : Option (List Heard)) (r : Result Answer E)
     → asked ≡ observable → bound ≡ unwrap_or most (length t.table.rows) → searched ≡ with_observable observable t.table
-    → TellsSearch (length searched.rows) bound (HasNoneWithin searched) old new r
-    → (n : ℕ) (items : Items) → IsErrorTable n items t → TellsUnseen false asked n items t.errors most old new r
-heard-of t asked observable most bound searched old new r same e is tells n items table =
-    subst (λ o. TellsUnseen false o n items t.errors most old new r) (sym same)
+    → ReportsSearch (length searched.rows) bound (HasNoneWithin searched) old new r
+    → (n : ℕ) (items : Items) → IsErrorTable n items t → ReportsUnseen false asked n items t.errors most old new r
+heard-of t asked observable most bound searched old new r same e is reports n items table =
+    subst (λ o. ReportsUnseen false o n items t.errors most old new r) (sym same)
     (heard-unseen n items observable t table false (HasNoneWithin (with_observable observable t.table)) (none-unseen-within n items observable t table) most bound old new r e
-    (subst (λ (s : ErrorTable). TellsSearch (length s.rows) bound (HasNoneWithin s) old new r) is tells))
+    (subst (λ (s : ErrorTable). ReportsSearch (length s.rows) bound (HasNoneWithin s) old new r) is reports))
 
 -- nothing is heard of a search for one observable, if memory was refused before it began
 pub unheard-of : {E : Type 0} (graphlike : Bool) (t : ErrorTableState) (asked : Option ℕ) (j : ℕ) (most : Option ℕ) (heard : Option (List Heard)) (r : Result Answer E) (x : E) → asked ≡ Some j → IsErrAnd r (λ y. y ≡ x)
-    → (n : ℕ) (items : Items) → IsErrorTable n items t → TellsUnseen graphlike asked n items t.errors most heard heard r
+    → (n : ℕ) (items : Items) → IsErrorTable n items t → ReportsUnseen graphlike asked n items t.errors most heard heard r
 unheard-of graphlike t asked j most heard (Ok a) x same is n items table = absurd is
-unheard-of graphlike t asked j most heard (Err y) x same is n items table = subst (λ o. TellsUnseen graphlike o n items t.errors most heard heard (Err y)) (sym same) (inl refl)
+unheard-of graphlike t asked j most heard (Err y) x same is n items table = subst (λ o. ReportsUnseen graphlike o n items t.errors most heard heard (Err y)) (sym same) (inl refl)

@@ -1,5 +1,5 @@
 -- Wrong records: the letters of one flip the bits that one more ! at the record flips.
-use Rattle.stab_errors.proofs.Names.{◌≡◌, ℕ, zero, suc, ◌+◌, ◌-◌, ◌≤◌, ◌<◌, refl, sym, ap, ◌∙◌, subst, Bool, true, false, not, ◌&&◌, List, [], ◌∷◌, ◌++◌, append_assoc, length, drop, arith, All, lt-ltb, le-ltb, if◌then◌else◌, drop-drop, drop-append_seam, length-append, All-nil, All-cons, All-head, All-tail, All-append, All-map, Letter, I, X, Y, Z, Axis, ◌⊕◌, letters_anticommute, parity-false, Factor, letter_of, names_twice, ControlledPair, Kind, Items, done, next, block, Step, one, two, controlled, collapse, product, detector, observable, makes, records_of, IsApart, steps_of, controlled_step, measured, rounds, unroll, detectors_of, observables_of, StepFits, flip_of, and-left, FaultPlace, in_front, behind, fault_on, with_gates, bit, bits_in, IsDeterministic, flips, FaultFits, flips_together, FaultsAdd, DeterministicParities, DeterministicParityBits, PlacesFlipDeterministicParities, parity_region, parity_kept, parity_flips, parity_deterministic, diagonal, AreTurned, collapse-turned, product-turned, turned-front, kept-last, count-behind, named_there, wrong-measured, wrong-reset, wrong-product, fits-front, fits-back, Error, letter, letters, wrong_record, letters_asked, pairs_asked, each_letter, each_product, product_at, wrong_product, errors_at, errors_from, ErrorLetters, flat_map, inverted_once, with_inverted}
+use Rattle.stab_errors.proofs.Names.{◌≡◌, ℕ, zero, suc, ◌+◌, ◌-◌, ◌≤◌, ◌<◌, refl, sym, ap, ◌∙◌, subst, Bool, true, false, not, ◌&&◌, List, [], ◌∷◌, ◌++◌, append_assoc, length, drop, arith, All, lt-ltb, le-ltb, if◌then◌else◌, drop-drop, drop-append_seam, length-append, All-nil, All-cons, All-head, All-tail, All-append, All-map, Letter, I, X, Y, Z, Axis, ◌⊕◌, letters_anticommute, parity-false, Factor, letter_of, names_twice, ControlledPair, Kind, Items, done, next, block, Step, one, two, controlled, collapse, product, detector, observable, makes, records_of, HasDistinctQubits, steps_of, controlled_step, measured, rounds, unroll, detectors_of, observables_of, StepFits, flip_of, and-left, FaultPlace, in_front, following, fault_on, with_gates, bit, bits_in, IsDeterministic, flips, FaultFits, flips_together, FaultsAdd, DeterministicParities, DeterministicParityBits, PlacesFlipDeterministicParities, parity_region, parity_kept, parity_flips, parity_deterministic, diagonal, AreNegated, collapse-negated, product-negated, negated-front, kept-last, count-following, named_there, wrong-measured, wrong-reset, wrong-product, fits-front, fits-back, Error, letter, letters, wrong_record, letters_asked, pairs_asked, each_letter, each_product, product_at, wrong_product, errors_at, errors_from, ErrorLetters, flat_map, inverted_once, with_inverted}
 use Rattle.stab_lines.specs.declared.axis.Axis.TheVariants as axis
 use Rattle.stab_lines.specs.declared.control.ControlledPair.TheVariants as pair
 use Rattle.stab_lines.specs.declared.operation.Kind.TheVariants as kind
@@ -49,9 +49,9 @@ all-flippable (block count tag body rest) =
 
 -- the step of a record
 
-records-behind : (front : List Step) (x : Step) → records_of (front ++ x ∷ []) ≡ records_of front + makes x
-records-behind [] x = omega arith
-records-behind (y ∷ ys) x = omega (arith, records-behind ys x)
+records-following : (front : List Step) (x : Step) → records_of (front ++ x ∷ []) ≡ records_of front + makes x
+records-following [] x = omega arith
+records-following (y ∷ ys) x = omega (arith, records-following ys x)
 
 inverted-at : (m : ℕ) (front : List Step) (x : Step) (rest : List Step) → m ≡ records_of front → makes x ≡ 1 → with_inverted m (front ++ x ∷ rest) ≡ front ++ inverted_once x ∷ rest
 inverted-at m [] x rest e makes_one = ap (λ b. if b then inverted_once x ∷ rest else x ∷ with_inverted (m - makes x) rest) (lt-ltb m (makes x) (omega (arith, e, makes_one)))
@@ -92,11 +92,11 @@ module _ (n : ℕ) (items : Items) (fits : All (StepFits n) (unroll items)) (fou
     drop-here : drop t xs ≡ x ∷ rest
     drop-here = (λ j. drop (at.steps j) (at.parts j)) ∙ drop-append_seam front (x ∷ rest)
 
-    drop-behind : drop (t + 1) xs ≡ rest
-    drop-behind = sym (drop-drop 1 t xs) ∙ ap (drop 1) drop-here
+    drop-following : drop (t + 1) xs ≡ rest
+    drop-following = sym (drop-drop 1 t xs) ∙ ap (drop 1) drop-here
 
     few : detectors_of (x ∷ rest) ≤ D
-    few = subst (λ ys. detectors_of (x ∷ rest) ≤ detectors_of ys) (sym at.parts) (count-behind front (x ∷ rest))
+    few = subst (λ ys. detectors_of (x ∷ rest) ≤ detectors_of ys) (sym at.parts) (count-following front (x ∷ rest))
 
     module _ (i : ℕ) (lt : i < bits_in items) (same : IsDeterministic n items i) where
       abbrev named : Bool
@@ -112,12 +112,12 @@ module _ (n : ℕ) (items : Items) (fits : All (StepFits n) (unroll items)) (fou
       kept-there = kept-last n D i front (x ∷ rest) (subst (λ ys. detectors_of ys ≤ D) at.parts (omega arith)) kept
 
       -- with one more ! the bit is flipped if the parity names the record
-      inverted-bit : (y : Step) → StepFits n y → AreTurned n D i named (y ∷ rest) (x ∷ rest) → (coins : ℕ → Bool) → the_bit coins (front ++ y ∷ rest) i ≡ named ⊕ the_bit coins xs i
-      inverted-bit y fit turned coins =
+      inverted-bit : (y : Step) → StepFits n y → AreNegated n D i named (y ∷ rest) (x ∷ rest) → (coins : ℕ → Bool) → the_bit coins (front ++ y ∷ rest) i ≡ named ⊕ the_bit coins xs i
+      inverted-bit y fit negated coins =
           let old : List Step = front ++ x ∷ rest in
           let new : List Step = front ++ y ∷ rest in
           let old_fits : All (StepFits n) old = subst (All (StepFits n)) at.parts fits in
-          let a : AreTurned n D i named new old = turned-front n D i named (y ∷ rest) (x ∷ rest) turned front (subst (λ ys. detectors_of ys ≤ D) at.parts (omega arith)) kept in
+          let a : AreNegated n D i named new old = negated-front n D i named (y ∷ rest) (x ∷ rest) negated front (subst (λ ys. detectors_of ys ≤ D) at.parts (omega arith)) kept in
           let count : detectors_of new ≡ D = a.detectors ∙ ap detectors_of (sym at.parts) in
           let new_fits : All (StepFits n) new =
           All-append (StepFits n) front (y ∷ rest) (fits-front n front (x ∷ rest) old_fits)
@@ -134,17 +134,17 @@ module _ (n : ℕ) (items : Items) (fits : All (StepFits n) (unroll items)) (fou
       flips-front : (k : Letter) (q : ℕ) (coins : ℕ → Bool) → q < n → flips n items coins (fault_on t (in_front q) k) i ≡ parity_flips n D i k q (x ∷ rest)
       flips-front k q coins less = places n items i (fault_on t (in_front q) k) fits lt less whole coins ∙ ap (parity_flips n D i k q) drop-here
 
-      flips-behind : (k : Letter) (q : ℕ) (coins : ℕ → Bool) → q < n → flips n items coins (fault_on t (behind q) k) i ≡ parity_flips n D i k q rest
-      flips-behind k q coins less = places n items i (fault_on t (behind q) k) fits lt less whole coins ∙ ap (parity_flips n D i k q) drop-behind
+      flips-following : (k : Letter) (q : ℕ) (coins : ℕ → Bool) → q < n → flips n items coins (fault_on t (following q) k) i ≡ parity_flips n D i k q rest
+      flips-following k q coins less = places n items i (fault_on t (following q) k) fits lt less whole coins ∙ ap (parity_flips n D i k q) drop-following
 
       -- so faults that flip what names the record are one more !
-      wrong-is : (fs : List FaultPlace) (y : Step) → All (FaultFits n xs) fs → y ≡ inverted_once x → makes x ≡ 1 → StepFits n y → AreTurned n D i named (y ∷ rest) (x ∷ rest)
+      wrong-is : (fs : List FaultPlace) (y : Step) → All (FaultFits n xs) fs → y ≡ inverted_once x → makes x ≡ 1 → StepFits n y → AreNegated n D i named (y ∷ rest) (x ∷ rest)
           → (coins : ℕ → Bool) → flips_together (λ f. flips n items coins f i) fs ≡ named → the_bit coins (with_gates fs xs) i ≡ the_bit coins (with_inverted m xs) i
-      wrong-is fs y fit is makes_one y_fits turned coins flip =
+      wrong-is fs y fit is makes_one y_fits negated coins flip =
           same-difference (the_bit coins (with_gates fs xs) i) (the_bit coins (with_inverted m xs) i) (the_bit coins xs i) named
           (adds n items i fs fits lt fit same coins ∙ flip)
           (ap (λ ys. the_bit coins ys i) (ap (with_inverted m) at.parts ∙ inverted-at m front x rest at.records makes_one ∙ ap (λ z. front ++ z ∷ rest) (sym is))
-          ∙ inverted-bit y y_fits turned coins)
+          ∙ inverted-bit y y_fits negated coins)
 
   -- letters and products are no records
 
@@ -179,15 +179,15 @@ module _ (n : ℕ) (items : Items) (fits : All (StepFits n) (unroll items)) (fou
 
   module _ (t m : ℕ) (front rest : List Step) where
     wrong-after : (l : Letter) (q : ℕ) (inverted : Bool) → StandsAt t m front (collapse l q true inverted false) rest → q < n → letters_anticommute (flip_of l) l ≡ true
-        → IsInverted (wrong_record m (fault_on t (in_front q) (flip_of l)) (fault_on t (behind q) (flip_of l) ∷ []))
+        → IsInverted (wrong_record m (fault_on t (in_front q) (flip_of l)) (fault_on t (following q) (flip_of l) ∷ []))
     wrong-after l q inverted at less other fit i lt same coins =
         let x : Step = collapse l q true inverted false in
         let k : Letter = flip_of l in
-        wrong-is t m front x rest at i lt same (fault_on t (in_front q) k ∷ fault_on t (behind q) k ∷ []) (collapse l q true (not inverted) false) fit refl refl less
-        (collapse-turned n D i rest l q inverted false (few t m front x rest at) (kept-there t m front x rest at i lt same)) coins
+        wrong-is t m front x rest at i lt same (fault_on t (in_front q) k ∷ fault_on t (following q) k ∷ []) (collapse l q true (not inverted) false) fit refl refl less
+        (collapse-negated n D i rest l q inverted false (few t m front x rest at) (kept-there t m front x rest at i lt same)) coins
         ((λ j.
         flips-front t m front x rest at i lt same k q coins less j
-        ⊕ (parity-false (flips n items coins (fault_on t (behind q) k) i) ∙ flips-behind t m front x rest at i lt same k q coins less) j)
+        ⊕ (parity-false (flips n items coins (fault_on t (following q) k) i) ∙ flips-following t m front x rest at i lt same k q coins less) j)
         ∙ wrong-measured n D i rest l q less inverted other (few t m front x rest at))
 
     wrong-reset_too : (l : Letter) (q : ℕ) (inverted : Bool) → StandsAt t m front (collapse l q true inverted true) rest → q < n → letters_anticommute (flip_of l) l ≡ true
@@ -196,59 +196,59 @@ module _ (n : ℕ) (items : Items) (fits : All (StepFits n) (unroll items)) (fou
         let x : Step = collapse l q true inverted true in
         let k : Letter = flip_of l in
         wrong-is t m front x rest at i lt same (fault_on t (in_front q) k ∷ []) (collapse l q true (not inverted) true) fit refl refl less
-        (collapse-turned n D i rest l q inverted true (few t m front x rest at) (kept-there t m front x rest at i lt same)) coins
+        (collapse-negated n D i rest l q inverted true (few t m front x rest at) (kept-there t m front x rest at i lt same)) coins
         (parity-false (flips n items coins (fault_on t (in_front q) k) i) ∙ flips-front t m front x rest at i lt same k q coins less
         ∙ wrong-reset n D i rest l q less inverted other (few t m front x rest at))
 
     wrong-of_product : (factors : List Factor) (inverted : Bool) → StandsAt t m front (product factors inverted) rest → All (λ f. f.qubit < n) factors → names_twice factors ≡ false
         → All IsInverted (wrong_product t m factors)
-    wrong-of_product [] inverted at less apart = All-nil IsInverted
-    wrong-of_product (g ∷ gs) inverted at less apart =
+    wrong-of_product [] inverted at less distinct = All-nil IsInverted
+    wrong-of_product (g ∷ gs) inverted at less distinct =
         let x : Step = product (g ∷ gs) inverted in
         let q : ℕ = g.qubit in
         let k : Letter = flip_of (letter_of g.letter) in
         let here : q < n = All-head (λ f. f.qubit < n) g gs less in
-        All-cons IsInverted (wrong_record m (fault_on t (in_front q) k) (fault_on t (behind q) k ∷ [])) []
+        All-cons IsInverted (wrong_record m (fault_on t (in_front q) k) (fault_on t (following q) k ∷ [])) []
         (λ fit i lt same coins.
-        wrong-is t m front x rest at i lt same (fault_on t (in_front q) k ∷ fault_on t (behind q) k ∷ []) (product (g ∷ gs) (not inverted)) fit refl refl less
-        (product-turned n D i rest (g ∷ gs) inverted (few t m front x rest at) (kept-there t m front x rest at i lt same)) coins
+        wrong-is t m front x rest at i lt same (fault_on t (in_front q) k ∷ fault_on t (following q) k ∷ []) (product (g ∷ gs) (not inverted)) fit refl refl less
+        (product-negated n D i rest (g ∷ gs) inverted (few t m front x rest at) (kept-there t m front x rest at i lt same)) coins
         ((λ j.
         flips-front t m front x rest at i lt same k q coins here j
-        ⊕ (parity-false (flips n items coins (fault_on t (behind q) k) i) ∙ flips-behind t m front x rest at i lt same k q coins here) j)
-        ∙ wrong-product n D i rest g gs inverted here apart (axis-flips g.letter) (few t m front x rest at)))
+        ⊕ (parity-false (flips n items coins (fault_on t (following q) k) i) ∙ flips-following t m front x rest at i lt same k q coins here) j)
+        ∙ wrong-product n D i rest g gs inverted here distinct (axis-flips g.letter) (few t m front x rest at)))
         (All-nil IsInverted)
 
-    step-inverted : (asked : ErrorLetters) (x : Step) → StandsAt t m front x rest → StepFits n x → IsApart x → IsFlippable x → All IsInverted (errors_at asked t m x)
-    step-inverted asked (one g q) at less apart other = letters-plain (letters_asked asked) (fault_on t (behind q))
-    step-inverted asked (two g a b) at less apart other = products-plain asked (fault_on t (behind a)) (fault_on t (behind b))
-    step-inverted asked (controlled l k q) at less apart other = letters-plain (letters_asked asked) (fault_on t (behind q))
-    step-inverted asked (collapse l q false inverted resets) at less apart other = letters-plain (letters_asked asked) (fault_on t (behind q))
-    step-inverted asked (collapse l q true inverted true) at less apart other =
+    step-inverted : (asked : ErrorLetters) (x : Step) → StandsAt t m front x rest → StepFits n x → HasDistinctQubits x → IsFlippable x → All IsInverted (errors_at asked t m x)
+    step-inverted asked (one g q) at less distinct other = letters-plain (letters_asked asked) (fault_on t (following q))
+    step-inverted asked (two g a b) at less distinct other = products-plain asked (fault_on t (following a)) (fault_on t (following b))
+    step-inverted asked (controlled l k q) at less distinct other = letters-plain (letters_asked asked) (fault_on t (following q))
+    step-inverted asked (collapse l q false inverted resets) at less distinct other = letters-plain (letters_asked asked) (fault_on t (following q))
+    step-inverted asked (collapse l q true inverted true) at less distinct other =
         let ls = letters_asked asked in
         let wrong : Error = wrong_record m (fault_on t (in_front q) (flip_of l)) [] in
-        All-append IsInverted (each_letter ls (fault_on t (in_front q))) (wrong ∷ each_letter ls (fault_on t (behind q))) (letters-plain ls (fault_on t (in_front q)))
-        (All-cons IsInverted wrong (each_letter ls (fault_on t (behind q))) (wrong-reset_too l q inverted at less other) (letters-plain ls (fault_on t (behind q))))
-    step-inverted asked (collapse l q true inverted false) at less apart other =
+        All-append IsInverted (each_letter ls (fault_on t (in_front q))) (wrong ∷ each_letter ls (fault_on t (following q))) (letters-plain ls (fault_on t (in_front q)))
+        (All-cons IsInverted wrong (each_letter ls (fault_on t (following q))) (wrong-reset_too l q inverted at less other) (letters-plain ls (fault_on t (following q))))
+    step-inverted asked (collapse l q true inverted false) at less distinct other =
         let ls = letters_asked asked in
-        let wrong : Error = wrong_record m (fault_on t (in_front q) (flip_of l)) (fault_on t (behind q) (flip_of l) ∷ []) in
+        let wrong : Error = wrong_record m (fault_on t (in_front q) (flip_of l)) (fault_on t (following q) (flip_of l) ∷ []) in
         All-append IsInverted (each_letter ls (fault_on t (in_front q))) (wrong ∷ []) (letters-plain ls (fault_on t (in_front q)))
         (All-cons IsInverted wrong [] (wrong-after l q inverted at less other) (All-nil IsInverted))
-    step-inverted asked (product factors inverted) at less apart other =
+    step-inverted asked (product factors inverted) at less distinct other =
         All-append IsInverted (flat_map (λ f. each_letter (letters_asked asked) (fault_on t (in_front f.qubit))) factors) (wrong_product t m factors)
-        (factors-plain (letters_asked asked) t factors) (wrong-of_product factors inverted at less apart)
-    step-inverted asked (detector ks) at less apart other = All-nil IsInverted
-    step-inverted asked (observable j ks) at less apart other = All-nil IsInverted
+        (factors-plain (letters_asked asked) t factors) (wrong-of_product factors inverted at less distinct)
+    step-inverted asked (detector ks) at less distinct other = All-nil IsInverted
+    step-inverted asked (observable j ks) at less distinct other = All-nil IsInverted
 
   -- one step after another
   steps-inverted : (asked : ErrorLetters) (t m : ℕ) (front ys : List Step) → xs ≡ front ++ ys → t ≡ length front → m ≡ records_of front
-      → All (StepFits n) ys → All IsApart ys → All IsFlippable ys → All IsInverted (errors_from asked t m ys)
-  steps-inverted asked t m front [] parts steps records y_fits apart other = All-nil IsInverted
-  steps-inverted asked t m front (x ∷ rest) parts steps records y_fits apart other =
+      → All (StepFits n) ys → All HasDistinctQubits ys → All IsFlippable ys → All IsInverted (errors_from asked t m ys)
+  steps-inverted asked t m front [] parts steps records y_fits distinct other = All-nil IsInverted
+  steps-inverted asked t m front (x ∷ rest) parts steps records y_fits distinct other =
       All-append IsInverted (errors_at asked t m x) (errors_from asked (t + 1) (m + makes x) rest)
       (step-inverted t m front rest asked x (record { parts = parts; steps = steps; records = records })
-      (All-head (StepFits n) x rest y_fits) (All-head IsApart x rest apart) (All-head IsFlippable x rest other))
+      (All-head (StepFits n) x rest y_fits) (All-head HasDistinctQubits x rest distinct) (All-head IsFlippable x rest other))
       (steps-inverted asked (t + 1) (m + makes x) (front ++ x ∷ []) rest (parts ∙ sym (append_assoc front (x ∷ []) rest)) (omega (arith, steps, length-append front (x ∷ [])))
-      (omega (arith, records, records-behind front x)) (All-tail (StepFits n) x rest y_fits) (All-tail IsApart x rest apart) (All-tail IsFlippable x rest other))
+      (omega (arith, records, records-following front x)) (All-tail (StepFits n) x rest y_fits) (All-tail HasDistinctQubits x rest distinct) (All-tail IsFlippable x rest other))
 
-  pub errors-inverted : (asked : ErrorLetters) → All IsApart xs → All IsInverted (errors_from asked 0 0 xs)
-  errors-inverted asked apart = steps-inverted asked 0 0 [] xs refl refl refl fits apart (all-flippable items)
+  pub errors-inverted : (asked : ErrorLetters) → All HasDistinctQubits xs → All IsInverted (errors_from asked 0 0 xs)
+  errors-inverted asked distinct = steps-inverted asked 0 0 [] xs refl refl refl fits distinct (all-flippable items)

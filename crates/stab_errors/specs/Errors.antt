@@ -15,7 +15,7 @@ use Rattle.stab_lines.specs.Axes.{letter_of}
 use Rattle.stab_circuit.specs.Items.{Items, done, next, block}
 use Rattle.stab_circuit.specs.Steps.{Step, one, two, controlled, collapse, product, detector, observable, steps_of, unroll, makes}
 use Rattle.stab_run.specs.Runs.{flip_of}
-use Rattle.stab_regions.specs.Faults.{in_front, behind, FaultPlace, fault_on}
+use Rattle.stab_regions.specs.Faults.{in_front, following, FaultPlace, fault_on}
 use Rattle.stab_jobs.specs.declared.job.ErrorLetters.{ErrorLetters}
 use Rattle.stab_jobs.specs.declared.job.ErrorLetters.TheVariants.{All, XAndZ}
 
@@ -70,20 +70,20 @@ each_product ls first second = map (λ p. product_at first second p.0 p.1) (pair
 abbrev pub wrong_product : (t m : ℕ) → List Factor → List Error
 wrong_product t m [] = []
 wrong_product t m (f ∷ fs) =
-    wrong_record m (fault_on t (in_front f.qubit) (flip_of (letter_of f.letter))) (fault_on t (behind f.qubit) (flip_of (letter_of f.letter)) ∷ []) ∷ []
+    wrong_record m (fault_on t (in_front f.qubit) (flip_of (letter_of f.letter))) (fault_on t (following f.qubit) (flip_of (letter_of f.letter)) ∷ []) ∷ []
 
 -- the errors at step number t, with m records before it: after a gate and a reset; in front of what is measured, and its record
 abbrev pub errors_at : ErrorLetters → (t m : ℕ) → Step → List Error
-errors_at ls t m (one g q) = each_letter (letters_asked ls) (fault_on t (behind q))
-errors_at ls t m (two g a b) = each_product ls (fault_on t (behind a)) (fault_on t (behind b))
-errors_at ls t m (controlled l k q) = each_letter (letters_asked ls) (fault_on t (behind q))
-errors_at ls t m (collapse l q false inverted resets) = each_letter (letters_asked ls) (fault_on t (behind q))
+errors_at ls t m (one g q) = each_letter (letters_asked ls) (fault_on t (following q))
+errors_at ls t m (two g a b) = each_product ls (fault_on t (following a)) (fault_on t (following b))
+errors_at ls t m (controlled l k q) = each_letter (letters_asked ls) (fault_on t (following q))
+errors_at ls t m (collapse l q false inverted resets) = each_letter (letters_asked ls) (fault_on t (following q))
 errors_at ls t m (collapse l q true inverted true) =
     each_letter (letters_asked ls) (fault_on t (in_front q))
-    ++ wrong_record m (fault_on t (in_front q) (flip_of l)) [] ∷ each_letter (letters_asked ls) (fault_on t (behind q))
+    ++ wrong_record m (fault_on t (in_front q) (flip_of l)) [] ∷ each_letter (letters_asked ls) (fault_on t (following q))
 errors_at ls t m (collapse l q true inverted false) =
     each_letter (letters_asked ls) (fault_on t (in_front q))
-    ++ wrong_record m (fault_on t (in_front q) (flip_of l)) (fault_on t (behind q) (flip_of l) ∷ []) ∷ []
+    ++ wrong_record m (fault_on t (in_front q) (flip_of l)) (fault_on t (following q) (flip_of l) ∷ []) ∷ []
 errors_at ls t m (product factors inverted) =
     flat_map (λ f. each_letter (letters_asked ls) (fault_on t (in_front f.qubit))) factors ++ wrong_product t m factors
 errors_at ls t m (detector ks) = []

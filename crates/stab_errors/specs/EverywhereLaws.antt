@@ -4,7 +4,7 @@
 use Rattle.std.specs.Prelude.{◌≡◌, ℕ, ◌-◌, ◌<◌, nat_lt, ◌⊎◌, Bool, true, not, List, [], ◌∷◌, All, Contains, if◌then◌else◌}
 use Rattle.std.specs.List.{flat_map}
 use Rattle.stab_circuit.specs.Items.{Items}
-use Rattle.stab_circuit.specs.Steps.{Step, collapse, product, unroll, observables_of, makes, IsApart}
+use Rattle.stab_circuit.specs.Steps.{Step, collapse, product, unroll, observables_of, makes, HasDistinctQubits}
 use Rattle.stab_run.specs.ProgramStates.{StepFits}
 use Rattle.stab_regions.specs.Faults.{FaultPlace, with_gates, bit, bits_in, IsDeterministic}
 use Rattle.stab_regions.specs.FaultLaws.{FaultFits}
@@ -28,7 +28,7 @@ with_inverted m (x ∷ xs) = if nat_lt m (makes x) then inverted_once x ∷ xs e
 abbrev pub WrongRecordsAreInverted : Type 0
 WrongRecordsAreInverted =
     (n : ℕ) (letters : ErrorLetters) (items : Items) (number : ℕ) (flip : FaultPlace) (back : List FaultPlace) (i : ℕ) →
-    All (StepFits n) (unroll items) → All IsApart (unroll items) → Contains (errors_of true letters items) (wrong_record number flip back) →
+    All (StepFits n) (unroll items) → All HasDistinctQubits (unroll items) → Contains (errors_of true letters items) (wrong_record number flip back) →
     i < bits_in items → IsDeterministic n items i → (coins : ℕ → Bool) →
     bit n (observables_of items) coins (with_gates (flip ∷ back) (unroll items)) i ≡ bit n (observables_of items) coins (with_inverted number (unroll items)) i
 

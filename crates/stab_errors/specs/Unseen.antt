@@ -11,7 +11,7 @@ use Rattle.stab_distance.specs.Ascending.{IsAscending}
 use Rattle.stab_distance.specs.declared.answer.Answer.{Answer}
 use Rattle.stab_distance.specs.declared.answer.Answer.TheVariants.{Least, NoneWithin, NoneAtAll}
 use Rattle.stab_distance.specs.Counts.{AreAsMany}
-use Rattle.stab_distance.specs.Progress.{Heard, TellsSearch}
+use Rattle.stab_distance.specs.Progress.{Heard, ReportsSearch}
 use Rattle.stab_errors.specs.Errors.{Error, letter, faults_in}
 use Rattle.stab_errors.specs.ErrorTables.{flip_together}
 
@@ -92,7 +92,7 @@ IsSetCount observable n items all most (Some count) = AreAsMany (IsLeastSet fals
 IsSetCount observable n items all most None = (count : ℕ) × ((2 ^ 64 ≤ count) × AreAsMany (IsLeastSet false observable n items all most) count)
 
 -- what is heard of a search among a circuit's errors; for one observable it may be nothing, if memory was refused before the search began
-abbrev pub TellsUnseen : {E : Type 0} → (graphlike : Bool) → (observable : Option ℕ) → (n : ℕ) → Items → (all : List Error) → (most : Option ℕ) → Option (List Heard) → Option (List Heard) → Result Answer E → Type 0
-TellsUnseen graphlike None n items all most old new result = TellsSearch (length all) (unwrap_or most (length all)) (NoneUnseenWithin graphlike None n items all) old new result
-TellsUnseen {E} graphlike (Some j) n items all most old new (Ok a) = TellsSearch {E = E} (length all) (unwrap_or most (length all)) (NoneUnseenWithin graphlike (Some j) n items all) old new (Ok a)
-TellsUnseen graphlike (Some j) n items all most old new (Err e) = (new ≡ old) ⊎ TellsSearch (length all) (unwrap_or most (length all)) (NoneUnseenWithin graphlike (Some j) n items all) old new (Err e)
+abbrev pub ReportsUnseen : {E : Type 0} → (graphlike : Bool) → (observable : Option ℕ) → (n : ℕ) → Items → (all : List Error) → (most : Option ℕ) → Option (List Heard) → Option (List Heard) → Result Answer E → Type 0
+ReportsUnseen graphlike None n items all most old new result = ReportsSearch (length all) (unwrap_or most (length all)) (NoneUnseenWithin graphlike None n items all) old new result
+ReportsUnseen {E} graphlike (Some j) n items all most old new (Ok a) = ReportsSearch {E = E} (length all) (unwrap_or most (length all)) (NoneUnseenWithin graphlike (Some j) n items all) old new (Ok a)
+ReportsUnseen graphlike (Some j) n items all most old new (Err e) = (new ≡ old) ⊎ ReportsSearch (length all) (unwrap_or most (length all)) (NoneUnseenWithin graphlike (Some j) n items all) old new (Err e)

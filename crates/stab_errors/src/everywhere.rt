@@ -5,13 +5,13 @@ ghost use Rattle.stab_edits.specs.Cursors.{step_shown};
 ghost use Rattle.stab_edits.specs.Views.{circuit_items};
 ghost use Rattle.stab_circuit.specs.Steps.{check_of, most_steps, makes, unroll};
 ghost use Rattle.stab_run.specs.Runs.{flip_of};
-ghost use Rattle.stab_regions.specs.Faults.{behind, fault_on, faults_of, faults_on};
+ghost use Rattle.stab_regions.specs.Faults.{following, fault_on, faults_of, faults_on};
 ghost use Rattle.stab_errors.specs.Errors.{each_product, errors_at, errors_from, wrong_product, wrong_record};
 ghost use Rattle.stab_errors.specs.Placed.{error_shown, faults_shown, letter_at};
 ghost use Rattle.stab_errors.specs.inner.Adding.{Adds, ErrorStands, HasFrom, Stands};
 ghost use Rattle.stab_errors.specs.inner.Everywhere.{back_of, reset_errors, measured_errors, factor_errors, factor_faults, step_faults};
 
-use crate::adding::{add_error, add_letters, add_products};
+use crate::error_lists::{add_error, add_letters, add_products};
 use crate::letters::letters_asked;
 use crate::placed::{Error, Place, PlacedLetter};
 use stab_circuit::{Circuit, Cursor, Factor, Step};
@@ -22,14 +22,14 @@ use stab_run::flip;
 use std::alloc::{AllocError, Global};
 
 /// The letter that takes a flip of a qubit back after its measurement, unless the qubit is reset.
-fn taken_back(flip: Letter, behind: Place, resets: bool) -> Option<PlacedLetter>
-    ensures value { faults_shown result ≡ back_of resets (letter_at behind flip) }
-    ensures place { IfSome result (λ f. f.place ≡ behind) }
+fn taken_back(flip: Letter, following: Place, resets: bool) -> Option<PlacedLetter>
+    ensures value { faults_shown result ≡ back_of resets (letter_at following flip) }
+    ensures place { IfSome result (λ f. f.place ≡ following) }
 {
     if resets {
         None
     } else {
-        Some(behind.with(flip))
+        Some(following.with(flip))
     }
 }
 
@@ -37,13 +37,13 @@ fn taken_back(flip: Letter, behind: Place, resets: bool) -> Option<PlacedLetter>
 fn add_reset(
     errors: &mut Vec<Error>,
     letters: &[Letter],
-    behind: Place,
+    following: Place,
     resets: bool,
 ) -> Result<(), AllocError>
-    ensures adds { OnOk result (Adds (Stands behind) (reset_errors letters.now (letter_at behind) resets) errors.old.items errors.new.items) }
+    ensures adds { OnOk result (Adds (Stands following) (reset_errors letters.now (letter_at following) resets) errors.old.items errors.new.items) }
 {
     if resets {
-        add_letters(errors, letters, behind)?;
+        add_letters(errors, letters, following)?;
     }
     Ok(())
 }
@@ -53,17 +53,17 @@ fn add_record(
     errors: &mut Vec<Error>,
     letter: Letter,
     front: Place,
-    behind: Place,
+    following: Place,
     resets: bool,
     number: usize,
 ) -> Result<(), AllocError>
-    ensures adds { OnOk result (Adds (λ faults. Stands front faults × Stands behind faults) (wrong_record number (letter_at front (flip_of letter)) (back_of resets (letter_at behind (flip_of letter))) ∷ []) errors.old.items errors.new.items) }
+    ensures adds { OnOk result (Adds (λ faults. Stands front faults × Stands following faults) (wrong_record number (letter_at front (flip_of letter)) (back_of resets (letter_at following (flip_of letter))) ∷ []) errors.old.items errors.new.items) }
 {
     let flip = flip(letter);
     let error = Error::Record {
         number,
         flip: front.with(flip),
-        back: taken_back(flip, behind, resets),
+        back: taken_back(flip, following, resets),
     };
     add_error(errors, error)?;
     Ok(())
@@ -75,15 +75,15 @@ fn add_measured(
     letters: &[Letter],
     letter: Letter,
     front: Place,
-    behind: Place,
+    following: Place,
     resets: bool,
     number: usize,
 ) -> Result<(), AllocError>
-    ensures adds { OnOk result (Adds (λ faults. Stands front faults × Stands behind faults) (measured_errors letters.now letter (letter_at front) (letter_at behind) resets number) errors.old.items errors.new.items) }
+    ensures adds { OnOk result (Adds (λ faults. Stands front faults × Stands following faults) (measured_errors letters.now letter (letter_at front) (letter_at following) resets number) errors.old.items errors.new.items) }
 {
     add_letters(errors, letters, front)?;
-    add_record(errors, letter, front, behind, resets, number)?;
-    add_reset(errors, letters, behind, resets)?;
+    add_record(errors, letter, front, following, resets, number)?;
+    add_reset(errors, letters, following, resets)?;
     Ok(())
 }
 
@@ -123,8 +123,15 @@ fn add_product_record(
     let factor = factors[0];
     let qubit = factor.qubit.number();
     let front = Place::in_front(qubit, step, row);
-    let behind = Place::behind(qubit, step, row + 2);
-    add_record(errors, factor.letter.letter(), front, behind, false, number)?;
+    let following = Place::following(qubit, step, row + 2);
+    add_record(
+        errors,
+        factor.letter.letter(),
+        front,
+        following,
+        false,
+        number,
+    )?;
     Ok(())
 }
 
@@ -147,7 +154,7 @@ fn add_product(
 }
 
 /// Adds the products after a gate on two qubits, of which the first has this row.
-fn add_behind_two(
+fn add_after_two(
     errors: &mut Vec<Error>,
     letters: ErrorLetters,
     first: usize,
@@ -157,10 +164,10 @@ fn add_behind_two(
 ) -> Result<(), AllocError>
     requires few { step ≤ most_steps }
     requires rows { row + 2 < 2 ^ 64 }
-    ensures adds { OnOk result (Adds (HasFrom row (faults_on step (behind first) ++ faults_on step (behind second))) (each_product letters (fault_on step (behind first)) (fault_on step (behind second))) errors.old.items errors.new.items) }
+    ensures adds { OnOk result (Adds (HasFrom row (faults_on step (following first) ++ faults_on step (following second))) (each_product letters (fault_on step (following first)) (fault_on step (following second))) errors.old.items errors.new.items) }
 {
-    let one = Place::behind(first, step, row);
-    let other = Place::behind(second, step, row + 2);
+    let one = Place::following(first, step, row);
+    let other = Place::following(second, step, row + 2);
     add_products(errors, letters, one, other)?;
     Ok(())
 }
@@ -181,15 +188,15 @@ fn add_step(
     let asked = letters_asked(letters);
     match step {
         Step::One(_, qubit) => {
-            add_letters(errors, asked, Place::behind(qubit, number, row))?;
+            add_letters(errors, asked, Place::following(qubit, number, row))?;
             Ok(())
         }
         Step::Controlled(_, _, qubit) => {
-            add_letters(errors, asked, Place::behind(qubit, number, row))?;
+            add_letters(errors, asked, Place::following(qubit, number, row))?;
             Ok(())
         }
         Step::Two(_, first, second) => {
-            add_behind_two(errors, letters, first, second, number, row)?;
+            add_after_two(errors, letters, first, second, number, row)?;
             Ok(())
         }
         Step::Collapse {
@@ -201,11 +208,11 @@ fn add_step(
         } => {
             if recorded {
                 let front = Place::in_front(qubit, number, row);
-                let behind = Place::behind(qubit, number, row + 2);
-                add_measured(errors, asked, letter, front, behind, reset, records)?;
+                let following = Place::following(qubit, number, row + 2);
+                add_measured(errors, asked, letter, front, following, reset, records)?;
                 Ok(())
             } else {
-                add_letters(errors, asked, Place::behind(qubit, number, row))?;
+                add_letters(errors, asked, Place::following(qubit, number, row))?;
                 Ok(())
             }
         }

@@ -5,7 +5,7 @@
 //!
 //! - `letters`: of which letters errors are made.
 //! - `placed`: letters at places, and errors of them.
-//! - `adding`: errors at one or two places, added to others.
+//! - `error_lists`: errors at one or two places, added to others.
 //! - `tags`, `marks`, `marked`: the errors that a circuit marks.
 //! - `doubts`: marks that may be meant in another way.
 //! - `everywhere`: the errors at each step.
@@ -27,8 +27,8 @@
 //! everywhere leave no Pauli out (`specs/EverywhereLaws.antt`).
 #![tactic(auto)]
 
-mod adding;
 mod doubts;
+mod error_lists;
 mod error_table;
 mod everywhere;
 pub mod everywhere_laws;

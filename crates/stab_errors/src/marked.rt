@@ -10,7 +10,7 @@ ghost use Rattle.stab_errors.specs.Placed.{error_shown};
 ghost use Rattle.stab_errors.specs.inner.Adding.{Adds, ErrorStands, HasFrom};
 ghost use Rattle.stab_errors.specs.inner.Marked.{marks_shown, target_faults, marked_faults};
 
-use crate::adding::{add_letters, add_products};
+use crate::error_lists::{add_letters, add_products};
 use crate::letters::letters_asked;
 use crate::marks::{Marks, mark_items};
 use crate::placed::{Error, Place};

@@ -7,7 +7,7 @@ ghost use Rattle.stab_errors.specs.inner.Adding.{Adds, ErrorStands, Stands};
 ghost use Rattle.stab_errors.specs.inner.ErrorRows.{RowsAscend};
 ghost use Rattle.stab_errors.specs.inner.RowParts.{AreSplitByRows};
 
-use crate::adding::{add_error, add_letters};
+use crate::error_lists::{add_error, add_letters};
 use crate::placed::{Error, PlacedLetter};
 use crate::rows::error_row;
 use stab_distance::is_graphlike;

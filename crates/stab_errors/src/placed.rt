@@ -89,7 +89,7 @@ impl Place {
     ghost use Rattle.std.specs.Prelude.{◌≡◌, ◌≤◌};
     ghost use Rattle.stab_gates.specs.declared.letter.Letter.{Letter};
     ghost use Rattle.stab_circuit.specs.Steps.{most_steps};
-    ghost use Rattle.stab_regions.specs.Faults.{fault_on, in_front as site_in_front, behind as site_behind};
+    ghost use Rattle.stab_regions.specs.Faults.{fault_on, in_front as site_in_front, following as site_after};
     ghost use Rattle.stab_errors.specs.Placed.{fault_shown, letter_at};
 
     /// A qubit in front of a step, with its row.
@@ -106,9 +106,9 @@ impl Place {
     }
 
     /// A qubit after a step, with its row.
-    pub fn behind(qubit: usize, step: usize, row: usize) -> Place
+    pub fn following(qubit: usize, step: usize, row: usize) -> Place
         requires few { step ≤ most_steps }
-        ensures value { (l : Letter) → letter_at result l ≡ fault_on step (site_behind qubit) l }
+        ensures value { (l : Letter) → letter_at result l ≡ fault_on step (site_after qubit) l }
         ensures row { result.row ≡ row }
     {
         Place {

@@ -3,7 +3,7 @@ ghost use Rattle.std.specs.Prelude.{◌≡◌, ℕ, true, false, Option, IfOk, I
 ghost use Rattle.stab_io.specs.declared.refusal.Refusal.TheVariants.{OutOfMemory};
 ghost use Rattle.stab_circuit.specs.Items.{Items};
 ghost use Rattle.stab_errors.specs.ErrorTables.{IsErrorTable};
-ghost use Rattle.stab_errors.specs.Unseen.{IsDistance, IsSetCount, TellsUnseen};
+ghost use Rattle.stab_errors.specs.Unseen.{IsDistance, IsSetCount, ReportsUnseen};
 ghost use Rattle.stab_distance.specs.Counts.{HasNoneBelow, IsCount};
 ghost use Rattle.stab_errors.specs.inner.Observed.{with_observable};
 
@@ -30,7 +30,7 @@ pub fn distance<P: Progress>(
 ) -> Result<Answer, Refusal>
     ensures distance { IfOk result (λ a. (n : ℕ) (items : Items) → IsErrorTable n items errors.now → IsDistance false observable n items errors.now.errors most a) }
     ensures err { IfErr result (λ r. r ≡ OutOfMemory) }
-    ensures told { (n : ℕ) (items : Items) → IsErrorTable n items errors.now → TellsUnseen false observable n items errors.now.errors most (P.heard progress.old) (P.heard progress.new) result }
+    ensures reported { (n : ℕ) (items : Items) → IsErrorTable n items errors.now → ReportsUnseen false observable n items errors.now.errors most (P.heard progress.old) (P.heard progress.new) result }
 {
     let table = errors.table();
     let bound = most.unwrap_or(table.len());
@@ -56,7 +56,7 @@ pub fn graphlike_distance<P: Progress>(
 ) -> Result<Answer, Refusal>
     ensures distance { IfOk result (λ a. (n : ℕ) (items : Items) → IsErrorTable n items errors.now → IsDistance true observable n items errors.now.errors most a) }
     ensures err { IfErr result (λ r. r ≡ OutOfMemory) }
-    ensures told { (n : ℕ) (items : Items) → IsErrorTable n items errors.now → TellsUnseen true observable n items errors.now.errors most (P.heard progress.old) (P.heard progress.new) result }
+    ensures reported { (n : ℕ) (items : Items) → IsErrorTable n items errors.now → ReportsUnseen true observable n items errors.now.errors most (P.heard progress.old) (P.heard progress.new) result }
 {
     let table = errors.table();
     let bound = most.unwrap_or(table.len());

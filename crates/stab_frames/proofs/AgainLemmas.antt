@@ -1,9 +1,9 @@
 -- Steps that come again with other coins: the numbers of coins may be shifted, and what was recorded of the steps serves again.
-use Rattle.stab_frames.proofs.Names.{◌≡◌, ℕ, zero, suc, ◌+◌, refl, sym, ◌∙◌, ap, subst, Bool, false, ◌||◌, List, [], ◌∷◌, ◌++◌, take, drop, All, replicate, nat_lt, arith, IfSome, list_any, All-take, IfSome_then, Letter, I, ◌⊕◌, Signed, with_sign, strings_anticommute, member, IsPivot, IsConjugated, Step, one, two, controlled, collapse, product, detector, observable, makes, records_of, lookbacks, looks_too_far, looked_up, measured_by, Point, RunOutput, joined, given, trace_after, coins_of, all_coins_of, next_point, point_after, outputs, StepFits, AgreeBack, with_coin, or-left, or-right, same-future-back, flipped_output, Frame, PointsDifferBy, RunPivots, changed, frame_over, flips_over, AreEnough, IsTrueAt, AreTrue, coins_from, pivots_between, HasGoneOver, DiffersBack, AreFramedOver, StepsComeFramed}
+use Rattle.stab_frames.proofs.Names.{◌≡◌, ℕ, zero, suc, ◌+◌, refl, sym, ◌∙◌, ap, subst, Bool, false, ◌||◌, List, [], ◌∷◌, ◌++◌, take, drop, All, replicate, nat_lt, arith, IfSome, list_any, All-take, IfSome_then, Letter, I, ◌⊕◌, Signed, with_sign, strings_anticommute, member, IsPivot, IsConjugated, Step, one, two, controlled, collapse, product, detector, observable, makes, records_of, lookbacks, looks_too_far, looked_up, measured_by, Point, RunOutput, joined, given, trace_after, coins_of, all_coins_of, next_point, point_after, outputs, StepFits, AgreeBack, with_coin, or-left, or-right, same-future-back, flipped_output, Frame, PointsDifferBy, RunPivots, changed, frame_over, flips_over, AreEnough, IsTrueAt, AreTrue, coins_from, pivots_between, HasGoneOver, DiffersBack, ArePropagatedOver, StepsComePropagated}
 use Rattle.std.proofs.Common.{Option}
 use Rattle.stab_frames.proofs.SignLemmas.{sign-twice}
-use Rattle.stab_frames.proofs.FramedLemmas.{conjugated-blank}
-use Rattle.stab_frames.proofs.StepLemmas.{over-framed}
+use Rattle.stab_frames.proofs.PropagatedPointLemmas.{conjugated-blank}
+use Rattle.stab_frames.proofs.StepLemmas.{over-by_frame}
 use Rattle.stab_frames.proofs.FrontLemmas.{group-after}
 use Rattle.stab_frames.proofs.PivotLemmas.{enough-before}
 
@@ -69,7 +69,7 @@ pivot-conjugated n g u v conjugated m s e =
       size = e.size;
       negative = strings_anticommute g s ⊕ e.negative;
       stabilises = conjugated (with_sign (strings_anticommute g s) p) e.size ∙ ap u (sign-twice (strings_anticommute g s) p) ∙ e.stabilises;
-      apart = e.apart;
+      anticommutes = e.anticommutes;
     }
 
 pub true-conjugated-at : (n : ℕ) (strings : ℕ → Option (List Letter)) (x : Step) (a b : Point) (g : List Letter) → IsConjugated n g (member a.trace) (member b.trace)
@@ -79,7 +79,7 @@ true-conjugated-at n strings x a b g conjugated coin is =
     subst (λ t. IfSome (strings t) (λ s. IsPivot n (member b.trace) m s)) (sym coin)
     (IfSome_then (strings a.coin) held (λ s e. pivot-conjugated n g (member a.trace) (member b.trace) conjugated m s e)))
 
-pub true-conjugated : (n : ℕ) (coins : ℕ → Bool) (strings : ℕ → Option (List Letter)) (xs : List Step) (a b : Point) → b.coin ≡ a.coin → AreFramedOver n coins xs a b
+pub true-conjugated : (n : ℕ) (coins : ℕ → Bool) (strings : ℕ → Option (List Letter)) (xs : List Step) (a b : Point) → b.coin ≡ a.coin → ArePropagatedOver n coins xs a b
     → AreTrue n coins strings xs a → AreTrue n coins strings xs b
 true-conjugated n coins strings [] a b coin conjugated is = tt
 true-conjugated n coins strings (x ∷ xs) a b coin conjugated is = (
@@ -101,7 +101,7 @@ looks-front m (suc k) (x ∷ xs) near =
     both-false a b e f = grind arith
 
 -- points that agree as far back as steps look differ by no letter after the first of these
-pub back-conjugated : (n m : ℕ) (coins : ℕ → Bool) (xs : List Step) (a b : Point) → looks_too_far m xs ≡ false → AgreeBack n m a b → AreFramedOver n coins xs a b
+pub back-conjugated : (n m : ℕ) (coins : ℕ → Bool) (xs : List Step) (a b : Point) → looks_too_far m xs ≡ false → AgreeBack n m a b → ArePropagatedOver n coins xs a b
 back-conjugated n m coins xs a b near agree k = (
   replicate n I,
   (λ p size.
@@ -149,23 +149,23 @@ module _ (n m k da db : ℕ) (coins : ℕ → Bool) (strings : ℕ → Option (L
 
   module _ (xs : List Step) (fits : All (StepFits n) xs) (near : looks_too_far m xs ≡ false)
       (enough : AreEnough n (coins_from da coins) pivots xs f (with_coin k differs.seen)) where
-    -- where the steps lead from the point that was seen
-    abbrev behind : Point
-    behind = point_after n (coins_from da coins) xs (with_coin k differs.seen)
+    -- where the steps end from the point that was seen
+    abbrev following : Point
+    following = point_after n (coins_from da coins) xs (with_coin k differs.seen)
 
     abbrev next : Frame
     next = frame_over n pivots xs k f
 
     over : (outputs n (coins_from db coins) xs (with_coin k b)
         ≡ flipped_output (outputs n (coins_from da coins) xs (with_coin k differs.seen)) (flips_over n pivots xs k f))
-        × PointsDifferBy n next behind (point_after n (coins_from db coins) xs (with_coin k b))
+        × PointsDifferBy n next following (point_after n (coins_from db coins) xs (with_coin k b))
     over =
         subst (λ others. (outputs n others xs (with_coin k b)
         ≡ flipped_output (outputs n (coins_from da coins) xs (with_coin k differs.seen)) (flips_over n pivots xs k f))
-        × PointsDifferBy n next behind (point_after n others xs (with_coin k b)))
+        × PointsDifferBy n next following (point_after n others xs (with_coin k b)))
         (changed-between strings (coins_from da coins) (coins_from db coins))
-        (over-framed n (coins_from da coins) pivots xs f (with_coin k differs.seen) (with_coin k b) fits differs.group enough
-        (record { size = differs.framed.size; group = differs.framed.group; coin = refl; count = differs.framed.count; records = differs.framed.records }))
+        (over-by_frame n (coins_from da coins) pivots xs f (with_coin k differs.seen) (with_coin k b) fits differs.group enough
+        (record { size = differs.by_frame.size; group = differs.by_frame.group; coin = refl; count = differs.by_frame.count; records = differs.by_frame.records }))
 
     back : (outputs n coins xs a ≡ outputs n coins xs (with_coin a.coin differs.seen))
         × AgreeBack n (m + records_of xs) (point_after n coins xs a) (point_after n coins xs (with_coin a.coin differs.seen))
@@ -177,35 +177,35 @@ module _ (n m k da db : ℕ) (coins : ℕ → Bool) (strings : ℕ → Option (L
         ∙ over.0
         ∙ ap (λ o. flipped_output o (flips_over n pivots xs k f)) (outputs-from n da k coins xs (with_coin a.coin differs.seen) at ∙ sym back.0)
 
-    behind-seen : with_coin (da + behind.coin) behind ≡ point_after n coins xs (with_coin a.coin differs.seen)
-    behind-seen = after-from n da k coins xs (with_coin a.coin differs.seen) at
+    following-seen : with_coin (da + following.coin) following ≡ point_after n coins xs (with_coin a.coin differs.seen)
+    following-seen = after-from n da k coins xs (with_coin a.coin differs.seen) at
 
-    behind-differs : DiffersBack n m next (point_after n coins xs a) (point_after n coins xs b)
-    behind-differs = record {
-      seen = with_coin (point_after n coins xs b).coin behind;
+    following-differs : DiffersBack n m next (point_after n coins xs a) (point_after n coins xs b)
+    following-differs = record {
+      seen = with_coin (point_after n coins xs b).coin following;
       group = group-after n (coins_from da coins) xs (with_coin k differs.seen) fits differs.group;
       agree = record {
-        group = λ p size. back.1.group p size ∙ ap (λ (q : Point). member q.trace p) (sym behind-seen);
+        group = λ p size. back.1.group p size ∙ ap (λ (q : Point). member q.trace p) (sym following-seen);
         coin = refl;
-        records = λ j le. back.1.records j (omega (arith, le)) ∙ ap (λ (q : Point). looked_up q.records j) (sym behind-seen);
+        records = λ j le. back.1.records j (omega (arith, le)) ∙ ap (λ (q : Point). looked_up q.records j) (sym following-seen);
       };
-      framed =
-          subst (λ (c : Point). PointsDifferBy n next (with_coin c.coin behind) c) (after-from n db k coins xs b there)
+      by_frame =
+          subst (λ (c : Point). PointsDifferBy n next (with_coin c.coin following) c) (after-from n db k coins xs b there)
           (record { size = over.1.size; group = over.1.group; coin = refl; count = over.1.count; records = over.1.records });
     }
 
-  behind-conjugated : (xs : List Step) → All (StepFits n) xs → looks_too_far m xs ≡ false
-      → AreEnough n (coins_from da coins) pivots xs f (with_coin k differs.seen) → AreFramedOver n coins xs a b
-  behind-conjugated xs fits near enough j =
-      let differ = behind-differs (take j xs) (All-take (StepFits n) j xs fits) (looks-front m j xs near)
+  following-conjugated : (xs : List Step) → All (StepFits n) xs → looks_too_far m xs ≡ false
+      → AreEnough n (coins_from da coins) pivots xs f (with_coin k differs.seen) → ArePropagatedOver n coins xs a b
+  following-conjugated xs fits near enough j =
+      let differ = following-differs (take j xs) (All-take (StepFits n) j xs fits) (looks-front m j xs near)
       (enough-before n (coins_from da coins) pivots j xs f (with_coin k differs.seen) enough) in (
         (frame_over n pivots (take j xs) k f).letters,
-        (λ p size. differ.framed.group p size ∙ sym (differ.agree.group (with_sign (strings_anticommute (frame_over n pivots (take j xs) k f).letters p.letters) p) size)),
+        (λ p size. differ.by_frame.group p size ∙ sym (differ.agree.group (with_sign (strings_anticommute (frame_over n pivots (take j xs) k f).letters p.letters) p) size)),
       )
 
-pub come-conjugated : StepsComeFramed
+pub come-conjugated : StepsComePropagated
 come-conjugated n m k da db coins strings xs f a b fits near at there differs enough = (
   given-conjugated n m k da db coins strings f a b at there differs xs fits near enough,
-  behind-differs n m k da db coins strings f a b at there differs xs fits near enough,
-  behind-conjugated n m k da db coins strings f a b at there differs xs fits near enough,
+  following-differs n m k da db coins strings f a b at there differs xs fits near enough,
+  following-conjugated n m k da db coins strings f a b at there differs xs fits near enough,
 )

@@ -2,9 +2,9 @@
 use Rattle.stab_frames.proofs.Names.{◌≡◌, ℕ, ◌<◌, refl, ◌∙◌, ap, Bool, List, [], ◌∷◌, ◌++◌, map, All-nil, All-cons, All-head, All-tail, All-append, Letter, Step, one, gate_of, RunOutput, origin, nothing, joined, point_after, outputs, StepFits, lengths_of, Matches, flipped_output, unflipped, identity_frame, same_coins, changed, frame_over, flips_over, edit_frame, IsFlippedRun, FrontsFlip, FrontsGoOn, FrontsTakePaulis, PauliFronts, PauliEditsFlip, CoinsFlip, CheckpointsTakeFrames}
 use Rattle.std.specs.Prelude.{All}
 use Rattle.stab_frames.proofs.FlipLemmas.{length-flipped, length-flipped_additions}
-use Rattle.stab_frames.proofs.StartLemmas.{framed-same}
+use Rattle.stab_frames.proofs.StartLemmas.{by_frame-same}
 use Rattle.stab_frames.proofs.TableauLemmas.{conjugated-group}
-use Rattle.stab_frames.proofs.FrontLemmas.{fronts-outputs, fronts-matches, fronts-framed, paulis-front, paulis-given, paulis-match, gates-framed, gates-given, gates-match, records-flipped, flags-flipped, detectors-flipped, observables-flipped}
+use Rattle.stab_frames.proofs.FrontLemmas.{fronts-outputs, fronts-matches, fronts-by_frame, paulis-front, paulis-given, paulis-match, gates-by_frame, gates-given, gates-match, records-flipped, flags-flipped, detectors-flipped, observables-flipped}
 
 pub gates-fit : (n : ℕ) (l : Letter) (qs : List ℕ) → All (λ q. q < n) qs → All (StepFits n) (map (one (gate_of l)) qs)
 gates-fit n l [] fits = All-nil (StepFits n)
@@ -26,12 +26,12 @@ fronts-flip n coins pivots us vs xs f flips fits later fronts enough = (
   flipped-run n coins (changed coins pivots.changes) (us ++ xs) (vs ++ xs) (joined flips (flips_over n pivots xs (point_after n coins us origin).coin f))
       (fronts-outputs n coins pivots us vs xs f flips fits later fronts enough)
       (fronts-matches n coins pivots us vs xs f flips fits later fronts enough),
-  fronts-framed n coins pivots us vs xs f flips fits later fronts enough,
+  fronts-by_frame n coins pivots us vs xs f flips fits later fronts enough,
 )
 
 pub fronts-go-on : FrontsGoOn
 fronts-go-on n coins pivots us vs xs f flips fits later fronts enough = record {
-  framed = fronts-framed n coins pivots us vs xs f flips fits later fronts enough;
+  by_frame = fronts-by_frame n coins pivots us vs xs f flips fits later fronts enough;
   given = fronts-outputs n coins pivots us vs xs f flips fits later fronts enough;
   matches = fronts-matches n coins pivots us vs xs f flips fits later fronts enough;
 }
@@ -40,14 +40,14 @@ fronts-go-on n coins pivots us vs xs f flips fits later fronts enough = record {
 
 pub fronts-take-paulis : FrontsTakePaulis
 fronts-take-paulis n coins others us vs f flips l m qs rs left right fronts = record {
-  framed = gates-framed n coins others us vs f flips l m qs rs left right fronts;
+  by_frame = gates-by_frame n coins others us vs f flips l m qs rs left right fronts;
   given = gates-given n coins others us vs f flips l m qs rs left right fronts;
   matches = gates-match n coins others us vs f flips l m qs rs left right fronts;
 }
 
 pub pauli-fronts : PauliFronts
 pauli-fronts n coins front l m qs rs left right = record {
-  framed = paulis-front n coins l m qs rs left right front;
+  by_frame = paulis-front n coins l m qs rs left right front;
   given = paulis-given n coins l m qs rs front;
   matches = paulis-match n coins l qs front;
 }
@@ -64,7 +64,7 @@ paulis-flip n coins strings front back l m qs rs fits later left right enough =
 pub coins-flip : CoinsFlip
 coins-flip n coins pivots xs fits enough =
     (fronts-flip n coins pivots [] [] xs (identity_frame n 0) nothing (All-nil (StepFits n)) fits
-    (record { framed = framed-same n origin; given = refl; matches = record { records = refl; free = refl; outcomes = refl; detectors = refl; observables = refl } })
+    (record { by_frame = by_frame-same n origin; given = refl; matches = record { records = refl; free = refl; outcomes = refl; detectors = refl; observables = refl } })
     enough).0
 
 -- copies
@@ -80,7 +80,7 @@ same-lengths o flips = λ i. record {
 pub copies-conjugate : CheckpointsTakeFrames
 copies-conjugate n coins pivots us vs xs f flips fits later fronts enough t rows same = (
   conjugated-group n (frame_over n pivots xs (point_after n coins us origin).coin f) (point_after n coins (us ++ xs) origin)
-      (point_after n (changed coins pivots.changes) (vs ++ xs) origin) (fronts-framed n coins pivots us vs xs f flips fits later fronts enough) t rows same,
+      (point_after n (changed coins pivots.changes) (vs ++ xs) origin) (fronts-by_frame n coins pivots us vs xs f flips fits later fronts enough) t rows same,
   ap lengths_of (fronts-outputs n coins pivots us vs xs f flips fits later fronts enough)
       ∙ same-lengths (outputs n coins (us ++ xs) origin) (joined flips (flips_over n pivots xs (point_after n coins us origin).coin f)),
 )

@@ -2,13 +2,13 @@
 use Rattle.stab_frames.proofs.Names.{◌≤◌, sym, ◌∙◌, ap, subst, false, replicate, length-replicate, ◌⊕◌, looked_up, looked_up-near, looked_up-zeros, FramesEnd}
 use Rattle.stab_frames.proofs.FlipLemmas.{looked_up-flipped}
 
-pub framed-end : FramesEnd
-framed-end n m f early a b framed quiet flips = record {
-  group = λ p l. quiet p l ∙ sym (framed.group p l);
-  coin = sym framed.coin;
+pub by_frame-end : FramesEnd
+by_frame-end n m f early a b by_frame quiet flips = record {
+  group = λ p l. quiet p l ∙ sym (by_frame.group p l);
+  coin = sym by_frame.coin;
   records = λ k le.
-      sym (ap (λ r. looked_up r k) framed.records
-      ∙ looked_up-flipped a.records f.flips framed.count k
+      sym (ap (λ r. looked_up r k) by_frame.records
+      ∙ looked_up-flipped a.records f.flips by_frame.count k
       ∙ ap (λ b. b ⊕ looked_up a.records k)
       (ap (λ r. looked_up r k) flips
       ∙ looked_up-near early (replicate m false) k (subst (λ c. k ≤ c) (sym (length-replicate m false)) le)

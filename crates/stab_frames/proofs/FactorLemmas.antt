@@ -28,19 +28,19 @@ on-itself q f fs e = grind (arith, e)
 factors-set : (f p : List Letter) (fs : List Factor) → length p ≡ length f → All (λ x. x.qubit < length f) fs
     → ((q : ℕ) → is_on q fs ≡ true → get_or p q I ≡ I) → names_twice fs ≡ false
     → strings_anticommute f (with_factors fs p) ≡ factors_anticommute f fs ⊕ strings_anticommute f p
-factors-set f p [] e fits blank apart = refl
-factors-set f p (x ∷ fs) e fits blank apart =
+factors-set f p [] e fits blank distinct = refl
+factors-set f p (x ∷ fs) e fits blank distinct =
     let lt : x.qubit < length f = All-head (λ (y : Factor). y.qubit < length f) x fs fits in
     factors-set f (set p x.qubit (letter_of x.letter)) fs (length-set p x.qubit (letter_of x.letter) ∙ e)
     (All-tail (λ (y : Factor). y.qubit < length f) x fs fits)
     (λ q on. get_or-set_other p x.qubit q (letter_of x.letter) I (other q on) ∙ blank q (later q on))
-    (or-right (is_on x.qubit fs) (names_twice fs) apart)
+    (or-right (is_on x.qubit fs) (names_twice fs) distinct)
     ∙ ap (λ b. factors_anticommute f fs ⊕ b) (anticommute-set f p x.qubit (letter_of x.letter) e (omega (arith, e, lt)) (blank x.qubit (on-itself x.qubit x fs refl)))
     ∙ sym (parity-assoc (factors_anticommute f fs) (letters_anticommute (get_or f x.qubit I) (letter_of x.letter)) (strings_anticommute f p))
     ∙ ap (λ b. b ⊕ strings_anticommute f p) (parity-comm (factors_anticommute f fs) (letters_anticommute (get_or f x.qubit I) (letter_of x.letter)))
   where
     off : is_on x.qubit fs ≡ false
-    off = or-left (is_on x.qubit fs) (names_twice fs) apart
+    off = or-left (is_on x.qubit fs) (names_twice fs) distinct
 
     other : (q : ℕ) → is_on q fs ≡ true → q ≢ x.qubit
     other q on same = let h : is_on x.qubit fs ≡ true = subst (λ k. is_on k fs ≡ true) same on in cc
@@ -53,10 +53,10 @@ factors-set f p (x ∷ fs) e fits blank apart =
     later q on = or-more (x.qubit == q) (is_on q fs) on
 
 -- with a product on different qubits
-pub factors-apart : (n : ℕ) (f : List Letter) (fs : List Factor) → length f ≡ n → All (λ x. x.qubit < n) fs → names_twice fs ≡ false
+pub factors-distinct : (n : ℕ) (f : List Letter) (fs : List Factor) → length f ≡ n → All (λ x. x.qubit < n) fs → names_twice fs ≡ false
     → strings_anticommute f (string_of n fs).letters ≡ factors_anticommute f fs
-factors-apart n f fs size fits apart =
+factors-distinct n f fs size fits distinct =
     factors-set f (replicate n I) fs (length-replicate n I ∙ sym size) (subst (λ k. All (λ x. x.qubit < k) fs) (sym size) fits)
-    (λ q on. get_or-blank n q) apart
+    (λ q on. get_or-blank n q) distinct
     ∙ ap (λ b. factors_anticommute f fs ⊕ b) (strings_anticommute-blank_right n f)
     ∙ parity-false (factors_anticommute f fs)

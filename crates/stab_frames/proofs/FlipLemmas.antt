@@ -140,11 +140,11 @@ flipped-back (b ∷ bits) [] e = absurd (omega arith)
 flipped-back (b ∷ bits) (f ∷ flips) e = λ i. parity-twice f b i ∷ flipped-back bits flips (omega arith) i
 
 -- bits are others, flipped if they differ
-pub flipped-apart : (bits others : List Bool) → length others ≡ length bits → flipped bits (flipped bits others) ≡ others
-flipped-apart [] [] e = refl
-flipped-apart [] (o ∷ others) e = absurd (omega arith)
-flipped-apart (b ∷ bits) [] e = absurd (omega arith)
-flipped-apart (b ∷ bits) (o ∷ others) e = λ i. parity-back o b i ∷ flipped-apart bits others (omega arith) i
+pub flipped-differing : (bits others : List Bool) → length others ≡ length bits → flipped bits (flipped bits others) ≡ others
+flipped-differing [] [] e = refl
+flipped-differing [] (o ∷ others) e = absurd (omega arith)
+flipped-differing (b ∷ bits) [] e = absurd (omega arith)
+flipped-differing (b ∷ bits) (o ∷ others) e = λ i. parity-back o b i ∷ flipped-differing bits others (omega arith) i
   where
     parity-back : (x y : Bool) → (x ⊕ y) ⊕ y ≡ x
     parity-back x y = grind arith

@@ -27,9 +27,9 @@ flipped-rest i (x ∷ bits) (y ∷ flips) is =
 
 pub flipped-whole : (i count : ℕ) (to now new rest bits flips : List Bool) → i ≡ count → count ≡ min (length flips) (length bits) → now ≡ to ++ flipped (take i bits) (take i flips)
     → rest ≡ drop count bits → new ≡ now ++ rest → new ≡ to ++ flipped bits flips
-flipped-whole i count to now new rest bits flips at is so behind then =
+flipped-whole i count to now new rest bits flips at is so following then =
     then
-    ∙ (λ j. so j ++ behind j)
+    ∙ (λ j. so j ++ following j)
     ∙ append_assoc to (flipped (take i bits) (take i flips)) (drop count bits)
     ∙ ap (λ k. to ++ (flipped (take i bits) (take i flips) ++ drop k bits)) (sym at)
     ∙ ap (λ s. to ++ s) (flipped-rest i bits flips (at ∙ is))
@@ -68,9 +68,9 @@ additions-rest i (x ∷ adds) (y ∷ flips) is =
 
 pub additions-whole : (i count : ℕ) (to now new rest adds flips : List Addition) → i ≡ count → count ≡ min (length flips) (length adds)
     → now ≡ to ++ flipped_additions (take i adds) (take i flips) → rest ≡ drop count adds → new ≡ now ++ rest → new ≡ to ++ flipped_additions adds flips
-additions-whole i count to now new rest adds flips at is so behind then =
+additions-whole i count to now new rest adds flips at is so following then =
     then
-    ∙ (λ j. so j ++ behind j)
+    ∙ (λ j. so j ++ following j)
     ∙ append_assoc to (flipped_additions (take i adds) (take i flips)) (drop count adds)
     ∙ ap (λ k. to ++ (flipped_additions (take i adds) (take i flips) ++ drop k adds)) (sym at)
     ∙ ap (λ s. to ++ s) (additions-rest i adds flips (at ∙ is))

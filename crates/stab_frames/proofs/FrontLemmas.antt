@@ -2,8 +2,8 @@
 use Rattle.stab_frames.proofs.Names.{◌≡◌, ℕ, ◌<◌, refl, sym, ◌∙◌, ap, subst, Bool, false, List, [], ◌∷◌, ◌++◌, length, map, replicate, length-replicate, All-head, All-tail, Letter, string_product, member, IsStabiliserGroup, group-zeros, Step, one, State, start, gate_of, run, Point, RunOutput, origin, nothing, joined, next_point, point_after, outputs, with_additions, StepFits, Matches, flipped, flipped_output, unflipped, Frame, PointsDifferBy, frame_of, RunPivots, changed, frame_over, flips_over, AreEnough, letters_on, AreFronts, joined-nothing, after-append, outputs-append, run-state, records-are-records}
 use Rattle.std.specs.Prelude.{All}
 use Rattle.stab_frames.proofs.FlipLemmas.{flipped-joined, joined-matches, flipped-none, unflipped-output, unflipped-matches, additions-flipped}
-use Rattle.stab_frames.proofs.StepLemmas.{group-next, outputs-matches, over-framed}
-use Rattle.stab_frames.proofs.StartLemmas.{framed-exchanged, framed-gates}
+use Rattle.stab_frames.proofs.StepLemmas.{group-next, outputs-matches, over-by_frame}
+use Rattle.stab_frames.proofs.StartLemmas.{by_frame-exchanged, by_frame-gates}
 
 -- the strings at a point of a run are a group
 
@@ -25,17 +25,17 @@ module _ (n : ℕ) (coins : ℕ → Bool) (pivots : RunPivots) (us vs xs : List 
   abbrev whole : RunOutput
   whole = joined flips (flips_over n pivots xs (point_after n coins us origin).coin f)
 
-  behind : (outputs n (changed coins pivots.changes) xs (point_after n (changed coins pivots.changes) vs origin)
+  following : (outputs n (changed coins pivots.changes) xs (point_after n (changed coins pivots.changes) vs origin)
       ≡ flipped_output (outputs n coins xs (point_after n coins us origin)) (flips_over n pivots xs (point_after n coins us origin).coin f))
       × PointsDifferBy n (frame_over n pivots xs (point_after n coins us origin).coin f) (point_after n coins xs (point_after n coins us origin))
       (point_after n (changed coins pivots.changes) xs (point_after n (changed coins pivots.changes) vs origin))
-  behind =
-      over-framed n coins pivots xs f (point_after n coins us origin) (point_after n (changed coins pivots.changes) vs origin) later (group-origin n coins us fits) enough fronts.framed
+  following =
+      over-by_frame n coins pivots xs f (point_after n coins us origin) (point_after n (changed coins pivots.changes) vs origin) later (group-origin n coins us fits) enough fronts.by_frame
 
   pub fronts-outputs : outputs n (changed coins pivots.changes) (vs ++ xs) origin ≡ flipped_output (outputs n coins (us ++ xs) origin) whole
   fronts-outputs =
       outputs-append n (changed coins pivots.changes) vs xs origin
-      ∙ (λ i. joined (fronts.given i) (behind.0 i))
+      ∙ (λ i. joined (fronts.given i) (following.0 i))
       ∙ sym (flipped-joined (outputs n coins us origin) (outputs n coins xs (point_after n coins us origin)) flips
       (flips_over n pivots xs (point_after n coins us origin).coin f) fronts.matches)
       ∙ ap (λ o. flipped_output o whole) (sym (outputs-append n coins us xs origin))
@@ -47,11 +47,11 @@ module _ (n : ℕ) (coins : ℕ → Bool) (pivots : RunPivots) (us vs xs : List 
       (flips_over n pivots xs (point_after n coins us origin).coin f) fronts.matches
       (outputs-matches n coins pivots xs (point_after n coins us origin) (point_after n coins us origin).coin f))
 
-  pub fronts-framed : PointsDifferBy n (frame_over n pivots xs (point_after n coins us origin).coin f) (point_after n coins (us ++ xs) origin) (point_after n (changed coins pivots.changes) (vs ++ xs) origin)
-  fronts-framed =
+  pub fronts-by_frame : PointsDifferBy n (frame_over n pivots xs (point_after n coins us origin).coin f) (point_after n coins (us ++ xs) origin) (point_after n (changed coins pivots.changes) (vs ++ xs) origin)
+  fronts-by_frame =
       subst (λ p. PointsDifferBy n (frame_over n pivots xs (point_after n coins us origin).coin f) p (point_after n (changed coins pivots.changes) (vs ++ xs) origin)) (sym (after-append n coins us xs origin))
       (subst (PointsDifferBy n (frame_over n pivots xs (point_after n coins us origin).coin f) (point_after n coins xs (point_after n coins us origin)))
-      (sym (after-append n (changed coins pivots.changes) vs xs origin)) behind.1)
+      (sym (after-append n (changed coins pivots.changes) vs xs origin)) following.1)
 
 -- Pauli gates give nothing
 
@@ -59,8 +59,8 @@ pub gates-give-nothing : (n : ℕ) (coins : ℕ → Bool) (l : Letter) (qs : Lis
 gates-give-nothing n coins l [] a = refl
 gates-give-nothing n coins l (q ∷ qs) a = gates-give-nothing n coins l qs (next_point n coins (one (gate_of l) q) a)
 
-behind-gates : (n : ℕ) (coins : ℕ → Bool) (l : Letter) (qs : List ℕ) (xs : List Step) → outputs n coins (xs ++ map (one (gate_of l)) qs) origin ≡ outputs n coins xs origin
-behind-gates n coins l qs xs =
+following-gates : (n : ℕ) (coins : ℕ → Bool) (l : Letter) (qs : List ℕ) (xs : List Step) → outputs n coins (xs ++ map (one (gate_of l)) qs) origin ≡ outputs n coins xs origin
+following-gates n coins l qs xs =
     outputs-append n coins xs (map (one (gate_of l)) qs) origin
     ∙ ap (joined (outputs n coins xs origin)) (gates-give-nothing n coins l qs (point_after n coins xs origin))
     ∙ joined-nothing (outputs n coins xs origin)
@@ -72,19 +72,19 @@ paulis-front n coins l m qs rs left right xs =
     let f = frame_of (string_product (letters_on n l qs) (letters_on n m rs)) (length (point_after n coins xs origin).records) in
     subst (λ p. PointsDifferBy n f p (point_after n coins (xs ++ map (one (gate_of m)) rs) origin)) (sym (after-append n coins xs (map (one (gate_of l)) qs) origin))
     (subst (PointsDifferBy n f (point_after n coins (map (one (gate_of l)) qs) (point_after n coins xs origin))) (sym (after-append n coins xs (map (one (gate_of m)) rs) origin))
-    (framed-exchanged n coins l m qs rs left right (point_after n coins xs origin)))
+    (by_frame-exchanged n coins l m qs rs left right (point_after n coins xs origin)))
 
 pub paulis-given : (n : ℕ) (coins : ℕ → Bool) (l m : Letter) (qs rs : List ℕ) (xs : List Step)
     → outputs n coins (xs ++ map (one (gate_of m)) rs) origin
     ≡ flipped_output (outputs n coins (xs ++ map (one (gate_of l)) qs) origin) (unflipped (outputs n coins xs origin))
 paulis-given n coins l m qs rs xs =
-    behind-gates n coins m rs xs ∙ sym (unflipped-output (outputs n coins xs origin))
-    ∙ ap (λ o. flipped_output o (unflipped (outputs n coins xs origin))) (sym (behind-gates n coins l qs xs))
+    following-gates n coins m rs xs ∙ sym (unflipped-output (outputs n coins xs origin))
+    ∙ ap (λ o. flipped_output o (unflipped (outputs n coins xs origin))) (sym (following-gates n coins l qs xs))
 
 pub paulis-match : (n : ℕ) (coins : ℕ → Bool) (l : Letter) (qs : List ℕ) (xs : List Step)
     → Matches (outputs n coins (xs ++ map (one (gate_of l)) qs) origin) (unflipped (outputs n coins xs origin))
 paulis-match n coins l qs xs =
-    subst (λ o. Matches o (unflipped (outputs n coins xs origin))) (sym (behind-gates n coins l qs xs)) (unflipped-matches (outputs n coins xs origin))
+    subst (λ o. Matches o (unflipped (outputs n coins xs origin))) (sym (following-gates n coins l qs xs)) (unflipped-matches (outputs n coins xs origin))
 
 -- if fronts differ by a frame, Pauli gates after each multiply their letters onto it
 
@@ -96,21 +96,21 @@ module _ (n : ℕ) (coins others : ℕ → Bool) (us vs : List Step) (f : Frame)
   abbrev news : List Step
   news = map (one (gate_of m)) rs
 
-  pub gates-framed : PointsDifferBy n (record f { letters = string_product f.letters (string_product (letters_on n l qs) (letters_on n m rs)) })
+  pub gates-by_frame : PointsDifferBy n (record f { letters = string_product f.letters (string_product (letters_on n l qs) (letters_on n m rs)) })
       (point_after n coins (us ++ olds) origin) (point_after n others (vs ++ news) origin)
-  gates-framed =
+  gates-by_frame =
       subst (λ x. x)
       (λ i. PointsDifferBy n (record f { letters = string_product f.letters (string_product (letters_on n l qs) (letters_on n m rs)) }) (sym (after-append n coins us olds origin) i) (sym (after-append n others vs news origin) i))
-      (framed-gates n coins others l m qs rs left right f (point_after n coins us origin) (point_after n others vs origin) fronts.framed)
+      (by_frame-gates n coins others l m qs rs left right f (point_after n coins us origin) (point_after n others vs origin) fronts.by_frame)
 
   pub gates-given : outputs n others (vs ++ news) origin ≡ flipped_output (outputs n coins (us ++ olds) origin) flips
   gates-given =
-      behind-gates n others m rs vs
+      following-gates n others m rs vs
       ∙ fronts.given
-      ∙ ap (λ o. flipped_output o flips) (sym (behind-gates n coins l qs us))
+      ∙ ap (λ o. flipped_output o flips) (sym (following-gates n coins l qs us))
 
   pub gates-match : Matches (outputs n coins (us ++ olds) origin) flips
-  gates-match = subst (λ o. Matches o flips) (sym (behind-gates n coins l qs us)) fronts.matches
+  gates-match = subst (λ o. Matches o flips) (sym (following-gates n coins l qs us)) fronts.matches
 
 -- what a whole run shows, if its output is flipped
 

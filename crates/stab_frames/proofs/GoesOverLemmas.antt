@@ -1,8 +1,8 @@
 -- Goes over: a frame over steps one after another, with what it has to know of their measurements.
-use Rattle.stab_frames.proofs.Names.{◌≡◌, ℕ, ◌+◌, ◌<◌, ◌≤◌, refl, sym, ◌∙◌, ap, subst, Bool, true, false, ◌&&◌, List, [], ◌∷◌, ◌++◌, length, take, map, get_or, All, arith, map_more, get_or-map, length-map, length-take-le, take-length, Letter, single, strings_anticommute, Gate, image, Axis, ControlledPair, Factor, MeasureTarget, Measurement, letter_of, Step, one, controlled, collapse, product, detector, controlled_step, measured, observable, looked_up, parity, string_of, flip_of, coins_of, all_coins_of, nothing, joined, StepFits, coins-measured, joined-nothing, coins-append, Frame, plus, times_where, RunPivots, pivots_of, frame_over, letters_after, flips_given, pivot_at, PropagationState, frame_at, IsPlaced, IsDrawn, AreDrawn, StepsWith, one_flipped, IsTold, AreTold, IsPropagated, GoesOver, GoesFreely, Goes}
+use Rattle.stab_frames.proofs.Names.{◌≡◌, ℕ, ◌+◌, ◌<◌, ◌≤◌, refl, sym, ◌∙◌, ap, subst, Bool, true, false, ◌&&◌, List, [], ◌∷◌, ◌++◌, length, take, map, get_or, All, arith, map_more, get_or-map, length-map, length-take-le, take-length, Letter, single, strings_anticommute, Gate, image, Axis, ControlledPair, Factor, MeasureTarget, Measurement, letter_of, Step, one, controlled, collapse, product, detector, controlled_step, measured, observable, looked_up, parity, string_of, flip_of, coins_of, all_coins_of, nothing, joined, StepFits, coins-measured, joined-nothing, coins-append, Frame, plus, times_where, RunPivots, pivots_of, frame_over, letters_after, flips_given, pivot_at, PropagationState, frame_at, IsPlaced, IsDrawn, AreDrawn, StepsWith, one_flipped, IsDetermined, AreDetermined, IsPropagated, GoesOver, GoesFreely, Goes}
 use Rattle.stab_lines.specs.declared.control.ControlledPair.TheVariants as pair
-use Rattle.stab_frames.proofs.PropagatedLemmas.{over-none, over-step, over-append, told-append}
-use Rattle.stab_frames.proofs.MeasuredPropagatedLemmas.{told-unmeasured, told-measured, passes-collapse, passes-product}
+use Rattle.stab_frames.proofs.PropagatedLemmas.{over-none, over-step, over-append, determined-append}
+use Rattle.stab_frames.proofs.MeasuredPropagatedLemmas.{determined-unmeasured, determined-measured, passes-collapse, passes-product}
 
 -- over none, one step, and steps one after another
 
@@ -27,7 +27,7 @@ module _ (n : ℕ) (strings : List (List Letter)) (free : List Bool) (draw : ℕ
   pub goes-none : (w : PropagationState) → IsPlaced free w → length w.letters ≡ n → GoesOver n strings free draw [] w w
   goes-none w placed size = record {
     over = λ changes drawn. over-none n (pivots_of (pivot_at strings free) changes) w;
-    told = λ changes drawn base. tt;
+    determined = λ changes drawn base. tt;
     coin = sym (none w.coin);
     placed = placed;
     size = size;
@@ -35,11 +35,11 @@ module _ (n : ℕ) (strings : List (List Letter)) (free : List Bool) (draw : ℕ
 
   pub goes-step : (x : Step) (old new : PropagationState)
       → ((changes : ℕ → Bool) → (0 < coins_of x → IsDrawn free draw changes old.coin) → StepsWith n (pivots_of (pivot_at strings free) changes) x old new)
-      → ((changes : ℕ → Bool) → (0 < coins_of x → IsDrawn free draw changes old.coin) → IsTold n strings free changes x old.coin old.letters)
+      → ((changes : ℕ → Bool) → (0 < coins_of x → IsDrawn free draw changes old.coin) → IsDetermined n strings free changes x old.coin old.letters)
       → new.coin ≡ old.coin + coins_of x → IsPlaced free new → length new.letters ≡ n → GoesOver n strings free draw (x ∷ []) old new
-  goes-step x old new passes told coin placed size = record {
+  goes-step x old new passes determined coin placed size = record {
     over = λ changes drawn. over-step n (pivots_of (pivot_at strings free) changes) x old new (passes changes drawn.0);
-    told = λ changes drawn base. (told changes drawn.0, tt);
+    determined = λ changes drawn base. (determined changes drawn.0, tt);
     coin = coin ∙ ap (λ k. old.coin + k) (sym (none (coins_of x)));
     placed = placed;
     size = size;
@@ -50,11 +50,11 @@ module _ (n : ℕ) (strings : List (List Letter)) (free : List Bool) (draw : ℕ
   goes-append xs ys a b c first then = record {
     over = λ changes drawn. over-append n (pivots_of (pivot_at strings free) changes) xs ys a b c
         (first.over changes (drawn-front free draw changes xs ys a.coin drawn)) (then.over changes (there changes drawn));
-    told = λ changes drawn base.
+    determined = λ changes drawn base.
         let front = drawn-front free draw changes xs ys a.coin drawn in
-        told-append n strings free changes xs ys a.coin (frame_at base a) (first.told changes front base)
-        (subst (λ k. AreTold n strings free changes ys k (frame_over n (pivots_of (pivot_at strings free) changes) xs a.coin (frame_at base a))) first.coin
-        (subst (λ (f : Frame). AreTold n strings free changes ys b.coin f) ((first.over changes front).frame base) (then.told changes (there changes drawn) base)));
+        determined-append n strings free changes xs ys a.coin (frame_at base a) (first.determined changes front base)
+        (subst (λ k. AreDetermined n strings free changes ys k (frame_over n (pivots_of (pivot_at strings free) changes) xs a.coin (frame_at base a))) first.coin
+        (subst (λ (f : Frame). AreDetermined n strings free changes ys b.coin f) ((first.over changes front).frame base) (then.determined changes (there changes drawn) base)));
     coin = then.coin ∙ ap (λ k. k + all_coins_of ys) first.coin ∙ more a.coin (all_coins_of xs) (all_coins_of ys) ∙ ap (λ k. a.coin + k) (sym (coins-append xs ys));
     placed = then.placed;
     size = then.size;
@@ -83,30 +83,30 @@ module _ (n : ℕ) (strings : List (List Letter)) (free : List Bool) (draw : ℕ
 
   -- over a measured letter and a measured product
 
-  pub goes-collapse : (l : Letter) (q : ℕ) (recorded inverted resets apart flip : Bool) (old mid reset new : PropagationState)
-      → strings_anticommute old.letters (single n q l).letters ≡ apart → IsPropagated strings free draw apart flip old mid → length mid.letters ≡ n
+  pub goes-collapse : (l : Letter) (q : ℕ) (recorded inverted resets distinct flip : Bool) (old mid reset new : PropagationState)
+      → strings_anticommute old.letters (single n q l).letters ≡ distinct → IsPropagated strings free draw distinct flip old mid → length mid.letters ≡ n
       → reset ≡ record mid { letters = times_where (resets && flip) (single (length mid.letters) q (flip_of l)).letters mid.letters }
       → new ≡ record reset { flips = joined reset.flips (one_flipped recorded flip) } → length new.letters ≡ n
       → GoesOver n strings free draw (collapse l q recorded inverted resets ∷ []) old new
-  goes-collapse l q recorded inverted resets apart flip old mid reset new ea p size er en new_size =
+  goes-collapse l q recorded inverted resets distinct flip old mid reset new ea p size er en new_size =
       goes-step (collapse l q recorded inverted resets) old new
-      (λ changes drawn. passes-collapse n (pivots_of (pivot_at strings free) changes) l q recorded inverted resets apart flip old mid reset new ea
+      (λ changes drawn. passes-collapse n (pivots_of (pivot_at strings free) changes) l q recorded inverted resets distinct flip old mid reset new ea
       (p.over changes (drawn (omega arith))) size er en)
-      (λ changes drawn. told-measured n strings free changes (collapse l q recorded inverted resets) (single n q l) old.coin apart old.letters refl ea
-      (p.told changes (drawn (omega arith))))
+      (λ changes drawn. determined-measured n strings free changes (collapse l q recorded inverted resets) (single n q l) old.coin distinct old.letters refl ea
+      (p.determined changes (drawn (omega arith))))
       (ap (λ (w : PropagationState). w.coin) en ∙ ap (λ (w : PropagationState). w.coin) er ∙ p.coin)
       (subst (IsPlaced free) (sym en) (subst (IsPlaced free) (sym er) p.placed))
       new_size
 
-  pub goes-product : (factors : List Factor) (inverted apart flip : Bool) (old mid new : PropagationState)
-      → strings_anticommute old.letters (string_of n factors).letters ≡ apart → IsPropagated strings free draw apart flip old mid
+  pub goes-product : (factors : List Factor) (inverted distinct flip : Bool) (old mid new : PropagationState)
+      → strings_anticommute old.letters (string_of n factors).letters ≡ distinct → IsPropagated strings free draw distinct flip old mid
       → new ≡ record mid { flips = joined mid.flips (one_flipped true flip) } → length new.letters ≡ n
       → GoesOver n strings free draw (product factors inverted ∷ []) old new
-  goes-product factors inverted apart flip old mid new ea p en size =
+  goes-product factors inverted distinct flip old mid new ea p en size =
       goes-step (product factors inverted) old new
-      (λ changes drawn. passes-product n (pivots_of (pivot_at strings free) changes) factors inverted apart flip old mid new ea (p.over changes (drawn (omega arith))) en)
-      (λ changes drawn. told-measured n strings free changes (product factors inverted) (string_of n factors) old.coin apart old.letters refl ea
-      (p.told changes (drawn (omega arith))))
+      (λ changes drawn. passes-product n (pivots_of (pivot_at strings free) changes) factors inverted distinct flip old mid new ea (p.over changes (drawn (omega arith))) en)
+      (λ changes drawn. determined-measured n strings free changes (product factors inverted) (string_of n factors) old.coin distinct old.letters refl ea
+      (p.determined changes (drawn (omega arith))))
       (ap (λ (w : PropagationState). w.coin) en ∙ p.coin)
       (subst (IsPlaced free) (sym en) p.placed)
       size
@@ -118,7 +118,7 @@ module _ (n : ℕ) (strings : List (List Letter)) (free : List Bool) (draw : ℕ
   goes-unmeasured x old new ec letters flips coin placed size =
       let after : new.coin ≡ old.coin + coins_of x = omega (arith, coin, ec) in
       goes-step x old new (λ changes drawn. record { letters = letters (pivots_of (pivot_at strings free) changes); flips = flips (pivots_of (pivot_at strings free) changes); coin = after })
-      (λ changes drawn. told-unmeasured n strings free changes x old.coin old.letters ec) after placed size
+      (λ changes drawn. determined-unmeasured n strings free changes x old.coin old.letters ec) after placed size
 
 -- on as many qubits, with what is drawn
 pub goes-same : (n m : ℕ) (strings : List (List Letter)) (free : List Bool) (draw draws : ℕ → Bool) (xs : List Step) (old new : PropagationState) → m ≡ n → draw ≡ draws

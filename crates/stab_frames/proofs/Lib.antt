@@ -1,12 +1,12 @@
 mod Names
 pub mod SignLemmas
-pub mod FramedLemmas
+pub mod PropagatedPointLemmas
 pub mod MeasuredLemmas
 pub mod FlipLemmas
 pub mod StepLemmas
 pub mod PivotLemmas
 pub mod RunPivotLemmas
-pub mod FramedCoinLemmas
+pub mod PropagatedCoinLemmas
 pub mod StartLemmas
 pub mod EndLemmas
 pub mod TableauLemmas
@@ -16,6 +16,7 @@ pub mod SumLemmas
 pub mod WeightLemmas
 pub mod StillLemmas
 pub mod OverLemmas
+pub mod TreatedLemmas
 pub mod TrueLemmas
 pub mod PivotAtLemmas
 pub mod FreeLemmas
@@ -35,4 +36,4 @@ pub mod StillPropagationLemmas
 pub mod AgainLemmas
 pub mod OtherCoinLemmas
 pub mod FlippedListLemmas
-pub mod FramedCopyLemmas
+pub mod PropagatedRepeatLemmas

@@ -2,7 +2,7 @@
 use Rattle.stab_frames.proofs.Names.{◌≡◌, ℕ, refl, sym, ◌∙◌, ap, subst, Bool, true, false, not, ◌&&◌, ◌||◌, List, length, arith, Option, Some, None, if◌then◌else◌, Letter, ◌⊕◌, Signed, minus, with_sign, anticommute, strings_anticommute, string_product, strings_anticommute-product_right, length-string_product, outcome_by, is_free_by, projected_by, IsStabiliserGroup, IsConjugated, IsPivot, not-true, not_both, both_false, both_true, times_where, IsPivotOf, IsEnough, flipped_by, letters_by}
 use Rattle.stab_pauli.specs.Paulis.{product}
 use Rattle.stab_frames.proofs.SignLemmas.{sign-sign, sign-twice, product-sign_left, product-sign_right}
-use Rattle.stab_frames.proofs.FramedLemmas.{conjugated-over, conjugated-comm, conjugated-stabiliser}
+use Rattle.stab_frames.proofs.PropagatedPointLemmas.{conjugated-over, conjugated-comm, conjugated-stabiliser}
 
 -- what is free stays free
 free-sides : (u v : Signed → Bool) (q : Signed) (x : Bool) → v q ≡ u (with_sign x q) → v (minus q) ≡ u (with_sign x (minus q)) → is_free_by v q ≡ is_free_by u q
@@ -19,11 +19,11 @@ conjugated-free n f u v h q l = free-sides u v q (strings_anticommute f q.letter
 
 -- on the other coin each outcome is flipped, fixed or free, if the letters anticommute with what is measured
 
-opposite : (m k coin : Bool) → (m ≡ true → k ≡ false) → (if k then false else (if m then true else not coin)) ≡ not (if m then false else (if k then true else coin))
-opposite true true coin apart = let f : true ≡ false = apart refl in cc
-opposite true false coin apart = refl
-opposite false true coin apart = refl
-opposite false false coin apart = refl
+pub opposite : (m k coin : Bool) → (m ≡ true → k ≡ false) → (if k then false else (if m then true else not coin)) ≡ not (if m then false else (if k then true else coin))
+opposite true true coin distinct = let f : true ≡ false = distinct refl in cc
+opposite true false coin distinct = refl
+opposite false true coin distinct = refl
+opposite false false coin distinct = refl
 
 -- a projection, on outcomes that differ if the letters anticommute with what is measured
 
@@ -66,17 +66,17 @@ pub conjugated-pivoted : (n : ℕ) (f s : List Letter) (u v : Signed → Bool) �
 conjugated-pivoted n f s u v h group q lq e o =
     conjugated-comm n s f (projected_by u q o) (projected_by v q (strings_anticommute f q.letters ⊕ not o))
     (conjugated-over n s f (projected_by u q o) (projected_by u q (not o)) (projected_by v q (strings_anticommute f q.letters ⊕ not o))
-    (subst (λ b. IsConjugated n s (projected_by u q o) (projected_by u q (b ⊕ o))) e.apart
+    (subst (λ b. IsConjugated n s (projected_by u q o) (projected_by u q (b ⊕ o))) e.anticommutes
     (conjugated-projected n s u u (conjugated-stabiliser n s u group e.size e.negative e.stabilises) q lq o))
     (conjugated-projected n f u v h q lq (not o)))
 
 -- if there is a pivot, the outcome is random
 pub pivoted-free : (n : ℕ) (u : Signed → Bool) → IsStabiliserGroup n u → (q : Signed) → length q.letters ≡ n → (s : List Letter) → IsPivot n u q s
     → is_free_by u q ≡ true
-pivoted-free n u group q lq s e = λ i. not (out q lq e.apart i) && not (out (minus q) lq e.apart i)
+pivoted-free n u group q lq s e = λ i. not (out q lq e.anticommutes i) && not (out (minus q) lq e.anticommutes i)
   where
     out : (r : Signed) → length r.letters ≡ n → strings_anticommute s r.letters ≡ true → u r ≡ false
-    out r lr apart = not-true (u r) (λ m. not_both _ (group.commuting (record { negative = e.negative; letters = s }) r e.size lr e.stabilises m) apart)
+    out r lr distinct = not-true (u r) (λ m. not_both _ (group.commuting (record { negative = e.negative; letters = s }) r e.size lr e.stabilises m) distinct)
 
 -- a measurement, with a pivot of it
 

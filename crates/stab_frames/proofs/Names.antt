@@ -73,17 +73,17 @@ pub use Rattle.stab_tableau.specs.Traces.{member, Event, is_free, projected}
 pub use Rattle.stab_tableau.specs.inner.ColumnLetters.{letter_anticommuting}
 pub use Rattle.stab_tableau.specs.inner.Frames.{SameLetters, sign_frame}
 pub use Rattle.stab_tableau.specs.inner.InverseRows.{InverseRows}
-pub use Rattle.stab_frames.specs.AgainLaws.{DiffersBack, AreFramedOver, StepsComeFramed}
+pub use Rattle.stab_frames.specs.AgainLaws.{DiffersBack, ArePropagatedOver, StepsComePropagated}
 pub use Rattle.stab_frames.specs.Flips.{flipped_output, Matches, unflipped, flipped, flipped_additions}
-pub use Rattle.stab_frames.specs.FrameSteps.{frame_over, flips_over, frame_after, letters_after, flips_given, flipped_by, letters_by, flips_outcome, letters_measured}
-pub use Rattle.stab_frames.specs.FramedTableaus.{framed_rows, framed_tableau}
+pub use Rattle.stab_frames.specs.FrameSteps.{flip_by, letters_for, one_flipped, frame_over, flips_over, frame_after, letters_after, flips_given, flipped_by, letters_by, flips_outcome, letters_measured}
+pub use Rattle.stab_frames.specs.PropagatedTableaus.{propagated_rows, propagated_tableau}
 pub use Rattle.stab_frames.specs.Frames.{Frame, PointsDifferBy, identity_frame, plus, times_where, frame_of, frame_product}
 pub use Rattle.stab_frames.specs.Images.{letter_where, controlled_letter}
 pub use Rattle.stab_frames.specs.Fronts.{edit_frame, IsFlippedRun, AreFronts}
 pub use Rattle.stab_frames.specs.Limits.{bytes_of, most_strings}
 pub use Rattle.stab_items.specs.Steps.{LooksWithin}
 pub use Rattle.stab_frames.specs.OtherCoins.{coins_from, pivots_between, HasGoneOver, PropagatesToOthers}
-pub use Rattle.stab_frames.specs.PivotLaws.{FramesHaveCoins, RightPivotsAreEnough, FlippedCoinsNeedNoPivots, PivotsAreEnoughBefore, MeasurementsHavePivots, FlagsTellPivots, RunsHavePivots}
+pub use Rattle.stab_frames.specs.PivotLaws.{FramesHaveCoins, RightPivotsAreEnough, FlippedCoinsNeedNoPivots, PivotsAreEnoughBefore, MeasurementsHavePivots, FlagsDeterminePivots, RunsHavePivots}
 pub use Rattle.stab_frames.specs.Pivots.{IsTrueAt, AreTrue, pivot_at, PivotsState, IsNumbered, kept_with, front_kept, KeepsTrue, cut_to}
 pub use Rattle.stab_frames.specs.PivotsOfSteps.{AreEnough, AreFlippedPivots, IsRightAt, IsEnoughAt, AreRight}
 pub use Rattle.stab_frames.specs.Propagations.{PropagationState, IsPlaced, frame_at, PropagatesWith, PropagatesOver, IsGone}
@@ -93,7 +93,7 @@ pub use Rattle.stab_frames.specs.Starts.{letters_on}
 pub use Rattle.stab_frames.specs.StepLaws.{FramesEnd, StepsKeepFrames, RunsKeepFrames, AreStrings, FramesAdd}
 pub use Rattle.stab_frames.specs.inner.Draws.{AsksFree, IsDrawn, AreDrawn, outcome_of, differing, never}
 pub use Rattle.stab_frames.specs.inner.Products.{AreMultiplied}
-pub use Rattle.stab_frames.specs.inner.Propagates.{factors_anticommute, IsMissing, StepsWith, IsTold, AreTold, IsPropagated, GoesOver, GoesFreely, Goes, IsPropagatedWith, IsToldBy, flip_by, letters_for, one_flipped, none_flipped}
+pub use Rattle.stab_frames.specs.inner.Propagates.{factors_anticommute, IsMissing, StepsWith, IsDetermined, AreDetermined, IsPropagated, GoesOver, GoesFreely, Goes, IsPropagatedWith, IsDeterminedBy, none_flipped}
 pub use Rattle.stab_frames.specs.inner.RecordedPivots.{KeepsPivotsOf, KeepsPivots, PivotsSteps, IsAdded}
 pub use Rattle.stab_frames.specs.inner.Touches.{touches_target, acts, PairFits, touches_pair}
 pub use Rattle.stab_frames.specs.inner.Weights.{string_weight, letter_weight}

@@ -1,12 +1,12 @@
 -- Other coins: a frame on its way to a run with other coins, from each run that had the outcomes there.
-use Rattle.stab_frames.proofs.Names.{◌≡◌, ℕ, ◌+◌, ◌-◌, ◌<◌, ◌≤◌, refl, sym, ◌∙◌, ap, subst, Bool, false, List, [], ◌∷◌, ◌++◌, append_assoc, drop, get_or, arith, take-append-drop, Letter, ◌⊕◌, parity-comm, Signed, single, Event, is_free, Step, one, two, controlled, collapse, product, detector, observable, string_of, outcome_at, Point, coins_of, all_coins_of, given, next_point, outputs, free-outcome, pivot_at, PropagationState, frame_at, PropagatesToOthers, outcome_of, differing, IsDrawn, AreDrawn, AreTold, GoesOver}
-use Rattle.stab_frames.proofs.PropagatedLemmas.{first-flag, told-enough}
+use Rattle.stab_frames.proofs.Names.{◌≡◌, ℕ, ◌+◌, ◌-◌, ◌<◌, ◌≤◌, refl, sym, ◌∙◌, ap, subst, Bool, false, List, [], ◌∷◌, ◌++◌, append_assoc, drop, get_or, arith, take-append-drop, Letter, ◌⊕◌, parity-comm, Signed, single, Event, is_free, Step, one, two, controlled, collapse, product, detector, observable, string_of, outcome_at, Point, coins_of, all_coins_of, given, next_point, outputs, free-outcome, pivot_at, PropagationState, frame_at, PropagatesToOthers, outcome_of, differing, IsDrawn, AreDrawn, AreDetermined, GoesOver}
+use Rattle.stab_frames.proofs.PropagatedLemmas.{first-flag, determined-enough}
 
 -- an outcome gives the coin of a free one
 
-measured-told : (coins others olds : ℕ → Bool) (free : List Bool) (m : Signed) (trace : List Event) (c : ℕ) → get_or free c false ≡ is_free trace m
+measured-determined : (coins others olds : ℕ → Bool) (free : List Bool) (m : Signed) (trace : List Event) (c : ℕ) → get_or free c false ≡ is_free trace m
     → olds c ≡ outcome_at coins m trace c → IsDrawn free (differing olds others) (λ t. others t ⊕ coins t) c
-measured-told coins others olds free m trace c flag outcome_is = λ is.
+measured-determined coins others olds free m trace c flag outcome_is = λ is.
     parity-comm (others c) (coins c) ∙ ap (λ b. b ⊕ others c) (sym (outcome_is ∙ free-outcome trace m (sym flag ∙ is) (coins c)))
 
 -- so the outcomes and the new coins say which coins differ
@@ -36,7 +36,7 @@ module _ (n : ℕ) (coins others : ℕ → Bool) (free outcomes : List Bool) (st
   measured-step m trace c rest later le flags bits =
       let flag = first-flag free c (is_free trace m) rest flags in
       let bit = first-flag outcomes (c - start) (outcome_at coins m trace c) later bits in
-      (λ lt. measured-told coins others olds free m trace c flag.0 bit.0, flag.1, ap (λ j. drop j outcomes) (further c start 1 le) ∙ bit.1)
+      (λ lt. measured-determined coins others olds free m trace c flag.0 bit.0, flag.1, ap (λ j. drop j outcomes) (further c start 1 le) ∙ bit.1)
 
   change-step : (x : Step) (a : Point) (rest later : List Bool) → start ≤ a.coin
       → drop a.coin free ≡ (given n coins x a).free ++ rest → drop (a.coin - start) outcomes ≡ (given n coins x a).outcomes ++ later
@@ -50,15 +50,15 @@ module _ (n : ℕ) (coins others : ℕ → Bool) (free outcomes : List Bool) (st
   change-step (detector ks) a rest later le flags bits = unmeasured-step a.coin 0 rest later refl flags bits
   change-step (observable j ks) a rest later le flags bits = unmeasured-step a.coin 0 rest later refl flags bits
 
-  changes-told : (xs : List Step) (a : Point) (rest : List Bool) → start ≤ a.coin
+  changes-determined : (xs : List Step) (a : Point) (rest : List Bool) → start ≤ a.coin
       → drop a.coin free ≡ (outputs n coins xs a).free ++ rest → drop (a.coin - start) outcomes ≡ (outputs n coins xs a).outcomes
       → AreDrawn free draw changes xs a.coin
-  changes-told [] a rest le flags bits = tt
-  changes-told (x ∷ xs) a rest le flags bits =
+  changes-determined [] a rest le flags bits = tt
+  changes-determined (x ∷ xs) a rest le flags bits =
       let next = next_point n coins x a in
       let step = change-step x a ((outputs n coins xs next).free ++ rest) (outputs n coins xs next).outcomes le
       (flags ∙ append_assoc (given n coins x a).free (outputs n coins xs next).free rest) bits in
-      (step.0, changes-told xs next rest (omega (arith, le)) step.1 step.2)
+      (step.0, changes-determined xs next rest (omega (arith, le)) step.1 step.2)
 
 -- from each run that had the outcomes
 
@@ -70,10 +70,10 @@ propagation-others n strings free outcomes others xs old new goes = λ coins a g
     let there : drop a.coin free ≡ (outputs n coins xs a).free ++ rest = ap (λ k. drop k free) gone.coin ∙ flags in
     let start : a.coin - old.coin ≡ 0 = omega (arith, gone.coin) in
     let drawn = subst (AreDrawn free (differing (outcome_of outcomes old.coin) others) (λ t. others t ⊕ coins t) xs) gone.coin
-    (changes-told n coins others free outcomes old.coin xs a rest (omega (arith, gone.coin)) there
+    (changes-determined n coins others free outcomes old.coin xs a rest (omega (arith, gone.coin)) there
     (ap (λ k. drop k outcomes) start ∙ sym gone.outcomes)) in (
       goes.over (λ t. others t ⊕ coins t) drawn,
-      λ base. told-enough n coins strings free (λ t. others t ⊕ coins t) xs (frame_at base old) a
-          (subst (λ c. AreTold n strings free (λ t. others t ⊕ coins t) xs c (frame_at base old)) (sym gone.coin) (goes.told (λ t. others t ⊕ coins t) drawn base))
+      λ base. determined-enough n coins strings free (λ t. others t ⊕ coins t) xs (frame_at base old) a
+          (subst (λ c. AreDetermined n strings free (λ t. others t ⊕ coins t) xs c (frame_at base old)) (sym gone.coin) (goes.determined (λ t. others t ⊕ coins t) drawn base))
           gone.are_true rest there,
     )

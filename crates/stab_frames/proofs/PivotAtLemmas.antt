@@ -8,12 +8,12 @@ get-append [] ys i lt = absurd (omega arith)
 get-append (x ∷ xs) ys zero lt = refl
 get-append (x ∷ xs) ys (suc i) lt = get-append xs ys i (omega arith)
 
-pub get-behind : {X : Type 0} (xs ys : List X) (i : ℕ) → slice_get (xs ++ ys) (length xs + i) ≡ slice_get ys i
-get-behind [] ys i = ap (slice_get ys) none
+pub get-following : {X : Type 0} (xs ys : List X) (i : ℕ) → slice_get (xs ++ ys) (length xs + i) ≡ slice_get ys i
+get-following [] ys i = ap (slice_get ys) none
   where
     none : 0 + i ≡ i
     none = omega arith
-get-behind (x ∷ xs) ys i = ap (slice_get (x ∷ xs ++ ys)) one_more ∙ get-behind xs ys i
+get-following (x ∷ xs) ys i = ap (slice_get (x ∷ xs ++ ys)) one_more ∙ get-following xs ys i
   where
     one_more : length (x ∷ xs) + i ≡ suc (length xs + i)
     one_more = omega arith
@@ -25,7 +25,7 @@ get-take (suc n) (x ∷ xs) zero lt = refl
 get-take (suc n) (x ∷ xs) (suc i) lt = get-take n xs i (omega arith)
 
 -- fewer are free before one that is free than are free in all
-ones-before : (free : List Bool) (t : ℕ) → get_or free t false ≡ true → ones (take t free) < ones free
+pub ones-before : (free : List Bool) (t : ℕ) → get_or free t false ≡ true → ones (take t free) < ones free
 ones-before [] t e = cc
 ones-before (true ∷ free) zero e = omega arith
 ones-before (false ∷ free) zero e = cc
@@ -94,14 +94,14 @@ pivot-free P most strings s free e is =
     by_place (inl more) =
         let i : ones free ≡ length strings + 0 = omega (arith, e, more) in
         subst (λ o. IfSome o P)
-        (sym (get-take most (strings ++ s ∷ []) (ones free) (omega (arith, e, more)) ∙ ap (slice_get (strings ++ s ∷ [])) i ∙ get-behind strings (s ∷ []) 0)) is
+        (sym (get-take most (strings ++ s ∷ []) (ones free) (omega (arith, e, more)) ∙ ap (slice_get (strings ++ s ∷ [])) i ∙ get-following strings (s ∷ []) 0)) is
     by_place (inr full) =
         subst (λ o. IfSome o P)
         (sym (slice_get_past (take most (strings ++ s ∷ [])) (ones free) (omega (arith, length-take most (strings ++ s ∷ []), e, full)))) tt
 
 -- outcomes after as many free ones as strings are kept have no pivots
 
-if-none : (b : Bool) (o : Option (List Letter)) → o ≡ None → (if b then o else None) ≡ None
+pub if-none : (b : Bool) (o : Option (List Letter)) → o ≡ None → (if b then o else None) ≡ None
 if-none true o e = e
 if-none false o e = refl
 

@@ -1,5 +1,5 @@
 -- Pivots: which are enough for a frame, and what a trace, flags and a tableau say of a measurement.
-use Rattle.stab_frames.proofs.Names.{◌≡◌, ℕ, zero, suc, ◌+◌, ◌<◌, ◌≤◌, refl, sym, ◌∙◌, ap, subst, Bool, true, false, List, [], ◌∷◌, ◌++◌, length, replicate, get_or, arith, Option, Some, None, is_some, take_all, All-head, All-tail, IfSome_then, Letter, ◌⊕◌, Signed, single, anticommute, strings_anticommute, parity-self, strings_anticommute-comm, is_free_by, member, is_free, IsStabiliserGroup, IsPivot, not_both, length-one_letter, anticommuting-member_of_free, Step, one, two, controlled, collapse, product, detector, observable, string_of, measured_by, Point, given, coins_of, all_coins_of, next_point, outputs, StepFits, length-string_of, coins-one, no_strings, IsPivotOf, frame_after, IsRightAt, AreEnough, RightPivotsAreEnough, FlippedCoinsNeedNoPivots, PivotsAreEnoughBefore, MeasurementsHavePivots, FlagsTellPivots}
+use Rattle.stab_frames.proofs.Names.{◌≡◌, ℕ, zero, suc, ◌+◌, ◌<◌, ◌≤◌, refl, sym, ◌∙◌, ap, subst, Bool, true, false, List, [], ◌∷◌, ◌++◌, length, replicate, get_or, arith, Option, Some, None, is_some, take_all, All-head, All-tail, IfSome_then, Letter, ◌⊕◌, Signed, single, anticommute, strings_anticommute, parity-self, strings_anticommute-comm, is_free_by, member, is_free, IsStabiliserGroup, IsPivot, not_both, length-one_letter, anticommuting-member_of_free, Step, one, two, controlled, collapse, product, detector, observable, string_of, measured_by, Point, given, coins_of, all_coins_of, next_point, outputs, StepFits, length-string_of, coins-one, no_strings, IsPivotOf, frame_after, IsRightAt, AreEnough, RightPivotsAreEnough, FlippedCoinsNeedNoPivots, PivotsAreEnoughBefore, MeasurementsHavePivots, FlagsDeterminePivots}
 use Rattle.stab_frames.proofs.MeasuredLemmas.{pivoted-free}
 use Rattle.stab_frames.proofs.StepLemmas.{group-next}
 
@@ -8,7 +8,7 @@ use Rattle.stab_frames.proofs.StepLemmas.{group-next}
 pub right-enough : RightPivotsAreEnough
 right-enough n coins pivots [] f a right = tt
 right-enough n coins pivots (x ∷ xs) f a right = (
-  IfSome_then (measured_by n x) right.0 (λ m is. λ apart. is),
+  IfSome_then (measured_by n x) right.0 (λ m is. λ distinct. is),
   right-enough n coins pivots xs (frame_after n pivots x a.coin f) (next_point n coins x a) right.1,
 )
 
@@ -16,7 +16,7 @@ pub conjugated-enough : FlippedCoinsNeedNoPivots
 conjugated-enough n coins changes [] f a conjugated = tt
 conjugated-enough n coins changes (x ∷ xs) f a conjugated = (
   IfSome_then (measured_by n x) conjugated.0
-      (λ m is. λ apart. absurd (not_both (changes a.coin ⊕ strings_anticommute f.letters m.letters) (same (changes a.coin) (strings_anticommute f.letters m.letters) is) apart)),
+      (λ m is. λ distinct. absurd (not_both (changes a.coin ⊕ strings_anticommute f.letters m.letters) (same (changes a.coin) (strings_anticommute f.letters m.letters) is) distinct)),
   conjugated-enough n coins changes xs (frame_after n (no_strings changes) x a.coin f) (next_point n coins x a) conjugated.1,
 )
   where
@@ -32,11 +32,11 @@ enough-before n coins pivots (suc i) (x ∷ xs) f a enough = (enough.0, enough-b
 
 -- a member that anticommutes is a pivot
 pub member-pivot : (n : ℕ) (u : Signed → Bool) (q s : Signed) → length s.letters ≡ n → u s ≡ true → anticommute q s ≡ true → IsPivot n u q s.letters
-member-pivot n u q s size is apart = record {
+member-pivot n u q s size is distinct = record {
   size = size;
   negative = s.negative;
   stabilises = is;
-  apart = strings_anticommute-comm s.letters q.letters ∙ apart;
+  anticommutes = strings_anticommute-comm s.letters q.letters ∙ distinct;
 }
 
 -- each measurement in a sound trace has a pivot
@@ -76,7 +76,7 @@ flag-joined (suc zero) rest few bits coin later at zero lt = ap bits (omega arit
 flag-joined (suc zero) rest few bits coin later at (suc t) lt = at t (omega arith) ∙ ap bits (omega arith)
 flag-joined (suc (suc c)) rest few bits coin later at t lt = absurd (omega arith)
 
-pub flags-has_pivots : FlagsTellPivots
+pub flags-has_pivots : FlagsDeterminePivots
 flags-has_pivots n coins strings [] a fits group right t lt = absurd (omega arith)
 flags-has_pivots n coins strings (x ∷ xs) a fits group right t lt =
     let next = next_point n coins x a in

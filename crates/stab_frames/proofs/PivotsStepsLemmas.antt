@@ -12,70 +12,70 @@ pivots-none n coins xs window kept a e = subst (λ ys. PivotsSteps n coins ys wi
   within = All-nil (LooksWithin window);
 })
 
-pivots-step : (n : ℕ) (coins : ℕ → Bool) (x : Step) (window : ℕ) (kept behind : PivotsState) (a b : ProgramState) → KeepsPivots n a.stabilised x kept behind
-    → behind.most ≡ kept.most → LooksWithin window x → IsRun n coins (x ∷ []) a b → PivotsSteps n coins (x ∷ []) window kept behind a b
-pivots-step n coins x window kept behind a b has_pivots most near run = record {
+pivots-step : (n : ℕ) (coins : ℕ → Bool) (x : Step) (window : ℕ) (kept following : PivotsState) (a b : ProgramState) → KeepsPivots n a.stabilised x kept following
+    → following.most ≡ kept.most → LooksWithin window x → IsRun n coins (x ∷ []) a b → PivotsSteps n coins (x ∷ []) window kept following a b
+pivots-step n coins x window kept following a b has_pivots most near run = record {
   run = run;
-  has_pivots = keeps-step n coins x kept behind a b has_pivots most run;
+  has_pivots = keeps-step n coins x kept following a b has_pivots most run;
   within = All-cons (LooksWithin window) x [] near (All-nil (LooksWithin window));
 }
 
-has_pivots-of : (n : ℕ) (member : Signed → Bool) (m : Option Signed) (free : Bool) (letters : List Letter) (kept behind : PivotsState)
-    → HasPivot n member m free letters → (free ≡ true → behind.strings ≡ kept_with kept.most kept.strings (letters ∷ []))
-    → (free ≡ false → behind.strings ≡ kept.strings) → KeepsPivotsOf n member m kept behind
-has_pivots-of n member None free letters kept behind told more same = same told
-has_pivots-of n member (Some m) free letters kept behind told more same = (
-  λ e. record { string = letters; is_pivot = told.1 (told.0 ∙ e); strings = more (told.0 ∙ e) },
-  λ e. same (told.0 ∙ e),
+has_pivots-of : (n : ℕ) (member : Signed → Bool) (m : Option Signed) (free : Bool) (letters : List Letter) (kept following : PivotsState)
+    → HasPivot n member m free letters → (free ≡ true → following.strings ≡ kept_with kept.most kept.strings (letters ∷ []))
+    → (free ≡ false → following.strings ≡ kept.strings) → KeepsPivotsOf n member m kept following
+has_pivots-of n member None free letters kept following determined more same = same determined
+has_pivots-of n member (Some m) free letters kept following determined more same = (
+  λ e. record { string = letters; is_pivot = determined.1 (determined.0 ∙ e); strings = more (determined.0 ∙ e) },
+  λ e. same (determined.0 ∙ e),
 )
 
 -- the string that a step wrote was put after the others, if a coin decided
-pub pivots-pivoted : (n : ℕ) (coins : ℕ → Bool) (x : Step) (window : ℕ) (free : Bool) (letters : List Letter) (kept behind : PivotsState) (a b : ProgramState)
-    → HasPivot n a.stabilised (measured_by n x) free letters → (free ≡ true → behind.strings ≡ kept_with kept.most kept.strings (letters ∷ []))
-    → (free ≡ false → behind.strings ≡ kept.strings) → behind.most ≡ kept.most → LooksWithin window x → IsRun n coins (x ∷ []) a b
-    → PivotsSteps n coins (x ∷ []) window kept behind a b
-pivots-pivoted n coins x window free letters kept behind a b told more same most near run =
-    pivots-step n coins x window kept behind a b (has_pivots-of n a.stabilised (measured_by n x) free letters kept behind told more same) most near run
+pub pivots-pivoted : (n : ℕ) (coins : ℕ → Bool) (x : Step) (window : ℕ) (free : Bool) (letters : List Letter) (kept following : PivotsState) (a b : ProgramState)
+    → HasPivot n a.stabilised (measured_by n x) free letters → (free ≡ true → following.strings ≡ kept_with kept.most kept.strings (letters ∷ []))
+    → (free ≡ false → following.strings ≡ kept.strings) → following.most ≡ kept.most → LooksWithin window x → IsRun n coins (x ∷ []) a b
+    → PivotsSteps n coins (x ∷ []) window kept following a b
+pivots-pivoted n coins x window free letters kept following a b determined more same most near run =
+    pivots-step n coins x window kept following a b (has_pivots-of n a.stabilised (measured_by n x) free letters kept following determined more same) most near run
 
-pivots-append : (n : ℕ) (coins : ℕ → Bool) (xs ys : List Step) (near far : ℕ) (kept mid behind : PivotsState) (a b c : ProgramState) → near ≤ far
-    → PivotsSteps n coins xs near kept mid a b → PivotsSteps n coins ys far mid behind b c → PivotsSteps n coins (xs ++ ys) far kept behind a c
-pivots-append n coins xs ys near far kept mid behind a b c le first then = record {
+pivots-append : (n : ℕ) (coins : ℕ → Bool) (xs ys : List Step) (near far : ℕ) (kept mid following : PivotsState) (a b c : ProgramState) → near ≤ far
+    → PivotsSteps n coins xs near kept mid a b → PivotsSteps n coins ys far mid following b c → PivotsSteps n coins (xs ++ ys) far kept following a c
+pivots-append n coins xs ys near far kept mid following a b c le first then = record {
   run = IsRun-append n coins xs ys a b c first.run then.run;
-  has_pivots = keeps-append n coins xs ys kept mid behind a b c first.run first.has_pivots then.has_pivots;
+  has_pivots = keeps-append n coins xs ys kept mid following a b c first.run first.has_pivots then.has_pivots;
   within = All-append (LooksWithin far) xs ys (within-more near far xs le first.within) then.within;
 }
 
-pivots-same : (n m : ℕ) (c d : ℕ → Bool) (xs : List Step) (window : ℕ) (kept behind : PivotsState) (a b : ProgramState) → m ≡ n → d ≡ c
-    → PivotsSteps m d xs window kept behind a b → PivotsSteps n c xs window kept behind a b
-pivots-same n m c d xs window kept behind a b same_size same_coins pivots =
-    subst (λ k. PivotsSteps k c xs window kept behind a b) same_size (subst (λ s. PivotsSteps m s xs window kept behind a b) same_coins pivots)
+pivots-same : (n m : ℕ) (c d : ℕ → Bool) (xs : List Step) (window : ℕ) (kept following : PivotsState) (a b : ProgramState) → m ≡ n → d ≡ c
+    → PivotsSteps m d xs window kept following a b → PivotsSteps n c xs window kept following a b
+pivots-same n m c d xs window kept following a b same_size same_coins pivots =
+    subst (λ k. PivotsSteps k c xs window kept following a b) same_size (subst (λ s. PivotsSteps m s xs window kept following a b) same_coins pivots)
 
 -- steps that are left, after the first of them
-pub pivots-steps : (n m : ℕ) (c d : ℕ → Bool) (xs ys rest : List Step) (near far : ℕ) (kept mid behind : PivotsState) (a b new : ProgramState) → xs ≡ ys ++ rest
-    → m ≡ n → d ≡ c → near ≤ far → PivotsSteps m d ys near kept mid a b → PivotsSteps n c rest far mid behind b new → PivotsSteps n c xs far kept behind a new
-pivots-steps n m c d xs ys rest near far kept mid behind a b new e same_size same_coins le first then =
-    subst (λ zs. PivotsSteps n c zs far kept behind a new) (sym e)
-    (pivots-append n c ys rest near far kept mid behind a b new le (pivots-same n m c d ys near kept mid a b same_size same_coins first) then)
+pub pivots-steps : (n m : ℕ) (c d : ℕ → Bool) (xs ys rest : List Step) (near far : ℕ) (kept mid following : PivotsState) (a b new : ProgramState) → xs ≡ ys ++ rest
+    → m ≡ n → d ≡ c → near ≤ far → PivotsSteps m d ys near kept mid a b → PivotsSteps n c rest far mid following b new → PivotsSteps n c xs far kept following a new
+pivots-steps n m c d xs ys rest near far kept mid following a b new e same_size same_coins le first then =
+    subst (λ zs. PivotsSteps n c zs far kept following a new) (sym e)
+    (pivots-append n c ys rest near far kept mid following a b new le (pivots-same n m c d ys near kept mid a b same_size same_coins first) then)
 
 -- if none of them is left, what was recorded of all
 pub pivots-all : {n : ℕ} {coins : ℕ → Bool} {all xs : List Step} {window : ℕ} {first kept : PivotsState} {old now : ProgramState} → xs ≡ []
-    → ((far : ℕ) (new : ProgramState) (behind : PivotsState) → window ≤ far → PivotsSteps n coins xs far kept behind now new → PivotsSteps n coins all far first behind old new)
+    → ((far : ℕ) (new : ProgramState) (following : PivotsState) → window ≤ far → PivotsSteps n coins xs far kept following now new → PivotsSteps n coins all far first following old new)
     → PivotsSteps n coins all window first kept old now
 pivots-all {n} {coins} {all} {xs} {window} {first} {kept} {old} {now} e advanced = advanced window now kept (omega arith) (pivots-none n coins xs window kept now e)
 
 -- the steps of targets, one more of them, and all
 
-pub pivots-target : {X : Type 0} (n m : ℕ) (c d : ℕ → Bool) (step : X → Step) (xs : List X) (i : ℕ) (x : X) (near far : ℕ) (kept mid behind : PivotsState)
+pub pivots-target : {X : Type 0} (n m : ℕ) (c d : ℕ → Bool) (step : X → Step) (xs : List X) (i : ℕ) (x : X) (near far : ℕ) (kept mid following : PivotsState)
     (a b new : ProgramState) → i < length xs → x ≡ get_or xs i x → m ≡ n → d ≡ c → near ≤ far → PivotsSteps n c (map step (take i xs)) near kept mid a b
-    → PivotsSteps m d (step x ∷ []) far mid behind b new → PivotsSteps n c (map step (take (i + 1) xs)) far kept behind a new
-pivots-target n m c d step xs i x near far kept mid behind a b new lt is same_size same_coins le first then =
-    subst (λ ys. PivotsSteps n c ys far kept behind a new) (sym (one-more step xs i x lt is))
-    (pivots-append n c (map step (take i xs)) (step x ∷ []) near far kept mid behind a b new le first
-    (pivots-same n m c d (step x ∷ []) far mid behind b new same_size same_coins then))
+    → PivotsSteps m d (step x ∷ []) far mid following b new → PivotsSteps n c (map step (take (i + 1) xs)) far kept following a new
+pivots-target n m c d step xs i x near far kept mid following a b new lt is same_size same_coins le first then =
+    subst (λ ys. PivotsSteps n c ys far kept following a new) (sym (one-more step xs i x lt is))
+    (pivots-append n c (map step (take i xs)) (step x ∷ []) near far kept mid following a b new le first
+    (pivots-same n m c d (step x ∷ []) far mid following b new same_size same_coins then))
 
-pub pivots-targets : {X : Type 0} (n : ℕ) (c : ℕ → Bool) (step : X → Step) (xs : List X) (i : ℕ) (window : ℕ) (kept behind : PivotsState) (a b : ProgramState)
-    → length xs ≤ i → PivotsSteps n c (map step (take i xs)) window kept behind a b → PivotsSteps n c (map step xs) window kept behind a b
-pivots-targets n c step xs i window kept behind a b all pivots = subst (λ ys. PivotsSteps n c (map step ys) window kept behind a b) (take_all i xs all) pivots
+pub pivots-targets : {X : Type 0} (n : ℕ) (c : ℕ → Bool) (step : X → Step) (xs : List X) (i : ℕ) (window : ℕ) (kept following : PivotsState) (a b : ProgramState)
+    → length xs ≤ i → PivotsSteps n c (map step (take i xs)) window kept following a b → PivotsSteps n c (map step xs) window kept following a b
+pivots-targets n c step xs i window kept following a b all pivots = subst (λ ys. PivotsSteps n c (map step ys) window kept following a b) (take_all i xs all) pivots
 
 -- steps at which no further string is kept
 pub pivots-full : (n : ℕ) (coins : ℕ → Bool) (xs : List Step) (window : ℕ) (kept : PivotsState) (a b : ProgramState) → length kept.strings ≡ kept.most

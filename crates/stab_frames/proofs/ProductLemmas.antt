@@ -16,7 +16,7 @@ module _ (first : ℕ) (string old : List Letter) where
       (el : l ≡ get_or now (first + b) I) (er : r ≡ letter_product l (get_or string (first + b) I)) (new : List Letter) (put : new ≡ set now (first + b) r)
       (next : ℕ) (gone : chooses next b ≡ false) (kept : (j : ℕ) → j ≢ b → j < 64 → chooses next j ≡ chooses rest j) where
     other : (q : ℕ) → q ≢ first + b → get_or new q I ≡ get_or now q I
-    other q apart = ap (λ p. get_or p q I) put ∙ get_or-set_other now (first + b) q r I apart
+    other q distinct = ap (λ p. get_or p q I) put ∙ get_or-set_other now (first + b) q r I distinct
 
     here : get_or new (first + b) I ≡ letter_product (get_or old (first + b) I) (get_or string (first + b) I)
     here =
@@ -26,35 +26,35 @@ module _ (first : ℕ) (string old : List Letter) where
     inside-next : (j : ℕ) → j < 64 → chooses next j ≡ true → first + j < length old
     inside-next j lj chosen = by_place (cases_order j b)
       where
-        apart : j ≢ b → first + j < length old
-        apart ne = propagated.inside j lj (sym (kept j ne lj) ∙ chosen)
+        distinct : j ≢ b → first + j < length old
+        distinct ne = propagated.inside j lj (sym (kept j ne lj) ∙ chosen)
 
         by_place : (j ≡ b) ⊎ ((j < b) ⊎ (b < j)) → first + j < length old
         by_place (inl e) = clash (chooses next b) (ap (chooses next) (sym e) ∙ chosen) gone
-        by_place (inr (inl lt)) = apart (omega arith)
-        by_place (inr (inr gt)) = apart (omega arith)
+        by_place (inr (inl lt)) = distinct (omega arith)
+        by_place (inr (inr gt)) = distinct (omega arith)
 
     done-next : (j : ℕ) → j < 64 → chooses next j ≡ false → get_or new (first + j) I ≡ letter_product (get_or old (first + j) I) (get_or string (first + j) I)
     done-next j lj none = by_place (cases_order j b)
       where
-        apart : j ≢ b → get_or new (first + j) I ≡ letter_product (get_or old (first + j) I) (get_or string (first + j) I)
-        apart ne = other (first + j) (omega arith) ∙ propagated.done j lj (sym (kept j ne lj) ∙ none)
+        distinct : j ≢ b → get_or new (first + j) I ≡ letter_product (get_or old (first + j) I) (get_or string (first + j) I)
+        distinct ne = other (first + j) (omega arith) ∙ propagated.done j lj (sym (kept j ne lj) ∙ none)
 
         by_place : (j ≡ b) ⊎ ((j < b) ⊎ (b < j)) → get_or new (first + j) I ≡ letter_product (get_or old (first + j) I) (get_or string (first + j) I)
         by_place (inl e) = subst (λ i. get_or new (first + i) I ≡ letter_product (get_or old (first + i) I) (get_or string (first + i) I)) (sym e) here
-        by_place (inr (inl lt)) = apart (omega arith)
-        by_place (inr (inr gt)) = apart (omega arith)
+        by_place (inr (inl lt)) = distinct (omega arith)
+        by_place (inr (inr gt)) = distinct (omega arith)
 
     left-next : (j : ℕ) → j < 64 → chooses next j ≡ true → get_or new (first + j) I ≡ get_or old (first + j) I
     left-next j lj chosen = by_place (cases_order j b)
       where
-        apart : j ≢ b → get_or new (first + j) I ≡ get_or old (first + j) I
-        apart ne = other (first + j) (omega arith) ∙ propagated.left j lj (sym (kept j ne lj) ∙ chosen)
+        distinct : j ≢ b → get_or new (first + j) I ≡ get_or old (first + j) I
+        distinct ne = other (first + j) (omega arith) ∙ propagated.left j lj (sym (kept j ne lj) ∙ chosen)
 
         by_place : (j ≡ b) ⊎ ((j < b) ⊎ (b < j)) → get_or new (first + j) I ≡ get_or old (first + j) I
         by_place (inl e) = clash (chooses next b) (ap (chooses next) (sym e) ∙ chosen) gone
-        by_place (inr (inl lt)) = apart (omega arith)
-        by_place (inr (inr gt)) = apart (omega arith)
+        by_place (inr (inl lt)) = distinct (omega arith)
+        by_place (inr (inr gt)) = distinct (omega arith)
 
     others-next : (q : ℕ) → (q < first) ⊎ (first + 64 ≤ q) → get_or new q I ≡ get_or old q I
     others-next q (inl lt) = other q (omega arith) ∙ propagated.others q (inl lt)

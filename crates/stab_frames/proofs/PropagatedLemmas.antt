@@ -1,5 +1,5 @@
 -- Passes: a frame over one step, and over steps one after another.
-use Rattle.stab_frames.proofs.Names.{◌≡◌, ℕ, zero, suc, ◌+◌, refl, sym, ◌∙◌, ap, subst, Bool, false, List, [], ◌∷◌, ◌++◌, append_assoc, drop, replicate, get_or, arith, Option, Some, None, IfSome, Letter, Signed, single, Event, member, is_free, IsPivot, Step, one, two, controlled, collapse, product, detector, observable, string_of, Point, RunOutput, nothing, joined, coins_of, all_coins_of, given, next_point, outputs, joined-nothing, joined-assoc, coins-append, Frame, times_where, RunPivots, pivots_of, IsPivotOf, letters_after, flips_given, frame_after, frame_over, flips_over, IsEnoughAt, AreEnough, pivot_at, IsTrueAt, AreTrue, PropagationState, frame_at, PropagatesWith, StepsWith, IsTold, AreTold}
+use Rattle.stab_frames.proofs.Names.{◌≡◌, ℕ, zero, suc, ◌+◌, refl, sym, ◌∙◌, ap, subst, Bool, false, List, [], ◌∷◌, ◌++◌, append_assoc, drop, replicate, get_or, arith, Option, Some, None, IfSome, Letter, Signed, single, Event, member, is_free, IsPivot, Step, one, two, controlled, collapse, product, detector, observable, string_of, Point, RunOutput, nothing, joined, coins_of, all_coins_of, given, next_point, outputs, joined-nothing, joined-assoc, coins-append, Frame, times_where, RunPivots, pivots_of, IsPivotOf, letters_after, flips_given, frame_after, frame_over, flips_over, IsEnoughAt, AreEnough, pivot_at, IsTrueAt, AreTrue, PropagationState, frame_at, PropagatesWith, StepsWith, IsDetermined, AreDetermined, IsDeterminedBy, IsEnough, measured_by, strings_anticommute}
 use Rattle.stab_frames.proofs.StillLemmas.{looked_up-base, parity-base}
 use Rattle.stab_frames.proofs.OverLemmas.{frame-append, flips-append}
 
@@ -77,18 +77,18 @@ over-append n pivots xs ys a b c first then = record {
 
 -- what has to be known, over steps one after another
 
-pub told-append : (n : ℕ) (strings : List (List Letter)) (free : List Bool) (changes : ℕ → Bool) (xs ys : List Step) (coin : ℕ) (f : Frame)
-    → AreTold n strings free changes xs coin f
-    → AreTold n strings free changes ys (coin + all_coins_of xs) (frame_over n (pivots_of (pivot_at strings free) changes) xs coin f)
-    → AreTold n strings free changes (xs ++ ys) coin f
-told-append n strings free changes [] ys coin f front rest = subst (λ c. AreTold n strings free changes ys c f) (none coin) rest
+pub determined-append : (n : ℕ) (strings : List (List Letter)) (free : List Bool) (changes : ℕ → Bool) (xs ys : List Step) (coin : ℕ) (f : Frame)
+    → AreDetermined n strings free changes xs coin f
+    → AreDetermined n strings free changes ys (coin + all_coins_of xs) (frame_over n (pivots_of (pivot_at strings free) changes) xs coin f)
+    → AreDetermined n strings free changes (xs ++ ys) coin f
+determined-append n strings free changes [] ys coin f front rest = subst (λ c. AreDetermined n strings free changes ys c f) (none coin) rest
   where
     none : (a : ℕ) → a + 0 ≡ a
     none a = omega arith
-told-append n strings free changes (x ∷ xs) ys coin f front rest = (
+determined-append n strings free changes (x ∷ xs) ys coin f front rest = (
   front.0,
-  told-append n strings free changes xs ys (coin + coins_of x) (frame_after n pivots x coin f) front.1
-      (subst (λ c. AreTold n strings free changes ys c (frame_over n pivots xs (coin + coins_of x) (frame_after n pivots x coin f))) (more coin (coins_of x) (all_coins_of xs)) rest),
+  determined-append n strings free changes xs ys (coin + coins_of x) (frame_after n pivots x coin f) front.1
+      (subst (λ c. AreDetermined n strings free changes ys c (frame_over n pivots xs (coin + coins_of x) (frame_after n pivots x coin f))) (more coin (coins_of x) (all_coins_of xs)) rest),
 )
   where
     pivots : RunPivots
@@ -104,8 +104,8 @@ none k = omega arith
 
 pub pivot-enough : (n : ℕ) (trace : List Event) (m : Signed) (pivot : Option (List Letter)) (flag : Bool) → (pivot ≡ None → flag ≡ false)
     → flag ≡ is_free trace m → IfSome pivot (λ s. IsPivot n (member trace) m s) → IsPivotOf n (member trace) m pivot
-pivot-enough n trace m None flag told e is = sym e ∙ told refl
-pivot-enough n trace m (Some s) flag told e is = is
+pivot-enough n trace m None flag determined e is = sym e ∙ determined refl
+pivot-enough n trace m (Some s) flag determined e is = is
 
 pub first-flag : (free : List Bool) (coin : ℕ) (b : Bool) (bits : List Bool) → drop coin free ≡ b ∷ bits → (get_or free coin false ≡ b) × (drop (coin + 1) free ≡ bits)
 first-flag [] zero b bits e = cc
@@ -118,27 +118,45 @@ first-flag (x ∷ free) (suc coin) b bits e =
     one_more : suc coin + 1 ≡ suc (coin + 1)
     one_more = omega arith
 
-step-enough : (n : ℕ) (coins : ℕ → Bool) (strings : List (List Letter)) (free : List Bool) (changes : ℕ → Bool) (x : Step) (f : List Letter) (a : Point)
-    → IsTold n strings free changes x a.coin f → IsTrueAt n (pivot_at strings free) x a → (rest : List Bool) → drop a.coin free ≡ (given n coins x a).free ++ rest
-    → IsEnoughAt n (pivots_of (pivot_at strings free) changes) x f a × (drop (a.coin + coins_of x) free ≡ rest)
-step-enough n coins strings free changes (one g q) f a told is rest flags = (tt, ap (λ k. drop k free) (none a.coin) ∙ flags)
-step-enough n coins strings free changes (two g p q) f a told is rest flags = (tt, ap (λ k. drop k free) (none a.coin) ∙ flags)
-step-enough n coins strings free changes (controlled l k q) f a told is rest flags = (tt, ap (λ k. drop k free) (none a.coin) ∙ flags)
-step-enough n coins strings free changes (collapse l q recorded inverted resets) f a told is rest flags =
+-- the pivot of what a step measures is right, if none was kept of a fixed outcome alone
+pub kept-pivot : (n : ℕ) (coins : ℕ → Bool) (strings : List (List Letter)) (free : List Bool) (x : Step) (a : Point)
+    → IsTrueAt n (pivot_at strings free) x a → (rest : List Bool) → drop a.coin free ≡ (given n coins x a).free ++ rest
+    → IfSome (measured_by n x) (λ m. (pivot_at strings free a.coin ≡ None → get_or free a.coin false ≡ false) → IsPivotOf n (member a.trace) m (pivot_at strings free a.coin))
+    × (drop (a.coin + coins_of x) free ≡ rest)
+kept-pivot n coins strings free (one g q) a is rest flags = (tt, ap (λ k. drop k free) (none a.coin) ∙ flags)
+kept-pivot n coins strings free (two g p q) a is rest flags = (tt, ap (λ k. drop k free) (none a.coin) ∙ flags)
+kept-pivot n coins strings free (controlled l k q) a is rest flags = (tt, ap (λ k. drop k free) (none a.coin) ∙ flags)
+kept-pivot n coins strings free (collapse l q recorded inverted resets) a is rest flags =
     let first = first-flag free a.coin (is_free a.trace (single n q l)) rest flags in
-    ((λ apart. pivot-enough n a.trace (single n q l) (pivot_at strings free a.coin) (get_or free a.coin false) (told apart) first.0 is), first.1)
-step-enough n coins strings free changes (product factors inverted) f a told is rest flags =
+    ((λ fixed. pivot-enough n a.trace (single n q l) (pivot_at strings free a.coin) (get_or free a.coin false) fixed first.0 is), first.1)
+kept-pivot n coins strings free (product factors inverted) a is rest flags =
     let first = first-flag free a.coin (is_free a.trace (string_of n factors)) rest flags in
-    ((λ apart. pivot-enough n a.trace (string_of n factors) (pivot_at strings free a.coin) (get_or free a.coin false) (told apart) first.0 is), first.1)
-step-enough n coins strings free changes (detector ks) f a told is rest flags = (tt, ap (λ k. drop k free) (none a.coin) ∙ flags)
-step-enough n coins strings free changes (observable j ks) f a told is rest flags = (tt, ap (λ k. drop k free) (none a.coin) ∙ flags)
+    ((λ fixed. pivot-enough n a.trace (string_of n factors) (pivot_at strings free a.coin) (get_or free a.coin false) fixed first.0 is), first.1)
+kept-pivot n coins strings free (detector ks) a is rest flags = (tt, ap (λ k. drop k free) (none a.coin) ∙ flags)
+kept-pivot n coins strings free (observable j ks) a is rest flags = (tt, ap (λ k. drop k free) (none a.coin) ∙ flags)
 
-pub told-enough : (n : ℕ) (coins : ℕ → Bool) (strings : List (List Letter)) (free : List Bool) (changes : ℕ → Bool) (xs : List Step) (f : Frame) (a : Point)
-    → AreTold n strings free changes xs a.coin f → AreTrue n coins (pivot_at strings free) xs a → (rest : List Bool) → drop a.coin free ≡ (outputs n coins xs a).free ++ rest
+step-enough : (n : ℕ) (coins : ℕ → Bool) (strings : List (List Letter)) (free : List Bool) (changes : ℕ → Bool) (x : Step) (f : List Letter) (a : Point)
+    → IsDetermined n strings free changes x a.coin f → IsTrueAt n (pivot_at strings free) x a → (rest : List Bool) → drop a.coin free ≡ (given n coins x a).free ++ rest
+    → IsEnoughAt n (pivots_of (pivot_at strings free) changes) x f a × (drop (a.coin + coins_of x) free ≡ rest)
+step-enough n coins strings free changes x f a determined is rest flags =
+    let here = kept-pivot n coins strings free x a is rest flags in
+    (by_measured (measured_by n x) determined here.0, here.1)
+  where
+    pivot : Option (List Letter)
+    pivot = pivot_at strings free a.coin
+
+    by_measured : (o : Option Signed) → IfSome o (λ m. IsDeterminedBy strings free a.coin (changes a.coin) (strings_anticommute f m.letters))
+        → IfSome o (λ m. (pivot ≡ None → get_or free a.coin false ≡ false) → IsPivotOf n (member a.trace) m pivot)
+        → IfSome o (λ m. IsEnough n (member a.trace) m f (changes a.coin) pivot)
+    by_measured None determined right = tt
+    by_measured (Some m) determined right = λ differs. right (determined differs)
+
+pub determined-enough : (n : ℕ) (coins : ℕ → Bool) (strings : List (List Letter)) (free : List Bool) (changes : ℕ → Bool) (xs : List Step) (f : Frame) (a : Point)
+    → AreDetermined n strings free changes xs a.coin f → AreTrue n coins (pivot_at strings free) xs a → (rest : List Bool) → drop a.coin free ≡ (outputs n coins xs a).free ++ rest
     → AreEnough n coins (pivots_of (pivot_at strings free) changes) xs f a
-told-enough n coins strings free changes [] f a told is rest flags = tt
-told-enough n coins strings free changes (x ∷ xs) f a told is rest flags =
+determined-enough n coins strings free changes [] f a determined is rest flags = tt
+determined-enough n coins strings free changes (x ∷ xs) f a determined is rest flags =
     let next = next_point n coins x a in
-    let here = step-enough n coins strings free changes x f.letters a told.0 is.0 ((outputs n coins xs next).free ++ rest)
+    let here = step-enough n coins strings free changes x f.letters a determined.0 is.0 ((outputs n coins xs next).free ++ rest)
     (flags ∙ append_assoc (given n coins x a).free (outputs n coins xs next).free rest) in
-    (here.0, told-enough n coins strings free changes xs (frame_after n (pivots_of (pivot_at strings free) changes) x a.coin f) next told.1 is.1 rest here.1)
+    (here.0, determined-enough n coins strings free changes xs (frame_after n (pivots_of (pivot_at strings free) changes) x a.coin f) next determined.1 is.1 rest here.1)

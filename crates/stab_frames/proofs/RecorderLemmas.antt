@@ -35,14 +35,14 @@ no-more : (front bits all : List Bool) → all ≡ front ++ bits → length all 
 no-more front [] all e same = e ∙ append-nil front
 no-more front (b ∷ bits) all e same = absurd (omega (arith, same, ap length e, length-append front (b ∷ bits)))
 
-pub keeps-unmeasured : (n : ℕ) (coins : ℕ → Bool) (xs : List Step) (kept behind : PivotsState) (old new : ProgramState) → all_coins_of xs ≡ 0
-    → behind.strings ≡ kept.strings → behind.most ≡ kept.most → IsRun n coins xs old new → KeepsTrue n coins xs kept behind old new
-keeps-unmeasured n coins xs kept behind old new none same most run ys at numbered is =
+pub keeps-unmeasured : (n : ℕ) (coins : ℕ → Bool) (xs : List Step) (kept following : PivotsState) (old new : ProgramState) → all_coins_of xs ≡ 0
+    → following.strings ≡ kept.strings → following.most ≡ kept.most → IsRun n coins xs old new → KeepsTrue n coins xs kept following old new
+keeps-unmeasured n coins xs kept following old new none same most run ys at numbered is =
     let p = point_after n coins ys origin in
     let there = run p at in
     let count : length new.output.free ≡ length old.output.free = omega (arith, there.shows.coin, coins-are n coins xs p, none, at.coin) in
     let flags = no-more old.output.free (outputs n coins xs p).free new.output.free (ap (λ o. o.free) there.output) count in (
-      subst (λ k. length behind.strings ≡ min k behind.most) (sym (ap ones flags)) (ap length same ∙ numbered ∙ ap (λ k. min (ones old.output.free) k) (sym most)),
+      subst (λ k. length following.strings ≡ min k following.most) (sym (ap ones flags)) (ap length same ∙ numbered ∙ ap (λ k. min (ones old.output.free) k) (sym most)),
       subst (λ s. AreTrue n coins (pivot_at s new.output.free) (ys ++ xs) origin) (sym same)
           (subst (λ bits. AreTrue n coins (pivot_at kept.strings bits) (ys ++ xs) origin) (sym flags)
           (true-append n coins (pivot_at kept.strings old.output.free) ys xs origin is (true-unmeasured n coins (pivot_at kept.strings old.output.free) xs p none))),
@@ -68,8 +68,8 @@ keeps-full n coins xs kept old new full run ys at numbered is =
 -- one step
 
 -- a measurement whose outcome is fixed, and one whose outcome is free
-module _ (n : ℕ) (coins : ℕ → Bool) (x : Step) (m : Signed) (kept behind : PivotsState) (old new : ProgramState) (measured : measured_by n x ≡ Some m)
-    (size : length m.letters ≡ n) (gives : (p : Point) → (given n coins x p).free ≡ is_free p.trace m ∷ []) (most : behind.most ≡ kept.most)
+module _ (n : ℕ) (coins : ℕ → Bool) (x : Step) (m : Signed) (kept following : PivotsState) (old new : ProgramState) (measured : measured_by n x ≡ Some m)
+    (size : length m.letters ≡ n) (gives : (p : Point) → (given n coins x p).free ≡ is_free p.trace m ∷ []) (most : following.most ≡ kept.most)
     (run : IsRun n coins (x ∷ []) old new) where
   flags-of : (xs : List Step) (flag : Bool) → IsAt n old (point_after n coins xs origin) → is_free (point_after n coins xs origin).trace m ≡ flag
       → new.output.free ≡ old.output.free ++ flag ∷ []
@@ -81,14 +81,14 @@ module _ (n : ℕ) (coins : ℕ → Bool) (x : Step) (m : Signed) (kept behind :
   true-of strings p is = subst (λ o. IfSome o (λ q. IfSome (strings p.coin) (λ s. IsPivot n (member p.trace) q s))) (sym measured) is
 
   keeps-fixed : (xs : List Step) → IsAt n old (point_after n coins xs origin) → IsNumbered kept old.output.free
-      → is_free (point_after n coins xs origin).trace m ≡ false → behind.strings ≡ kept.strings
+      → is_free (point_after n coins xs origin).trace m ≡ false → following.strings ≡ kept.strings
       → AreTrue n coins (pivot_at kept.strings old.output.free) xs origin
-      → IsNumbered behind new.output.free × AreTrue n coins (pivot_at behind.strings new.output.free) (xs ++ x ∷ []) origin
+      → IsNumbered following new.output.free × AreTrue n coins (pivot_at following.strings new.output.free) (xs ++ x ∷ []) origin
   keeps-fixed xs at numbered fixed same is =
       let p = point_after n coins xs origin in
       let free = old.output.free in
       let flags = flags-of xs false at fixed in (
-        subst (λ bits. length behind.strings ≡ min (ones bits) behind.most) (sym flags)
+        subst (λ bits. length following.strings ≡ min (ones bits) following.most) (sym flags)
             (ap length same ∙ numbered-fixed kept.most kept.strings free numbered ∙ ap (λ k. min (ones (free ++ false ∷ [])) k) (sym most)),
         subst (λ s. AreTrue n coins (pivot_at s new.output.free) (xs ++ x ∷ []) origin) (as_many kept free numbered ∙ sym same)
             (subst (λ bits. AreTrue n coins (pivot_at (take kept.most (kept.strings ++ [])) bits) (xs ++ x ∷ []) origin) (sym flags)
@@ -102,16 +102,16 @@ module _ (n : ℕ) (coins : ℕ → Bool) (x : Step) (m : Signed) (kept behind :
       )
 
   keeps-free : (xs : List Step) → IsAt n old (point_after n coins xs origin) → IsNumbered kept old.output.free
-      → is_free (point_after n coins xs origin).trace m ≡ true → IsAdded n old.stabilised m kept behind
+      → is_free (point_after n coins xs origin).trace m ≡ true → IsAdded n old.stabilised m kept following
       → AreTrue n coins (pivot_at kept.strings old.output.free) xs origin
-      → IsNumbered behind new.output.free × AreTrue n coins (pivot_at behind.strings new.output.free) (xs ++ x ∷ []) origin
+      → IsNumbered following new.output.free × AreTrue n coins (pivot_at following.strings new.output.free) (xs ++ x ∷ []) origin
   keeps-free xs at numbered is_free added is =
       let p = point_after n coins xs origin in
       let free = old.output.free in
       let flags = flags-of xs true at is_free in
       let s = added.string in
       let is_pivot = pivot-same_group n old.stabilised (member p.trace) m s at.group added.is_pivot in (
-        subst (λ bits. length behind.strings ≡ min (ones bits) behind.most) (sym flags)
+        subst (λ bits. length following.strings ≡ min (ones bits) following.most) (sym flags)
             (ap length added.strings ∙ numbered-free kept.most kept.strings s free numbered ∙ ap (λ k. min (ones (free ++ true ∷ [])) k) (sym most)),
         subst (λ t. AreTrue n coins (pivot_at t new.output.free) (xs ++ x ∷ []) origin) (sym added.strings)
             (subst (λ bits. AreTrue n coins (pivot_at (take kept.most (kept.strings ++ s ∷ [])) bits) (xs ++ x ∷ []) origin) (sym flags)
@@ -124,7 +124,7 @@ module _ (n : ℕ) (coins : ℕ → Bool) (x : Step) (m : Signed) (kept behind :
             ))),
       )
 
-  keeps-measured : KeepsPivotsOf n old.stabilised (Some m) kept behind → KeepsTrue n coins (x ∷ []) kept behind old new
+  keeps-measured : KeepsPivotsOf n old.stabilised (Some m) kept following → KeepsTrue n coins (x ∷ []) kept following old new
   keeps-measured has_pivots xs at numbered is = by_flag (is_free_by old.stabilised m) refl
     where
       p : Point
@@ -134,31 +134,31 @@ module _ (n : ℕ) (coins : ℕ → Bool) (x : Step) (m : Signed) (kept behind :
       same = sym (same-free n old.stabilised (member p.trace) m size at.group)
 
       by_flag : (b : Bool) → is_free_by old.stabilised m ≡ b
-          → IsNumbered behind new.output.free × AreTrue n coins (pivot_at behind.strings new.output.free) (xs ++ x ∷ []) origin
+          → IsNumbered following new.output.free × AreTrue n coins (pivot_at following.strings new.output.free) (xs ++ x ∷ []) origin
       by_flag false e = keeps-fixed xs at numbered (same ∙ e) (has_pivots.1 e) is
       by_flag true e = keeps-free xs at numbered (same ∙ e) (has_pivots.0 e) is
 
-pub keeps-step : (n : ℕ) (coins : ℕ → Bool) (x : Step) (kept behind : PivotsState) (old new : ProgramState) → KeepsPivots n old.stabilised x kept behind
-    → behind.most ≡ kept.most → IsRun n coins (x ∷ []) old new → KeepsTrue n coins (x ∷ []) kept behind old new
-keeps-step n coins (one g q) kept behind old new has_pivots most run = keeps-unmeasured n coins (one g q ∷ []) kept behind old new refl has_pivots most run
-keeps-step n coins (two g a b) kept behind old new has_pivots most run = keeps-unmeasured n coins (two g a b ∷ []) kept behind old new refl has_pivots most run
-keeps-step n coins (controlled l k q) kept behind old new has_pivots most run = keeps-unmeasured n coins (controlled l k q ∷ []) kept behind old new refl has_pivots most run
-keeps-step n coins (collapse l q recorded inverted resets) kept behind old new has_pivots most run =
-    keeps-measured n coins (collapse l q recorded inverted resets) (single n q l) kept behind old new refl (length-one_letter n q l) (λ p. refl) most run has_pivots
-keeps-step n coins (product factors inverted) kept behind old new has_pivots most run =
-    keeps-measured n coins (product factors inverted) (string_of n factors) kept behind old new refl (length-string_of n factors) (λ p. refl) most run has_pivots
-keeps-step n coins (detector ks) kept behind old new has_pivots most run = keeps-unmeasured n coins (detector ks ∷ []) kept behind old new refl has_pivots most run
-keeps-step n coins (observable j ks) kept behind old new has_pivots most run = keeps-unmeasured n coins (observable j ks ∷ []) kept behind old new refl has_pivots most run
+pub keeps-step : (n : ℕ) (coins : ℕ → Bool) (x : Step) (kept following : PivotsState) (old new : ProgramState) → KeepsPivots n old.stabilised x kept following
+    → following.most ≡ kept.most → IsRun n coins (x ∷ []) old new → KeepsTrue n coins (x ∷ []) kept following old new
+keeps-step n coins (one g q) kept following old new has_pivots most run = keeps-unmeasured n coins (one g q ∷ []) kept following old new refl has_pivots most run
+keeps-step n coins (two g a b) kept following old new has_pivots most run = keeps-unmeasured n coins (two g a b ∷ []) kept following old new refl has_pivots most run
+keeps-step n coins (controlled l k q) kept following old new has_pivots most run = keeps-unmeasured n coins (controlled l k q ∷ []) kept following old new refl has_pivots most run
+keeps-step n coins (collapse l q recorded inverted resets) kept following old new has_pivots most run =
+    keeps-measured n coins (collapse l q recorded inverted resets) (single n q l) kept following old new refl (length-one_letter n q l) (λ p. refl) most run has_pivots
+keeps-step n coins (product factors inverted) kept following old new has_pivots most run =
+    keeps-measured n coins (product factors inverted) (string_of n factors) kept following old new refl (length-string_of n factors) (λ p. refl) most run has_pivots
+keeps-step n coins (detector ks) kept following old new has_pivots most run = keeps-unmeasured n coins (detector ks ∷ []) kept following old new refl has_pivots most run
+keeps-step n coins (observable j ks) kept following old new has_pivots most run = keeps-unmeasured n coins (observable j ks ∷ []) kept following old new refl has_pivots most run
 
 -- no step, and steps one after another
 
 pub keeps-none : (n : ℕ) (coins : ℕ → Bool) (kept : PivotsState) (a : ProgramState) → KeepsTrue n coins [] kept kept a a
 keeps-none n coins kept a xs at numbered is = (numbered, subst (λ ys. AreTrue n coins (pivot_at kept.strings a.output.free) ys origin) (sym (append-nil xs)) is)
 
-pub keeps-append : (n : ℕ) (coins : ℕ → Bool) (xs ys : List Step) (kept mid behind : PivotsState) (a b c : ProgramState)
-    → IsRun n coins xs a b → KeepsTrue n coins xs kept mid a b → KeepsTrue n coins ys mid behind b c → KeepsTrue n coins (xs ++ ys) kept behind a c
-keeps-append n coins xs ys kept mid behind a b c run first then zs at numbered is =
+pub keeps-append : (n : ℕ) (coins : ℕ → Bool) (xs ys : List Step) (kept mid following : PivotsState) (a b c : ProgramState)
+    → IsRun n coins xs a b → KeepsTrue n coins xs kept mid a b → KeepsTrue n coins ys mid following b c → KeepsTrue n coins (xs ++ ys) kept following a c
+keeps-append n coins xs ys kept mid following a b c run first then zs at numbered is =
     let here = first zs at numbered is in
     let arrived = subst (IsAt n b) (sym (after-append n coins zs xs origin)) (run (point_after n coins zs origin) at).shows in
     let all = then (zs ++ xs) arrived here.0 here.1 in
-    (all.0, subst (λ ws. AreTrue n coins (pivot_at behind.strings c.output.free) ws origin) (append_assoc zs xs ys) all.1)
+    (all.0, subst (λ ws. AreTrue n coins (pivot_at following.strings c.output.free) ws origin) (append_assoc zs xs ys) all.1)

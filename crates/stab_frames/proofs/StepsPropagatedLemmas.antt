@@ -1,7 +1,7 @@
 -- Steps walked: a frame's way over the first of some steps, over some more, and what it comes to.
-use Rattle.stab_frames.proofs.Names.{◌≡◌, ℕ, ◌+◌, ◌-◌, ◌<◌, ◌≤◌, refl, sym, ◌∙◌, ap, subst, Bool, false, List, [], ◌∷◌, ◌++◌, length, take, drop, All, arith, take-add, take-append_seam, drop-append_seam, take-length, take-append-drop, take-append-le, length-drop, length-append, drop-drop, All-drop, All-take, Letter, Step, Point, coins_of, all_coins_of, point_after, outputs, StepFits, outputs-append, coins-append, same_coins, AreEnough, pivot_at, AreTrue, PropagationState, frame_at, PropagatesOver, never, AreDrawn, AreTold, GoesOver}
+use Rattle.stab_frames.proofs.Names.{◌≡◌, ℕ, ◌+◌, ◌-◌, ◌<◌, ◌≤◌, refl, sym, ◌∙◌, ap, subst, Bool, false, List, [], ◌∷◌, ◌++◌, length, take, drop, All, arith, take-add, take-append_seam, drop-append_seam, take-length, take-append-drop, take-append-le, length-drop, length-append, drop-drop, All-drop, All-take, Letter, Step, Point, coins_of, all_coins_of, point_after, outputs, StepFits, outputs-append, coins-append, same_coins, AreEnough, pivot_at, AreTrue, PropagationState, frame_at, PropagatesOver, never, AreDrawn, AreDetermined, GoesOver}
 use Rattle.stab_frames.proofs.TrueLemmas.{true-front}
-use Rattle.stab_frames.proofs.PropagatedLemmas.{told-enough}
+use Rattle.stab_frames.proofs.PropagatedLemmas.{determined-enough}
 use Rattle.stab_frames.proofs.GoesOverLemmas.{goes-append}
 
 -- the first of the steps that are left
@@ -61,9 +61,9 @@ pub propagation-enough : (n : ℕ) (coins : ℕ → Bool) (strings : List (List 
     → GoesOver n strings free never (take k xs) old new → a.coin ≡ old.coin → AreTrue n coins (pivot_at strings free) xs a → (outputs n coins xs a).free ≡ drop old.coin free
     → AreEnough n coins (same_coins (pivot_at strings free)) (take k xs) (frame_at base old) a
 propagation-enough n coins strings free k base xs old new a goes same is flags =
-    told-enough n coins strings free (λ t. false) (take k xs) (frame_at base old) a
-    (subst (λ c. AreTold n strings free (λ t. false) (take k xs) c (frame_at base old)) (sym same)
-    (goes.told (λ t. false) (never-drawn free (take k xs) old.coin) base))
+    determined-enough n coins strings free (λ t. false) (take k xs) (frame_at base old) a
+    (subst (λ c. AreDetermined n strings free (λ t. false) (take k xs) c (frame_at base old)) (sym same)
+    (goes.determined (λ t. false) (never-drawn free (take k xs) old.coin) base))
     (true-front n coins (pivot_at strings free) (take k xs) (drop k xs) a (subst (λ ys. AreTrue n coins (pivot_at strings free) ys a) (sym (take-append-drop k xs)) is))
     (outputs n coins (drop k xs) (point_after n coins (take k xs) a)).free
     (ap (λ c. drop c free) same

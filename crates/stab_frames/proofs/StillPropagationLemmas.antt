@@ -7,8 +7,8 @@ use Rattle.stab_frames.proofs.GoesOverLemmas.{goes-none, goes-append, goes-colla
 use Rattle.stab_frames.proofs.PropagationLemmas.{ones-few}
 
 -- a propagation after this many coins and as many records, none of which it flips
-abbrev pub still_behind : ℕ → ℕ → PropagationState → PropagationState
-still_behind k number w = record w { flips = joined w.flips (none_flipped k); coin = w.coin + k; number = number }
+abbrev pub still_after : ℕ → ℕ → PropagationState → PropagationState
+still_after k number w = record w { flips = joined w.flips (none_flipped k); coin = w.coin + k; number = number }
 
 -- its flips and its numbers, as a program has them
 
@@ -34,7 +34,7 @@ pub still-view : (letters : List Letter) (records more outcomes others detectors
     → more ≡ records ++ replicate k false → others ≡ outcomes ++ replicate k false → found ≡ ones (take k (drop coin free))
     → ◌≡◌ {A = PropagationState}
     (record { letters = letters; flips = record { records = more; free = replicate (length others) false; outcomes = others; detectors = detectors; additions = additions }; coin = coin + k; number = number + found })
-    (still_behind k (w.number + ones (take k (drop w.coin free))) w)
+    (still_after k (w.number + ones (take k (drop w.coin free))) w)
 still-view letters records more outcomes others detectors free additions coin number found k w e em eo ef =
     (λ i. record {
       letters = letters;
@@ -48,7 +48,7 @@ still-view letters records more outcomes others detectors free additions coin nu
       coin = coin + k;
       number = number + ef i;
     })
-    ∙ ap (λ (v : PropagationState). still_behind k (v.number + ones (take k (drop v.coin free))) v) e
+    ∙ ap (λ (v : PropagationState). still_after k (v.number + ones (take k (drop v.coin free))) v) e
 
 -- over measurements with which it commutes, one of them and all
 
@@ -58,9 +58,9 @@ not-reset false string letters = refl
 
 module _ (n : ℕ) (strings : List (List Letter)) (free : List Bool) (draw : ℕ → Bool) (still : (coin : ℕ) → draw coin ≡ false) (how : Measurement) where
   step-still : (t : MeasureTarget) (old : PropagationState) → t.qubit < n → touches_target old.letters (letter_of how.axis) t ≡ false → length old.letters ≡ n
-      → GoesOver n strings free draw (measured how t ∷ []) old (still_behind 1 (ones (take (old.coin + 1) free)) old)
+      → GoesOver n strings free draw (measured how t ∷ []) old (still_after 1 (ones (take (old.coin + 1) free)) old)
   step-still t old lt e size =
-      goes-collapse n strings free draw (letter_of how.axis) t.qubit true t.inverted how.resets false false old mid mid (still_behind 1 (ones (take (old.coin + 1) free)) old)
+      goes-collapse n strings free draw (letter_of how.axis) t.qubit true t.inverted how.resets false false old mid mid (still_after 1 (ones (take (old.coin + 1) free)) old)
       (single-anticommute n t.qubit (letter_of how.axis) old.letters size lt ∙ e)
       (passed-alike strings free draw false false old mid (λ is. still old.coin) refl refl refl refl refl) size
       (ap (λ letters. record mid { letters = letters }) (not-reset how.resets (single (length mid.letters) t.qubit (flip_of (letter_of how.axis))).letters mid.letters))
@@ -73,13 +73,13 @@ module _ (n : ℕ) (strings : List (List Letter)) (free : List Bool) (draw : ℕ
   steps-still : (targets : List MeasureTarget) (number : ℕ) (old : PropagationState)
       → All (λ t. t.qubit < n) targets → list_any (touches_target old.letters (letter_of how.axis)) targets ≡ false → length old.letters ≡ n
       → IsPlaced free old → number ≡ ones (take (old.coin + length targets) free)
-      → GoesOver n strings free draw (map (measured how) targets) old (still_behind (length targets) number old)
+      → GoesOver n strings free draw (map (measured how) targets) old (still_after (length targets) number old)
   steps-still [] number old fits e size placed after = subst (λ w. GoesOver n strings free draw [] old w) same (goes-none n strings free draw old placed size)
     where
       no_more : old.coin ≡ old.coin + 0
       no_more = omega arith
 
-      same : old ≡ still_behind 0 number old
+      same : old ≡ still_after 0 number old
       same = λ i. record {
         letters = old.letters;
         flips = sym (joined-nothing old.flips) i;
@@ -87,7 +87,7 @@ module _ (n : ℕ) (strings : List (List Letter)) (free : List Bool) (draw : ℕ
         number = (placed ∙ ap (λ k. ones (take k free)) no_more ∙ sym after) i;
       }
   steps-still (t ∷ targets) number old fits e size placed after =
-      goes-append n strings free draw (measured how t ∷ []) (map (measured how) targets) old mid (still_behind (suc (length targets)) number old)
+      goes-append n strings free draw (measured how t ∷ []) (map (measured how) targets) old mid (still_after (suc (length targets)) number old)
       (step-still t old (All-head (λ x. x.qubit < n) t targets fits) (or-left (touches t) (list_any touches targets) e) size)
       (subst (λ w. GoesOver n strings free draw (map (measured how) targets) mid w) same
       (steps-still targets number mid (All-tail (λ x. x.qubit < n) t targets fits) (or-right (touches t) (list_any touches targets) e) size refl
@@ -97,12 +97,12 @@ module _ (n : ℕ) (strings : List (List Letter)) (free : List Bool) (draw : ℕ
       touches = touches_target old.letters (letter_of how.axis)
 
       mid : PropagationState
-      mid = still_behind 1 (ones (take (old.coin + 1) free)) old
+      mid = still_after 1 (ones (take (old.coin + 1) free)) old
 
       more : (old.coin + 1) + length targets ≡ old.coin + suc (length targets)
       more = omega arith
 
-      same : still_behind (length targets) number mid ≡ still_behind (suc (length targets)) number old
+      same : still_after (length targets) number mid ≡ still_after (suc (length targets)) number old
       same = λ i. record {
         letters = old.letters;
         flips = joined-assoc old.flips (none_flipped 1) (none_flipped (length targets)) i;
@@ -116,11 +116,11 @@ targets-fit n how targets fits = λ i d lt. fits-mapped n n (measured how) targe
 pub goes-still : (n : ℕ) (strings : List (List Letter)) (free : List Bool) (draw : ℕ → Bool) (how : Measurement) (targets : List MeasureTarget) (l : Letter)
     (old new : PropagationState) → ((coin : ℕ) → draw coin ≡ false)
     → l ≡ letter_of how.axis → All (StepFits n) (map (measured how) targets) → list_any (touches_target old.letters l) targets ≡ false → length old.letters ≡ n
-    → IsPlaced free old → new ≡ still_behind (length targets) (old.number + ones (take (length targets) (drop old.coin free))) old
+    → IsPlaced free old → new ≡ still_after (length targets) (old.number + ones (take (length targets) (drop old.coin free))) old
     → GoesOver n strings free draw (take (length targets) (map (measured how) targets)) old new
 goes-still n strings free draw how targets l old new still el fits e size placed is =
     subst (λ w. GoesOver n strings free draw (take (length targets) (map (measured how) targets)) old w) (sym is)
-    (subst (λ xs. GoesOver n strings free draw xs old (still_behind (length targets) number old)) (all-mapped (measured how) targets (map (measured how) targets) refl)
+    (subst (λ xs. GoesOver n strings free draw xs old (still_after (length targets) number old)) (all-mapped (measured how) targets (map (measured how) targets) refl)
     (steps-still n strings free draw still how targets number old (targets-fit n how targets fits) (ap (λ k. list_any (touches_target old.letters k) targets) (sym el) ∙ e) size
     placed (ap (λ j. j + ones (take (length targets) (drop old.coin free))) placed ∙ sym (ones-split old.coin (length targets) free))))
   where

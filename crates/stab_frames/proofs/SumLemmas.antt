@@ -1,6 +1,6 @@
 -- Frames added: what two frames flip together is what each flips, added.
 use Rattle.stab_frames.proofs.Names.{◌≡◌, ℕ, ◌+◌, refl, sym, ◌∙◌, ap, Bool, true, false, ◌&&◌, List, [], ◌∷◌, ◌++◌, length, Option, Some, None, length-append, All-head, All-tail, Letter, ◌⊕◌, Signed, single, strings_anticommute, string_product, parity-comm, parity-mid, string_product-assoc, string_product-comm, string_product-self, string_product-blank_right, length-string_product, strings_anticommute-product, length-one_letter, IsSymmetry-image, IsSymmetry-pair, image-length, pair-length, Step, one, two, controlled, collapse, product, detector, observable, looked_up, when, string_of, flip_of, RunOutput, nothing, joined, coins_of, origin, given, StepFits, flipped, flipped_output, Matches, plus, Frame, frame_product, times_where, RunPivots, pivots_of, flipped_by, letters_by, flips_outcome, letters_measured, letters_after, flips_given, frame_after, frame_over, flips_over, AreStrings, FramesAdd}
-use Rattle.stab_frames.proofs.FramedLemmas.{length-times}
+use Rattle.stab_frames.proofs.PropagatedPointLemmas.{length-times}
 use Rattle.stab_frames.proofs.FlipLemmas.{matches-between, looked_up-flipped, parity-flipped, flipped-append, flipped-joined, and-parity}
 use Rattle.stab_frames.proofs.StepLemmas.{given-matches}
 

@@ -71,5 +71,5 @@ pivot-same_group n u v m s same is = record {
   size = is.size;
   negative = is.negative;
   stabilises = sym (same (record { negative = is.negative; letters = s }) is.size) ∙ is.stabilises;
-  apart = is.apart;
+  anticommutes = is.anticommutes;
 }

@@ -22,19 +22,19 @@ pub record DiffersBack (n m : ℕ) (f : Frame) (a b : Point) : Type 0 where
   pub seen : Point
   pub group : IsStabiliserGroup n (member seen.trace)
   pub agree : AgreeBack n m (with_coin seen.coin a) seen
-  pub framed : PointsDifferBy n f seen b
+  pub by_frame : PointsDifferBy n f seen b
 
 -- the strings that stabilise after each of the first steps, from one point and from another, differ by letters alone
-abbrev pub AreFramedOver : ℕ → (ℕ → Bool) → List Step → Point → Point → Type 0
-AreFramedOver n coins xs a b =
+abbrev pub ArePropagatedOver : ℕ → (ℕ → Bool) → List Step → Point → Point → Type 0
+ArePropagatedOver n coins xs a b =
     (m : ℕ) → (g : List Letter) × IsConjugated n g (member (point_after n coins (take m xs) a).trace) (member (point_after n coins (take m xs) b).trace)
 
 -- with coins numbered from k on, at the one point and at the other
-abbrev pub StepsComeFramed : Type 0
-StepsComeFramed =
+abbrev pub StepsComePropagated : Type 0
+StepsComePropagated =
     (n m k da db : ℕ) (coins : ℕ → Bool) (strings : ℕ → Option (List Letter)) (xs : List Step) (f : Frame) (a b : Point) →
     All (StepFits n) xs → looks_too_far m xs ≡ false → da + k ≡ a.coin → db + k ≡ b.coin → (differs : DiffersBack n m f a b) →
     AreEnough n (coins_from da coins) (pivots_between strings (coins_from da coins) (coins_from db coins)) xs f (with_coin k differs.seen) →
     (outputs n coins xs b ≡ flipped_output (outputs n coins xs a) (flips_over n (pivots_between strings (coins_from da coins) (coins_from db coins)) xs k f))
     × DiffersBack n m (frame_over n (pivots_between strings (coins_from da coins) (coins_from db coins)) xs k f) (point_after n coins xs a) (point_after n coins xs b)
-    × AreFramedOver n coins xs a b
+    × ArePropagatedOver n coins xs a b

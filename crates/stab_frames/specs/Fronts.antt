@@ -14,7 +14,7 @@ use Rattle.stab_frames.specs.Starts.{letters_on}
 
 -- steps with some coins and steps with others lead from the start to points that differ by a frame, and give what differs by flips
 pub record AreFronts (n : ℕ) (coins others : ℕ → Bool) (old new : List Step) (f : Frame) (flips : RunOutput) : Type 0 where
-  pub framed : PointsDifferBy n f (point_after n coins old origin) (point_after n others new origin)
+  pub by_frame : PointsDifferBy n f (point_after n coins old origin) (point_after n others new origin)
   pub given : outputs n others new origin ≡ flipped_output (outputs n coins old origin) flips
   pub matches : Matches (outputs n coins old origin) flips
 

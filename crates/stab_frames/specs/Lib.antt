@@ -11,7 +11,7 @@ pub mod OtherCoins
 pub mod Starts
 pub mod Ends
 pub mod Fronts
-pub mod FramedTableaus
+pub mod PropagatedTableaus
 pub mod StepLaws
 pub mod AgainLaws
 pub mod PivotLaws

@@ -66,6 +66,6 @@ front_kept count kept = record {
 
 -- a program that passed steps kept its strings numbered, and true of the steps that led to where it was, and of these
 abbrev pub KeepsTrue : ℕ → (ℕ → Bool) → List Step → PivotsState → PivotsState → ProgramState → ProgramState → Type 0
-KeepsTrue n coins ys kept kept_behind old new =
+KeepsTrue n coins ys kept kept_after old new =
     (xs : List Step) → IsAt n old (point_after n coins xs origin) → IsNumbered kept old.output.free → AreTrue n coins (pivot_at kept.strings old.output.free) xs origin →
-    IsNumbered kept_behind new.output.free × AreTrue n coins (pivot_at kept_behind.strings new.output.free) (xs ++ ys) origin
+    IsNumbered kept_after new.output.free × AreTrue n coins (pivot_at kept_after.strings new.output.free) (xs ++ ys) origin

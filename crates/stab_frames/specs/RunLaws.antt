@@ -17,9 +17,9 @@ use Rattle.stab_frames.specs.FrameSteps.{frame_over, flips_over}
 use Rattle.stab_frames.specs.PivotsOfSteps.{AreEnough}
 use Rattle.stab_frames.specs.Starts.{letters_on}
 use Rattle.stab_frames.specs.Fronts.{AreFronts, IsFlippedRun, with_letters, edit_frame, edit_flips}
-use Rattle.stab_frames.specs.FramedTableaus.{framed_tableau}
+use Rattle.stab_frames.specs.PropagatedTableaus.{propagated_tableau}
 
--- after fronts that differ by a frame the same steps make the one run the other, flipped, and lead to points that differ by a frame
+-- after fronts that differ by a frame the same steps make the one run the other, flipped, and come to points that differ by a frame
 abbrev pub FrontsFlip : Type 0
 FrontsFlip =
     (n : ℕ) (coins : ℕ → Bool) (pivots : RunPivots) (old new back : List Step) (f : Frame) (flips : RunOutput) →
@@ -54,7 +54,7 @@ CheckpointsTakeFrames =
     All (StepFits n) old → All (StepFits n) back → AreFronts n coins (changed coins pivots.changes) old new f flips →
     AreEnough n coins pivots back f (point_after n coins old origin) →
     (t : TableauState) → length t.rows ≡ n → SameGroup n (stabilises t) (member (point_after n coins (old ++ back) origin).trace) →
-    SameGroup n (stabilises (framed_tableau (frame_over n pivots back (point_after n coins old origin).coin f).letters t))
+    SameGroup n (stabilises (propagated_tableau (frame_over n pivots back (point_after n coins old origin).coin f).letters t))
     (member (point_after n (changed coins pivots.changes) (new ++ back) origin).trace)
     × (lengths_of (outputs n (changed coins pivots.changes) (new ++ back) origin) ≡ lengths_of (outputs n coins (old ++ back) origin))
 

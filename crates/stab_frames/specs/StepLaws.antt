@@ -1,4 +1,4 @@
--- Laws of steps: steps keep points apart by a frame, and frames multiply.
+-- Laws of steps: steps keep points different by a frame, and frames multiply.
 -- Source: C. Gidney, Stim (2021), for frames that follow the steps of a circuit; that they are exact, given pivots, is this project's own.
 use Rattle.std.specs.Prelude.{◌≡◌, ℕ, Bool, false, List, ◌++◌, All, Option, Some, length, replicate}
 use Rattle.stab_gates.specs.declared.letter.Letter.{Letter}
@@ -16,7 +16,7 @@ use Rattle.stab_frames.specs.RunPivots.{RunPivots, pivots_of, changed}
 use Rattle.stab_frames.specs.FrameSteps.{frame_after, frame_over, flips_given, flips_over}
 use Rattle.stab_frames.specs.PivotsOfSteps.{IsEnoughAt, AreEnough}
 
--- from points that differ by a frame a step leads to points that differ by the frame after it, and gives what its flips make of the other
+-- from points that differ by a frame a step comes to points that differ by the frame after it, and gives what its flips make of the other
 abbrev pub StepsKeepFrames : Type 0
 StepsKeepFrames =
     (n : ℕ) (coins : ℕ → Bool) (pivots : RunPivots) (x : Step) (f : Frame) (a b : Point) →
@@ -32,7 +32,7 @@ RunsKeepFrames =
     (outputs n (changed coins pivots.changes) xs b ≡ flipped_output (outputs n coins xs a) (flips_over n pivots xs a.coin f))
     × PointsDifferBy n (frame_over n pivots xs a.coin f) (point_after n coins xs a) (point_after n (changed coins pivots.changes) xs b)
 
--- if steps lead from the start the strings that stabilise are a group
+-- if steps go from the start the strings that stabilise are a group
 abbrev pub PointsHaveGroups : Type 0
 PointsHaveGroups =
     (n : ℕ) (coins : ℕ → Bool) (xs : List Step) → All (StepFits n) xs → IsStabiliserGroup n (member (point_after n coins xs origin).trace)

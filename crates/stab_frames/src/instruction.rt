@@ -3,7 +3,7 @@
 ghost use Rattle.std.specs.Prelude.{◌≡◌, ◌+◌, ◌^◌, ◌<◌, ◌≤◌, ◌∷◌, [], All, length, map, take, OnOk, IfOk};
 ghost use Rattle.std.specs.List.{list_any};
 ghost use Rattle.stab_items.specs.Steps.{one, controlled_step, measured, detector};
-ghost use Rattle.stab_items.specs.StepValues.{lookbacks_of, steps_shown, IsApartAlone};
+ghost use Rattle.stab_items.specs.StepValues.{lookbacks_of, steps_shown, HaveDistinctQubits};
 ghost use Rattle.stab_run.specs.Points.{all_coins_of};
 ghost use Rattle.stab_run.specs.ProgramStates.{StepFits};
 ghost use Rattle.stab_frames.specs.Propagations.{IsPlaced};
@@ -37,15 +37,15 @@ pub fn propagate_instruction<D: Draw, C: Coins>(
     known: Known<D>,
     coins: &mut C,
     steps: Steps,
-    framed: &mut u64,
+    by_frame: &mut u64,
 ) -> Result<usize, AllocError>
     requires same_length { known.strings.now.qubits ≡ length propagation.old.letters }
     requires fits { All (StepFits (length propagation.old.letters)) (steps_shown steps) }
-    requires apart { IsApartAlone steps }
+    requires distinct { HaveDistinctQubits steps }
     requires placed { IsPlaced known.free.now propagation.old }
     requires few { D.ahead known.draw.now + (propagation.old.coin + length (steps_shown steps)) < 2 ^ 63 }
-    requires few_framed { framed.old + length (steps_shown steps) < 2 ^ 63 }
-    ensures counted { framed.new ≡ framed.old + length (steps_shown steps.entry) }
+    requires few_propagated { by_frame.old + length (steps_shown steps) < 2 ^ 63 }
+    ensures counted { by_frame.new ≡ by_frame.old + length (steps_shown steps.entry) }
     ensures length { length propagation.new.letters ≡ length propagation.old.letters }
     ensures same_coins { C.sequence coins.new ≡ C.sequence coins.old }
     ensures asks { AsksFree known.entry.free.now propagation.old.coin (propagation.old.coin + all_coins_of (steps_shown steps.entry)) (C.asks coins.old) (C.asks coins.new) }
@@ -55,36 +55,36 @@ pub fn propagate_instruction<D: Draw, C: Coins>(
 {
     match steps {
         Steps::Gates(gate, qubits) => {
-            propagate_gates(propagation, gate, qubits, framed);
+            propagate_gates(propagation, gate, qubits, by_frame);
             Ok(qubits.len())
         }
         Steps::Pairs(axis, pairs) => {
-            propagate_pairs(propagation, axis, pairs, framed);
+            propagate_pairs(propagation, axis, pairs, by_frame);
             Ok(pairs.len())
         }
         Steps::Measurements(measurement, targets) => {
-            propagate_measurements(propagation, known, coins, measurement, targets, framed)
+            propagate_measurements(propagation, known, coins, measurement, targets, by_frame)
         }
         Steps::Detectors(detectors) => {
-            propagate_detectors(propagation, detectors, framed)?;
+            propagate_detectors(propagation, detectors, by_frame)?;
             Ok(detectors.len())
         }
         Steps::Single(step) => {
-            let went = propagate_step(propagation, known, coins, step, framed)?;
+            let went = propagate_step(propagation, known, coins, step, by_frame)?;
             Ok(usize::from(went))
         }
     }
 }
 
 /// Propagates a frame over a gate on each of some qubits, and counts them.
-fn propagate_gates(propagation: &mut Propagation, gate: Gate, qubits: &[Qubit], framed: &mut u64)
+fn propagate_gates(propagation: &mut Propagation, gate: Gate, qubits: &[Qubit], by_frame: &mut u64)
     requires fits { All (StepFits (length propagation.old.letters)) (map (one gate) qubits.now) }
-    requires few { framed.old + length qubits.now < 2 ^ 63 }
-    ensures counted { framed.new ≡ framed.old + length qubits.now }
+    requires few { by_frame.old + length qubits.now < 2 ^ 63 }
+    ensures counted { by_frame.new ≡ by_frame.old + length qubits.now }
     ensures length { length propagation.new.letters ≡ length propagation.old.letters }
     ensures goes { GoesFreely (length propagation.old.letters) (map (one gate) qubits.now) propagation.old propagation.new }
 {
-    *framed += qubits.len() as u64;
+    *by_frame += qubits.len() as u64;
     for qubit in qubits {
         propagate_gate(propagation, gate, qubit.number());
     }
@@ -172,15 +172,15 @@ fn propagate_pairs(
     propagation: &mut Propagation,
     axis: Axis,
     pairs: &[ControlledPair],
-    framed: &mut u64,
+    by_frame: &mut u64,
 )
     requires fits { All (StepFits (length propagation.old.letters)) (map (controlled_step axis) pairs.now) }
-    requires few { framed.old + length pairs.now < 2 ^ 63 }
-    ensures counted { framed.new ≡ framed.old + length pairs.now }
+    requires few { by_frame.old + length pairs.now < 2 ^ 63 }
+    ensures counted { by_frame.new ≡ by_frame.old + length pairs.now }
     ensures length { length propagation.new.letters ≡ length propagation.old.letters }
     ensures goes { GoesFreely (length propagation.old.letters) (map (controlled_step axis) pairs.now) propagation.old propagation.new }
 {
-    *framed += pairs.len() as u64;
+    *by_frame += pairs.len() as u64;
     if pairs.len() < FEW {
         propagate_each_pair(propagation, axis, pairs);
         return;
@@ -271,14 +271,14 @@ fn propagate_measurements<D: Draw, C: Coins>(
     coins: &mut C,
     measurement: Measurement,
     targets: &[MeasureTarget],
-    framed: &mut u64,
+    by_frame: &mut u64,
 ) -> Result<usize, AllocError>
     requires same_length { known.strings.now.qubits ≡ length propagation.old.letters }
     requires fits { All (StepFits (length propagation.old.letters)) (map (measured measurement) targets.now) }
     requires placed { IsPlaced known.free.now propagation.old }
     requires few { D.ahead known.draw.now + (propagation.old.coin + length targets.now) < 2 ^ 63 }
-    requires few_framed { framed.old + length targets.now < 2 ^ 63 }
-    ensures counted { framed.new ≡ framed.old + length targets.now }
+    requires few_propagated { by_frame.old + length targets.now < 2 ^ 63 }
+    ensures counted { by_frame.new ≡ by_frame.old + length targets.now }
     ensures length { length propagation.new.letters ≡ length propagation.old.letters }
     ensures same_coins { C.sequence coins.new ≡ C.sequence coins.old }
     ensures asks { AsksFree known.entry.free.now propagation.old.coin (propagation.old.coin + length targets.now) (C.asks coins.old) (C.asks coins.new) }
@@ -286,7 +286,7 @@ fn propagate_measurements<D: Draw, C: Coins>(
     ensures goes { IfOk result (λ count. GoesOver (length propagation.old.letters) known.entry.strings.now.strings known.entry.free.now (D.changes known.entry.draw.now (C.sequence coins.old)) (take count (map (measured measurement) targets.now)) propagation.old propagation.new) }
     ensures missing { IfOk result (λ count. count < length targets.now → IsMissing known.entry.strings.now.strings known.entry.free.now (propagation.old.coin + length targets.now)) }
 {
-    *framed += targets.len() as u64;
+    *by_frame += targets.len() as u64;
     if targets.len() < FEW {
         return propagate_each_measurement(propagation, known, coins, measurement, targets);
     }
@@ -307,14 +307,14 @@ fn propagate_measurements<D: Draw, C: Coins>(
 fn propagate_detectors(
     propagation: &mut Propagation,
     detectors: Detectors,
-    framed: &mut u64,
+    by_frame: &mut u64,
 ) -> Result<(), AllocError>
-    requires few { framed.old + length (lookbacks_of detectors) < 2 ^ 63 }
-    ensures counted { framed.new ≡ framed.old + length (lookbacks_of detectors.entry) }
+    requires few { by_frame.old + length (lookbacks_of detectors) < 2 ^ 63 }
+    ensures counted { by_frame.new ≡ by_frame.old + length (lookbacks_of detectors.entry) }
     ensures length { length propagation.new.letters ≡ length propagation.old.letters }
     ensures goes { OnOk result (GoesFreely (length propagation.old.letters) (map detector (lookbacks_of detectors.entry)) propagation.old propagation.new) }
 {
-    *framed += detectors.len() as u64;
+    *by_frame += detectors.len() as u64;
     for place in 0..detectors.len() {
         propagate_detector(propagation, detectors.get(place))?;
     }

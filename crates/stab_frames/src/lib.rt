@@ -7,7 +7,7 @@
 //!
 //! The laws are in this order; each function of these modules does nothing, and its contract is a law:
 //!
-//! - `step_laws`: steps keep two points apart by a frame; frames multiply, what they flip adds, and when
+//! - `step_laws`: steps keep two points different by a frame; frames multiply, what they flip adds, and when
 //!   a frame is none.
 //! - `pivot_laws`: which pivots are enough for a frame, that each run has right ones, and where they come from.
 //! - `run_laws`: whole runs, after an edit by Pauli gates or with other coins, are old ones, flipped; and
@@ -19,7 +19,7 @@
 //! - `pivot_recorder`: what a run records of the steps that it carries out: pivots, and how far back they look.
 //! - `letters`: the table of what gates make of letters, and what they make of those of a frame.
 //! - `bits`: lists of bits, counted, and put after others as a frame flips them.
-//! - `framed_states`: kept states, conjugated by the letters of a frame.
+//! - `conjugated_states`: kept states, conjugated by the letters of a frame.
 //! - `propagation`: a frame on its way, with what it has flipped.
 //! - `draw`: which coins differ on its way.
 //! - `propagate_step`, `instruction`: one step on its way, and those of one instruction.
@@ -42,8 +42,8 @@
 #![tactic(auto)]
 
 mod bits;
+mod conjugated_states;
 mod draw;
-mod framed_states;
 mod instruction;
 mod letters;
 pub mod pivot_laws;
@@ -55,8 +55,8 @@ pub mod run_laws;
 pub mod step_laws;
 
 pub use bits::{append_flipped, append_flipped_additions, between, bit_at, count_ones};
+pub use conjugated_states::apply_frame_to;
 pub use draw::{Draw, SameCoins};
-pub use framed_states::apply_frame_to;
 pub use instruction::propagate_instruction;
 pub use letters::{Images, controlled_letter};
 pub use pivot_recorder::PivotRecorder;

@@ -1,6 +1,6 @@
 //! Laws of pivots: what has to be known of a run's measurements for a frame to follow it.
 
-ghost use Rattle.stab_frames.specs.PivotLaws.{FlagsTellPivots, FramesHaveCoins, RightPivotsAreEnough, RunsHavePivots, FlippedCoinsNeedNoPivots};
+ghost use Rattle.stab_frames.specs.PivotLaws.{FlagsDeterminePivots, FramesHaveCoins, RightPivotsAreEnough, RunsHavePivots, FlippedCoinsNeedNoPivots};
 
 /// Notes that are right for each measurement of a run are enough for every frame.
 pub fn right_pivots_are_enough()
@@ -23,6 +23,6 @@ pub fn runs_have_pivots()
 {}
 
 /// Right pivots have a string exactly if the flags of the run say that the coin decided.
-pub fn flags_tell_pivots()
-    ensures law { FlagsTellPivots }
+pub fn flags_determine_pivots()
+    ensures law { FlagsDeterminePivots }
 {}

@@ -7,14 +7,15 @@ ghost use Rattle.stab_run.specs.Records.{looked_up as looked_up_of, parity as pa
 ghost use Rattle.stab_run.specs.Runs.{flip_of};
 ghost use Rattle.stab_run.specs.Points.{nothing, joined, coins_of};
 ghost use Rattle.stab_frames.specs.Frames.{plus, times_where};
+ghost use Rattle.stab_frames.specs.FrameSteps.{one_flipped};
 ghost use Rattle.stab_lines.specs.Products.{names_twice};
 ghost use Rattle.stab_items.specs.Steps.{Step, collapse, product};
-ghost use Rattle.stab_items.specs.Steps.{IsApart};
+ghost use Rattle.stab_items.specs.Steps.{HasDistinctQubits};
 ghost use Rattle.stab_items.specs.StepValues.{step_shown};
 ghost use Rattle.stab_run.specs.ProgramStates.{StepFits};
 ghost use Rattle.stab_frames.specs.Propagations.{IsPlaced};
 ghost use Rattle.stab_frames.specs.inner.Draws.{AsksFree};
-ghost use Rattle.stab_frames.specs.inner.Propagates.{one_flipped, factors_anticommute, IsPropagated, IsMissing, Goes};
+ghost use Rattle.stab_frames.specs.inner.Propagates.{factors_anticommute, IsPropagated, IsMissing, Goes};
 
 use crate::bits::bit_at;
 use crate::draw::Draw;
@@ -43,21 +44,21 @@ pub fn propagate_step<D: Draw, C: Coins>(
     known: Known<D>,
     coins: &mut C,
     step: Step,
-    framed: &mut u64,
+    by_frame: &mut u64,
 ) -> Result<bool, AllocError>
     requires same_length { known.strings.now.qubits ≡ length propagation.old.letters }
     requires fits { StepFits (length propagation.old.letters) (step_shown step) }
-    requires apart { IsApart (step_shown step) }
+    requires distinct { HasDistinctQubits (step_shown step) }
     requires placed { IsPlaced known.free.now propagation.old }
     requires few { D.ahead known.draw.now + propagation.old.coin < 2 ^ 63 }
-    requires few_framed { framed.old < 2 ^ 63 }
-    ensures counted { framed.new ≡ framed.old + 1 }
+    requires few_propagated { by_frame.old < 2 ^ 63 }
+    ensures counted { by_frame.new ≡ by_frame.old + 1 }
     ensures length { length propagation.new.letters ≡ length propagation.old.letters }
     ensures same_coins { C.sequence coins.new ≡ C.sequence coins.old }
     ensures asks { AsksFree known.entry.free.now propagation.old.coin (propagation.old.coin + coins_of (step_shown step.entry)) (C.asks coins.old) (C.asks coins.new) }
     ensures goes { IfOk result (Goes (length propagation.old.letters) known.entry.strings.now.strings known.entry.free.now (D.changes known.entry.draw.now (C.sequence coins.old)) (step_shown step.entry) propagation.old propagation.new) }
 {
-    *framed += 1;
+    *by_frame += 1;
     match step {
         Step::One(gate, qubit) => propagate_gate(propagation, gate, qubit),
         Step::Two(gate, first, second) => propagate_pair(propagation, gate, first, second),
@@ -143,7 +144,7 @@ fn propagate_outcome<D: Draw, C: Coins>(
     propagation: &mut Propagation,
     known: Known<D>,
     coins: &mut C,
-    apart: bool,
+    anticommuting: bool,
 ) -> Option<bool>
     requires same_length { known.strings.now.qubits ≡ length propagation.old.letters }
     requires placed { IsPlaced known.free.now propagation.old }
@@ -151,17 +152,17 @@ fn propagate_outcome<D: Draw, C: Coins>(
     ensures length { length propagation.new.letters ≡ length propagation.old.letters }
     ensures same_coins { C.sequence coins.new ≡ C.sequence coins.old }
     ensures asks { AsksFree known.entry.free.now propagation.old.coin (propagation.old.coin + 1) (C.asks coins.old) (C.asks coins.new) }
-    ensures passed { IfSome result (λ flipped. IsPropagated known.entry.strings.now.strings known.entry.free.now (D.changes known.entry.draw.now (C.sequence coins.old)) apart flipped propagation.old propagation.new) }
+    ensures passed { IfSome result (λ flipped. IsPropagated known.entry.strings.now.strings known.entry.free.now (D.changes known.entry.draw.now (C.sequence coins.old)) anticommuting flipped propagation.old propagation.new) }
     ensures unchanged { IfNone result (propagation.new ≡ propagation.old) }
     ensures missing { IfNone result (IsMissing known.entry.strings.now.strings known.entry.free.now (propagation.old.coin + 1)) }
 {
     let coin = propagation.coin();
     if !bit_at(known.free, coin) {
         propagation.skip_coin(false);
-        return Some(apart);
+        return Some(anticommuting);
     }
     let change = known.draw.change(coins, coin);
-    if change == apart {
+    if change == anticommuting {
         propagation.skip_coin(true);
         return Some(change);
     }
@@ -209,8 +210,8 @@ pub fn propagate_collapse<D: Draw, C: Coins>(
     ensures asks { AsksFree known.entry.free.now propagation.old.coin (propagation.old.coin + 1) (C.asks coins.old) (C.asks coins.new) }
     ensures goes { IfOk result (λ gone. (inverted : Bool) → Goes (length propagation.old.letters) known.entry.strings.now.strings known.entry.free.now (D.changes known.entry.draw.now (C.sequence coins.old)) (collapse letter qubit recorded inverted resets) propagation.old propagation.new gone) }
 {
-    let apart = propagation.letter(qubit).anticommutes(letter);
-    match propagate_outcome(propagation, known, coins, apart) {
+    let anticommuting = propagation.letter(qubit).anticommutes(letter);
+    match propagate_outcome(propagation, known, coins, anticommuting) {
         Some(flipped) => {
             multiply_if(propagation, resets & flipped, flip(letter), qubit);
             flip_measured(propagation, recorded, flipped)?;
@@ -225,11 +226,11 @@ fn anticommutes(letters: &[Letter], factors: &[Factor]) -> bool
     requires in_range { All (λ f. f.qubit < length letters.now) factors.now }
     ensures value { result ≡ factors_anticommute letters.now factors.now }
 {
-    let mut apart = false;
+    let mut anticommuting = false;
     for factor in factors {
-        apart ^= letters[factor.qubit.number()].anticommutes(factor.letter.letter());
+        anticommuting ^= letters[factor.qubit.number()].anticommutes(factor.letter.letter());
     }
-    apart
+    anticommuting
 }
 
 /// Propagates a frame over a measurement of a product.
@@ -241,7 +242,7 @@ fn propagate_product<D: Draw, C: Coins>(
 ) -> Result<bool, AllocError>
     requires same_length { known.strings.now.qubits ≡ length propagation.old.letters }
     requires in_range { All (λ f. f.qubit < length propagation.old.letters) factors.now }
-    requires apart { names_twice factors.now ≡ false }
+    requires distinct { names_twice factors.now ≡ false }
     requires placed { IsPlaced known.free.now propagation.old }
     requires few { D.ahead known.draw.now + propagation.old.coin < 2 ^ 63 }
     ensures length { length propagation.new.letters ≡ length propagation.old.letters }
@@ -249,8 +250,8 @@ fn propagate_product<D: Draw, C: Coins>(
     ensures asks { AsksFree known.entry.free.now propagation.old.coin (propagation.old.coin + 1) (C.asks coins.old) (C.asks coins.new) }
     ensures goes { IfOk result (λ gone. (inverted : Bool) → Goes (length propagation.old.letters) known.entry.strings.now.strings known.entry.free.now (D.changes known.entry.draw.now (C.sequence coins.old)) (product factors.now inverted) propagation.old propagation.new gone) }
 {
-    let apart = anticommutes(propagation.letters(), factors);
-    match propagate_outcome(propagation, known, coins, apart) {
+    let anticommuting = anticommutes(propagation.letters(), factors);
+    match propagate_outcome(propagation, known, coins, anticommuting) {
         Some(flipped) => {
             flip_measured(propagation, true, flipped)?;
             Ok(true)

@@ -1,9 +1,9 @@
 //! Laws of steps: what becomes of a frame on the way.
 
 ghost use Rattle.stab_frames.specs.StepLaws.{FramesAdd, FramesCompose, FramesEnd, PointsHaveGroups, RunsKeepFrames, StepsKeepFrames};
-ghost use Rattle.stab_frames.specs.AgainLaws.{StepsComeFramed};
+ghost use Rattle.stab_frames.specs.AgainLaws.{StepsComePropagated};
 
-/// From two points that differ by a frame a step leads to two that differ by the frame after it, and
+/// From two points that differ by a frame a step comes to two that differ by the frame after it, and
 /// what it gives at the one is what it gives at the other, flipped.
 pub fn steps_keep_frames()
     ensures law { StepsKeepFrames }
@@ -37,7 +37,7 @@ pub fn frames_end()
 {}
 
 /// If a run comes to a point that is as an earlier one except for a frame, as far back as its steps look, steps give there what
-/// they gave, flipped, whatever the coins, and lead to such a point again.
-pub fn steps_come_framed()
-    ensures law { StepsComeFramed }
+/// they gave, flipped, whatever the coins, and come to such a point again.
+pub fn steps_come_propagated()
+    ensures law { StepsComePropagated }
 {}

@@ -124,8 +124,8 @@ letters_anticommute-product =
     refl refl refl refl refl refl refl refl refl
 
 -- a letter is determined by whether it anticommutes with X and with Z
-pub letters_anticommute-tells : (a b : Letter) → letters_anticommute a X ≡ letters_anticommute b X → letters_anticommute a Z ≡ letters_anticommute b Z → a ≡ b
-letters_anticommute-tells =
+pub letters_anticommute-determines : (a b : Letter) → letters_anticommute a X ≡ letters_anticommute b X → letters_anticommute a Z ≡ letters_anticommute b Z → a ≡ b
+letters_anticommute-determines =
     each_letter (λ a. (b : Letter) → letters_anticommute a X ≡ letters_anticommute b X → letters_anticommute a Z ≡ letters_anticommute b Z → a ≡ b)
     (each_letter (λ b. false ≡ letters_anticommute b X → false ≡ letters_anticommute b Z → I ≡ b) (λ x z. refl) (λ x z. cc) (λ x z. cc) (λ x z. cc))
     (each_letter (λ b. false ≡ letters_anticommute b X → true ≡ letters_anticommute b Z → X ≡ b) (λ x z. cc) (λ x z. refl) (λ x z. cc) (λ x z. cc))

@@ -15,14 +15,14 @@ each_phase P a b c d Half = c
 each_phase P a b c d ThreeQuarters = d
 
 -- a test of two powers that is true just at equal ones
-pub tells_phases : (E : Phase → Phase → Bool)
+pub determines_phases : (E : Phase → Phase → Bool)
     → E Zero Zero ≡ true → E Quarter Quarter ≡ true → E Half Half ≡ true → E ThreeQuarters ThreeQuarters ≡ true
     → E Zero Quarter ≡ false → E Zero Half ≡ false → E Zero ThreeQuarters ≡ false
     → E Quarter Zero ≡ false → E Quarter Half ≡ false → E Quarter ThreeQuarters ≡ false
     → E Half Zero ≡ false → E Half Quarter ≡ false → E Half ThreeQuarters ≡ false
     → E ThreeQuarters Zero ≡ false → E ThreeQuarters Quarter ≡ false → E ThreeQuarters Half ≡ false
     → (a b : Phase) → Decides (E a b) (a ≡ b)
-tells_phases E zz qq hh tt zq zh zt qz qh qt hz hq ht tz tq th =
+determines_phases E zz qq hh tt zq zh zt qz qh qt hz hq ht tz tq th =
     each_phase (λ a. (b : Phase) → Decides (E a b) (a ≡ b))
     (each_phase (λ b. Decides (E Zero b) (Zero ≡ b)) (λ e. refl, λ e. zz) (λ e. cc, λ e. cc) (λ e. cc, λ e. cc) (λ e. cc, λ e. cc))
     (each_phase (λ b. Decides (E Quarter b) (Quarter ≡ b)) (λ e. cc, λ e. cc) (λ e. refl, λ e. qq) (λ e. cc, λ e. cc) (λ e. cc, λ e. cc))

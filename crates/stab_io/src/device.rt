@@ -1,7 +1,7 @@
 ghost use Rattle.std.specs.Prelude.{◌≡◌};
 ghost use Rattle.stab_io.specs.Devices.{InputView, OutputView, Reads, Writes, Flushes, WritesAll};
 ghost use Rattle.stab_io.specs.StdDevices.{DeviceState, reader_seen, writer_seen};
-ghost use Rattle.stab_io.specs.inner.Told.{Tells, TakesNoneAsError};
+ghost use Rattle.stab_io.specs.inner.Reported.{Reports, TakesNoneAsError};
 
 use super::refusal::Refusal;
 use std::io;
@@ -84,8 +84,8 @@ impl<T> Device<T> {
     }
 
     // Reports what std answered, and counts an error, of whatever kind, as one failure.
-    fn told<A>(&mut self, answer: io::Result<A>) -> Result<A, DeviceFault>
-        ensures told { Tells answer self.old self.new result }
+    fn reported<A>(&mut self, answer: io::Result<A>) -> Result<A, DeviceFault>
+        ensures reported { Reports answer self.old self.new result }
     {
         match answer {
             Ok(value) => Ok(value),
@@ -113,7 +113,7 @@ impl<T: Read> Input for Device<T> {
 
     fn read(&mut self, buf: &mut [u8]) -> Result<usize, DeviceFault> {
         let answer = self.inner.read(buf);
-        self.told(answer)
+        self.reported(answer)
     }
 }
 
@@ -122,13 +122,13 @@ impl<T: Write> Output for Device<T> {
 
     fn write(&mut self, bytes: &[u8]) -> Result<usize, DeviceFault> {
         let answer = self.inner.write(bytes);
-        self.told(taken(answer, bytes.len()))
+        self.reported(taken(answer, bytes.len()))
     }
 
     fn flush(&mut self) -> Result<(), DeviceFault> {
         self.flushes = self.flushes.saturating_add(1);
         let answer = self.inner.flush();
-        self.told(answer)
+        self.reported(answer)
     }
 }
 

@@ -7,5 +7,6 @@ pub mod GoodItemLemmas
 pub mod SummaryLemmas
 pub mod StepPartLemmas
 pub mod LookLemmas
-pub mod LineApartLemmas
+pub mod LineDistinctLemmas
 mod NothingLemmas
+pub mod CountLemmas

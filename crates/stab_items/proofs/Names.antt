@@ -32,7 +32,7 @@ pub use Rattle.stab_items.specs.Circuits.{Meaning, line_meanings, Joins, nothing
 pub use Rattle.stab_items.specs.Items.{OneItem, Items, operation, repeat, done, next, block, before, listed, join, depth, depth_of, depth_of as nested_in, AreGood}
 pub use Rattle.stab_items.specs.Nothings.{IsNothing}
 pub use Rattle.stab_items.specs.Prints.{PrintedLine, printed_lines, line_text, text_of, printed_in}
-pub use Rattle.stab_items.specs.Steps.{steps_of, past, named_qubits, named_observables, Step, one, two, collapse, detector, observable, measured, measured_product, controlled_step, rounds, unroll, IsApart, detector_in, detector_of, makes, records_of, is_detector, detectors_of, lookbacks, looks_too_far, target_qubits, factor_qubits, product_qubits, controlled_qubits, past_named, qubits_of, observables_of, is_inverted, LooksWithin}
+pub use Rattle.stab_items.specs.Steps.{steps_of, past, named_qubits, named_observables, Step, one, two, collapse, detector, observable, measured, measured_product, controlled_step, rounds, unroll, HasDistinctQubits, detector_in, detector_of, makes, records_of, is_detector, detectors_of, lookbacks, looks_too_far, target_qubits, factor_qubits, product_qubits, controlled_qubits, past_named, qubits_of, observables_of, is_inverted, LooksWithin}
 unfoldable pub use Rattle.stab_items.specs.Steps.{check_of}
 pub use Rattle.stab_items.specs.declared.summary.Summary.{Summary}
 pub use Rattle.stab_items.specs.inner.Kept.{shown, IsKept}

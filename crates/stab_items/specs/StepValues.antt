@@ -6,7 +6,7 @@ use Rattle.stab_items.specs.declared.step.Step.{Step as StepValue}
 use Rattle.stab_items.specs.declared.step.Step.TheVariants.{One, Two, Controlled, Collapse, Product, Detector, Observable}
 use Rattle.stab_items.specs.declared.steps.Steps.{Steps}
 use Rattle.stab_items.specs.declared.steps.Steps.TheVariants.{Gates, Pairs, Measurements, Detectors, Single}
-use Rattle.stab_items.specs.Steps.{Step, one, two, controlled, collapse, product, detector, observable, controlled_step, measured, IsApart}
+use Rattle.stab_items.specs.Steps.{Step, one, two, controlled, collapse, product, detector, observable, controlled_step, measured, HasDistinctQubits}
 use Rattle.stab_items.specs.Detectors.{lookbacks_at}
 
 -- the step that a value stands for
@@ -37,9 +37,9 @@ steps_shown (Detectors ds) = map detector (lookbacks_of ds)
 steps_shown (Single step) = step_shown step ∷ []
 
 -- the same for a step that is given by itself
-abbrev pub IsApartAlone : Steps → Type 0
-IsApartAlone (Gates g qubits) = Unit {0}
-IsApartAlone (Pairs axis pairs) = Unit {0}
-IsApartAlone (Measurements m targets) = Unit {0}
-IsApartAlone (Detectors ds) = Unit {0}
-IsApartAlone (Single step) = IsApart (step_shown step)
+abbrev pub HaveDistinctQubits : Steps → Type 0
+HaveDistinctQubits (Gates g qubits) = Unit {0}
+HaveDistinctQubits (Pairs axis pairs) = Unit {0}
+HaveDistinctQubits (Measurements m targets) = Unit {0}
+HaveDistinctQubits (Detectors ds) = Unit {0}
+HaveDistinctQubits (Single step) = HasDistinctQubits (step_shown step)

@@ -140,14 +140,14 @@ detectors_of [] = 0
 detectors_of (x ∷ xs) = if is_detector x then 1 + detectors_of xs else detectors_of xs
 
 -- a gate on two qubits has two different ones, and so have the factors of a product
-abbrev pub IsApart : Step → Type 0
-IsApart (one g q) = Unit {0}
-IsApart (two g a b) = b ≢ a
-IsApart (controlled l k q) = Unit {0}
-IsApart (collapse l q recorded inverted resets) = Unit {0}
-IsApart (product factors inverted) = names_twice factors ≡ false
-IsApart (detector ks) = Unit {0}
-IsApart (observable j ks) = Unit {0}
+abbrev pub HasDistinctQubits : Step → Type 0
+HasDistinctQubits (one g q) = Unit {0}
+HasDistinctQubits (two g a b) = b ≢ a
+HasDistinctQubits (controlled l k q) = Unit {0}
+HasDistinctQubits (collapse l q recorded inverted resets) = Unit {0}
+HasDistinctQubits (product factors inverted) = names_twice factors ≡ false
+HasDistinctQubits (detector ks) = Unit {0}
+HasDistinctQubits (observable j ks) = Unit {0}
 
 -- how far back a step looks: the numbers k of its rec[-k]
 abbrev pub lookbacks : Step → List ℕ

@@ -51,13 +51,13 @@ pub fn push_copies(
     alloc: Global,
     items: &mut Vec<Item>,
     first: usize,
-    behind: usize,
+    following: usize,
 ) -> Result<(), AllocError>
-    requires within { behind ≤ length items.old.items }
-    requires order { first ≤ behind }
-    ensures ok { OnOk result (items.new.items ≡ items.old.items ++ drop first (take behind items.old.items)) }
+    requires within { following ≤ length items.old.items }
+    requires order { first ≤ following }
+    ensures ok { OnOk result (items.new.items ≡ items.old.items ++ drop first (take following items.old.items)) }
 {
-    for place in first..behind {
+    for place in first..following {
         let copy = copied_item(alloc, &items[place])?;
         items.push(copy)?;
     }

@@ -1,7 +1,7 @@
 ghost use Rattle.std.specs.Prelude.{◌≡◌, ◌<◌, ◌+◌, ◌^◌, [], ◌∷◌, true, false, length, map, slice_get, IfSome};
 ghost use Rattle.stab_gates.specs.declared.gate.PairGate.TheVariants as gate;
 ghost use Rattle.stab_lines.specs.Axes.{letter_of};
-ghost use Rattle.stab_items.specs.Steps.{one, two, collapse, measured as measured_of, is_inverted as is_inverted_of, measured_product as measured_product_step, controlled_gate as controlled_gate_of, controlled_step, steps_of, IsApart};
+ghost use Rattle.stab_items.specs.Steps.{one, two, collapse, measured as measured_of, is_inverted as is_inverted_of, measured_product as measured_product_step, controlled_gate as controlled_gate_of, controlled_step, steps_of, HasDistinctQubits};
 ghost use Rattle.stab_items.specs.StepValues.{step_shown, shown_step};
 
 use crate::step::Step;
@@ -37,7 +37,7 @@ fn is_inverted(factors: &[Factor]) -> bool
 /// The step of a measured product.
 fn measured_product(product: &Product) -> Step
     ensures value { step_shown result ≡ measured_product_step product.now }
-    ensures apart { IsApart (step_shown result) }
+    ensures distinct { HasDistinctQubits (step_shown result) }
 {
     let factors = product.as_slice();
     Step::Product {
@@ -60,7 +60,7 @@ pub fn controlled_gate(axis: Axis) -> PairGate
 /// The step of a pair of a controlled gate.
 fn controlled(axis: Axis, pair: &ControlledPair) -> Step<'static>
     ensures value { step_shown result ≡ controlled_step axis pair.now }
-    ensures apart { IsApart (step_shown result) }
+    ensures distinct { HasDistinctQubits (step_shown result) }
 {
     match pair {
         ControlledPair::Qubits(pair) => {
@@ -75,7 +75,7 @@ fn controlled(axis: Axis, pair: &ControlledPair) -> Step<'static>
 
 fn gate_at(gate: Gate, qubits: &[Qubit], place: usize) -> Option<Step<'static>>
     ensures value { shown_step result ≡ slice_get (map (one gate) qubits.now) place }
-    ensures apart { IfSome result (λ s. IsApart (step_shown s)) }
+    ensures distinct { IfSome result (λ s. HasDistinctQubits (step_shown s)) }
     ensures room { IfSome result (λ s. place + 1 < 2 ^ 64) }
 {
     match qubits.get(place) {
@@ -86,7 +86,7 @@ fn gate_at(gate: Gate, qubits: &[Qubit], place: usize) -> Option<Step<'static>>
 
 fn controlled_at(axis: Axis, pairs: &[ControlledPair], place: usize) -> Option<Step<'static>>
     ensures value { shown_step result ≡ slice_get (map (controlled_step axis) pairs.now) place }
-    ensures apart { IfSome result (λ s. IsApart (step_shown s)) }
+    ensures distinct { IfSome result (λ s. HasDistinctQubits (step_shown s)) }
     ensures room { IfSome result (λ s. place + 1 < 2 ^ 64) }
 {
     match pairs.get(place) {
@@ -97,7 +97,7 @@ fn controlled_at(axis: Axis, pairs: &[ControlledPair], place: usize) -> Option<S
 
 fn swap_at(pairs: &[Pair], place: usize) -> Option<Step<'static>>
     ensures value { shown_step result ≡ slice_get (map (λ pair. two gate.Swap pair.0 pair.1) pairs.now) place }
-    ensures apart { IfSome result (λ s. IsApart (step_shown s)) }
+    ensures distinct { IfSome result (λ s. HasDistinctQubits (step_shown s)) }
     ensures room { IfSome result (λ s. place + 1 < 2 ^ 64) }
 {
     match pairs.get(place) {
@@ -115,7 +115,7 @@ fn measurement_at(
     place: usize,
 ) -> Option<Step<'static>>
     ensures value { shown_step result ≡ slice_get (map (measured_of measurement) targets.now) place }
-    ensures apart { IfSome result (λ s. IsApart (step_shown s)) }
+    ensures distinct { IfSome result (λ s. HasDistinctQubits (step_shown s)) }
     ensures room { IfSome result (λ s. place + 1 < 2 ^ 64) }
 {
     match targets.get(place) {
@@ -126,7 +126,7 @@ fn measurement_at(
 
 fn reset_at(axis: Axis, qubits: &[Qubit], place: usize) -> Option<Step<'static>>
     ensures value { shown_step result ≡ slice_get (map (λ q. collapse (letter_of axis) q false false true) qubits.now) place }
-    ensures apart { IfSome result (λ s. IsApart (step_shown s)) }
+    ensures distinct { IfSome result (λ s. HasDistinctQubits (step_shown s)) }
     ensures room { IfSome result (λ s. place + 1 < 2 ^ 64) }
 {
     match qubits.get(place) {
@@ -143,7 +143,7 @@ fn reset_at(axis: Axis, qubits: &[Qubit], place: usize) -> Option<Step<'static>>
 
 fn product_at(products: &[Product], place: usize) -> Option<Step<'_>>
     ensures value { shown_step result ≡ slice_get (map measured_product_step products.now) place }
-    ensures apart { IfSome result (λ s. IsApart (step_shown s)) }
+    ensures distinct { IfSome result (λ s. HasDistinctQubits (step_shown s)) }
     ensures room { IfSome result (λ s. place + 1 < 2 ^ 64) }
 {
     match products.get(place) {
@@ -154,9 +154,9 @@ fn product_at(products: &[Product], place: usize) -> Option<Step<'_>>
 
 /// The only step of an instruction, at the first place.
 fn only_at(step: Step<'_>, place: usize) -> Option<Step<'_>>
-    requires apart { IsApart (step_shown step) }
+    requires distinct { HasDistinctQubits (step_shown step) }
     ensures value { shown_step result ≡ slice_get (step_shown step.entry ∷ []) place }
-    ensures apart { IfSome result (λ s. IsApart (step_shown s)) }
+    ensures distinct { IfSome result (λ s. HasDistinctQubits (step_shown s)) }
     ensures room { IfSome result (λ s. place + 1 < 2 ^ 64) }
 {
     if place == 0 { Some(step) } else { None }
@@ -165,7 +165,7 @@ fn only_at(step: Step<'_>, place: usize) -> Option<Step<'_>>
 /// The step of an instruction at a place among its steps.
 pub fn step_at(kind: &Kind, place: usize) -> Option<Step<'_>>
     ensures value { shown_step result ≡ slice_get (steps_of kind.now) place }
-    ensures apart { IfSome result (λ s. IsApart (step_shown s)) }
+    ensures distinct { IfSome result (λ s. HasDistinctQubits (step_shown s)) }
     ensures room { IfSome result (λ s. place + 1 < 2 ^ 64) }
 {
     match kind {

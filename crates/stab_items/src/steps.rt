@@ -1,6 +1,6 @@
 ghost use Rattle.std.specs.Prelude.{◌≡◌, ◌≤◌, ◌<◌, ◌+◌, ◌++◌, ◌^◌, [], length, take, drop, IfSome, IfNone};
 ghost use Rattle.stab_items.specs.Steps.{steps_of};
-ghost use Rattle.stab_items.specs.StepValues.{steps_shown, IsApartAlone};
+ghost use Rattle.stab_items.specs.StepValues.{steps_shown, HaveDistinctQubits};
 
 use crate::detectors::Detectors;
 use crate::instruction_steps::step_at;
@@ -62,7 +62,7 @@ pub fn steps_from(kind: &Kind, place: usize, most: usize) -> Option<Steps<'_>>
     requires some { 0 < most }
     ensures some { IfSome result (λ s. drop place (steps_of kind.now) ≡ steps_shown s ++ drop (place + length (steps_shown s)) (steps_of kind.now)) }
     ensures within { IfSome result (λ s. (0 < length (steps_shown s)) × (length (steps_shown s) ≤ most) × (place + length (steps_shown s) < 2 ^ 64)) }
-    ensures apart { IfSome result IsApartAlone }
+    ensures distinct { IfSome result HaveDistinctQubits }
     ensures none { IfNone result (drop place (steps_of kind.now) ≡ []) }
 {
     match kind {

@@ -105,14 +105,16 @@ pub enum Command {
         options: DistanceOptions,
     },
     /// Edits the circuit by a script, on this many qubits or on as many as it names, and writes the
-    /// replies, framed if a program is to read them.
+    /// replies, counted if a program is to read them.
     Edit {
         framed: bool,
         qubits: Option<QubitCount>,
         stride: Stride,
     },
-    /// Writes what a Pauli string becomes that is put in, and what it flips.
-    Propagate,
+    /// Writes what a Pauli string becomes that is put in, or what it is at `every` tick, and what it flips.
+    Propagate {
+        every: bool,
+    },
 }
 
 /// What the words of a command line ask for: a command, and what every command has.

@@ -1,4 +1,4 @@
-//! Jobs: what a user can ask for, apart from how it is done.
+//! Jobs: what a user can ask for, without how it is done.
 //!
 //! - `numbers`: how many shots, qubits and steps between checkpoints.
 //! - `job`: where coins come from, the commands with their options, and the job that the words of a command line ask for.

@@ -51,8 +51,8 @@ module _ (a b mask s : ℕ) where
       by_end (inr (inl none)) = absurd (omega (arith, none.0, none.1))
       by_end (inr (inr le)) = word_bit-cut_off (n * 2 ^ s % 18446744073709551616) 64 k (omega arith) le
 
-  raised-behind : (n k : ℕ) → 64 ≤ k → word_bit (n * 2 ^ s % 18446744073709551616) k ≡ false
-  raised-behind n k le = word_bit-cut_off (n * 2 ^ s % 18446744073709551616) 64 k (omega arith) le
+  raised-following : (n k : ℕ) → 64 ≤ k → word_bit (n * 2 ^ s % 18446744073709551616) k ≡ false
+  raised-following n k le = word_bit-cut_off (n * 2 ^ s % 18446744073709551616) 64 k (omega arith) le
 
   lifted : (k : ℕ) → word_bit (differing a b mask s * 2 ^ s % 18446744073709551616) k ≡ (word_bit a k ⊕ word_bit b (k - s)) && word_bit (raised mask s) k
   lifted k = by_place (by_size s k)
@@ -63,7 +63,7 @@ module _ (a b mask s : ℕ) where
           let back : k - s + s ≡ k = omega (arith, h.0) in
           raised-at (differing a b mask s) k h.0 h.1 ∙ differing-at (k - s)
           ∙ (λ i. (word_bit a (back i) ⊕ word_bit b (k - s)) && sym (raised-at mask k h.0 h.1) i)
-      by_place (inr (inr le)) = raised-behind (differing a b mask s) k le ∙ sym (and-false _ _ (raised-behind mask k le))
+      by_place (inr (inr le)) = raised-following (differing a b mask s) k le ∙ sym (and-false _ _ (raised-following mask k le))
 
   first_exchanged-at : (k : ℕ) → word_bit (first_exchanged a b mask s) k ≡ (if word_bit (raised mask s) k then word_bit b (k - s) else word_bit a k)
   first_exchanged-at k =

@@ -81,16 +81,16 @@ module _ {W : Type 0} (at : W → ℕ → Bool) (l : ℕ) (ws : List (Letters W)
       ∙ ap (set (set (lane_letters at l ws) a _) b) (more ∙ (λ i. letter_at (pair_letters g (letter-read a w la at_a i) (letter-read b v lb at_b i)).letters 1))
 
   -- a letter that the first controls, and Z put on the first
-  pub control-put : (g : PairGate) (c : Letter) (a b : ℕ) (u v w m x y : Letters W) (apart : Bool) → controlled_letter g ≡ Some c → b ≢ a
+  pub control-put : (g : PairGate) (c : Letter) (a b : ℕ) (u v w m x y : Letters W) (distinct : Bool) → controlled_letter g ≡ Some c → b ≢ a
       → a < length ws → b < length ws → u ≡ get_or ws a u → v ≡ get_or ws b v → w ≡ get_or ws a w → m ≡ get_or (set ws a x) b m
-      → apart ≡ letters_anticommute (letter_in at l v) c
-      → letter_in at l x ≡ letter_times apart Z (letter_in at l w)
+      → distinct ≡ letters_anticommute (letter_in at l v) c
+      → letter_in at l x ≡ letter_times distinct Z (letter_in at l w)
       → letter_in at l y ≡ letter_times (at u.x l) c (letter_in at l m)
       → lane_letters at l (set (set ws a x) b y) ≡ (image_pair g a b (plus (lane_letters at l ws))).letters
-  control-put g c a b u v w m x y apart is other la lb at_u at_b at_a at_m tells first second =
+  control-put g c a b u v w m x y distinct is other la lb at_u at_b at_a at_m determines first second =
       let same : m ≡ get_or ws b m = at_m ∙ get_or-set_other ws a b x m other in
       pair-put g a b w m x y la lb at_a same
-      (first ∙ ap (λ t. letter_times t Z (letter_in at l w)) (tells ∙ ap (λ k. letters_anticommute k c) (letter-read b v lb at_b ∙ sym (letter-read b m lb same)))
+      (first ∙ ap (λ t. letter_times t Z (letter_in at l w)) (determines ∙ ap (λ k. letters_anticommute k c) (letter-read b v lb at_b ∙ sym (letter-read b m lb same)))
       ∙ times-product _ Z (letter_in at l w)
       ∙ sym (first_controlled g (letter_in at l w) (letter_in at l m) ∙ ap (λ o. first_by o (letter_in at l w) (letter_in at l m)) is))
       (second ∙ ap (λ t. letter_times t c (letter_in at l m)) (sym (has_x_bits (at u.x l) (at u.z l)) ∙ ap has_x (letter-read a u la at_u ∙ sym (letter-read a w la at_a)))

@@ -7,10 +7,10 @@ map-replicate f (suc n) x y e = λ i. e i ∷ map-replicate f n x y e i
 
 -- additions, one by one
 
-pub adds-next : {W : Type 0} (at : W → ℕ → Bool) (l : ℕ) (sums : List (Sum W)) (i : ℕ) (s : Sum W) (bits behind total : List Bool) → i < length sums → s ≡ get_or sums i s
-    → with_additions (lane_additions at l (drop i sums)) bits ≡ total → behind ≡ added s.observable (at s.parity l) bits
-    → with_additions (lane_additions at l (drop (i + 1) sums)) behind ≡ total
-adds-next {W = W} at l sums i s bits behind total lt is were are =
+pub adds-next : {W : Type 0} (at : W → ℕ → Bool) (l : ℕ) (sums : List (Sum W)) (i : ℕ) (s : Sum W) (bits following total : List Bool) → i < length sums → s ≡ get_or sums i s
+    → with_additions (lane_additions at l (drop i sums)) bits ≡ total → following ≡ added s.observable (at s.parity l) bits
+    → with_additions (lane_additions at l (drop (i + 1) sums)) following ≡ total
+adds-next {W = W} at l sums i s bits following total lt is were are =
     ap (with_additions (lane_additions at l (drop (i + 1) sums))) are
     ∙ ap (λ (x : Sum W). with_additions (lane_additions at l (x ∷ drop (i + 1) sums)) bits) is
     ∙ ap (λ r. with_additions (lane_additions at l r) bits) (sym (drop_more sums i s lt))

@@ -18,10 +18,10 @@ pub use Rattle.std.specs.Ordering.{nat_cmp}
 pub use Rattle.std.specs.Prelude.{slice_get, None, if◌then◌else◌, bit_xor, ◌⊎◌, Option, bit_and, Some, IfSome}
 pub use Rattle.std.specs.Slice.Iter.{chunks_rest, chunks_size}
 pub use Rattle.rand_chacha.specs.ChaCha.{word_at}
-pub use Rattle.stab_edits.specs.Cursors.{steps_shown, step_shown, lookbacks_of, IsApart}
+pub use Rattle.stab_edits.specs.Cursors.{steps_shown, step_shown, lookbacks_of, HasDistinctQubits}
 pub use Rattle.stab_items.specs.Steps.{Step, one, two, controlled, collapse, product, detector, observable, unroll, controlled_step, measured}
 pub use Rattle.stab_edits.specs.Views.{circuit_items}
-pub use Rattle.stab_frames.proofs.FactorLemmas.{factors-apart}
+pub use Rattle.stab_frames.proofs.FactorLemmas.{factors-distinct}
 pub use Rattle.stab_frames.proofs.ImageLemmas.{first_by, second_by, first_controlled, second_controlled}
 pub use Rattle.stab_frames.proofs.OverLemmas.{frame-append, flips-append}
 pub use Rattle.stab_frames.proofs.PivotsStepsLemmas.{coins-gates, coins-pairs, coins-detectors}

@@ -70,18 +70,18 @@ length-row lane (block ∷ blocks) =
     length-append (to_le_bytes w64 (get_or block lane 0)) (row_bytes lane blocks) ∙ ap (λ n. 8 + n) (length-row lane blocks) ∙ omega arith
 
 -- a block more, of 64 words or of those that are left
-pub next-block : (lane : ℕ) (rest group behind : List ℕ) (size : ℕ) (block : List ℕ) (blocks new : List (List ℕ)) (total : List Bool)
-    → size ≡ 64 → rest ≡ group ++ behind → length group ≡ min size (length rest)
+pub next-block : (lane : ℕ) (rest group following : List ℕ) (size : ℕ) (block : List ℕ) (blocks new : List (List ℕ)) (total : List Bool)
+    → size ≡ 64 → rest ≡ group ++ following → length group ≡ min size (length rest)
     → ((k : ℕ) → k < 64 → word_bit (get_or block lane 0) k ≡ get_or (lane_bits word_bit lane group) k false)
     → ((bytes : List ℕ) → BeginWith bytes (lane_bits word_bit lane rest) → BeginWith (row_bytes lane blocks ++ bytes) total)
-    → new ≡ blocks ++ block ∷ [] → (bytes : List ℕ) → BeginWith bytes (lane_bits word_bit lane behind) → BeginWith (row_bytes lane new ++ bytes) total
-next-block lane rest group behind size block blocks new total whole cut short are so_far is bytes begin =
+    → new ≡ blocks ++ block ∷ [] → (bytes : List ℕ) → BeginWith bytes (lane_bits word_bit lane following) → BeginWith (row_bytes lane new ++ bytes) total
+next-block lane rest group following size block blocks new total whole cut short are so_far is bytes begin =
     let bit : ℕ → Bool = λ w. word_bit w lane in
     let word = get_or block lane 0 in
     let count : length group ≡ min 64 (length rest) = short ∙ ap (λ n. min n (length rest)) whole in
-    let front : take 64 rest ≡ group = sym (take_min 64 rest) ∙ ap (λ r. take (min 64 (length rest)) r) cut ∙ take_at group behind (min 64 (length rest)) count in
-    let back : drop 64 rest ≡ behind = sym (drop_min 64 rest) ∙ ap (λ r. drop (min 64 (length rest)) r) cut ∙ drop_at group behind (min 64 (length rest)) count in
-    let left : lane_bits word_bit lane behind ≡ drop 64 (lane_bits word_bit lane rest) = ap (lane_bits word_bit lane) (sym back) ∙ sym (drop-map bit 64 rest) in
+    let front : take 64 rest ≡ group = sym (take_min 64 rest) ∙ ap (λ r. take (min 64 (length rest)) r) cut ∙ take_at group following (min 64 (length rest)) count in
+    let back : drop 64 rest ≡ following = sym (drop_min 64 rest) ∙ ap (λ r. drop (min 64 (length rest)) r) cut ∙ drop_at group following (min 64 (length rest)) count in
+    let left : lane_bits word_bit lane following ≡ drop 64 (lane_bits word_bit lane rest) = ap (lane_bits word_bit lane) (sym back) ∙ sym (drop-map bit 64 rest) in
     let joined : row_bytes lane blocks ++ (to_le_bytes w64 word ++ bytes) ≡ row_bytes lane new ++ bytes =
     sym (append_assoc (row_bytes lane blocks) (to_le_bytes w64 word) bytes) ∙ ap (λ r. r ++ bytes) (sym (more-blocks lane blocks block)) ∙ ap (λ b. row_bytes lane b ++ bytes) (sym is) in
     subst (λ r. BeginWith r total) joined

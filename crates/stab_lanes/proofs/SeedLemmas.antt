@@ -144,7 +144,7 @@ part-next c left group part words coins lt made here are p k l small few less = 
         (ap (λ w. word_bit (get_or w k 0) l) (get_or-set_same words part coins [] lt) ∙ here k l few less ∙ are l (64 * group + k))
     by_order (inr (inl before)) =
         ap (λ w. word_bit (get_or w k 0) l) (get_or-set_other words part p coins [] (λ e. absurd (omega (arith, e, before)))) ∙ made p k l before few less
-    by_order (inr (inr behind)) = absurd (omega (arith, small, behind))
+    by_order (inr (inr following)) = absurd (omega (arith, small, following))
 
 pub left-next : (c left now : SeededShots) (part : ℕ) → ((l t : ℕ) → lane_coin left l t ≡ lane_coin c (64 * part + l) t)
     → ((l t : ℕ) → lane_coin now l t ≡ lane_coin left (64 + l) t) → (l t : ℕ) → lane_coin now l t ≡ lane_coin c (64 * (part + 1) + l) t

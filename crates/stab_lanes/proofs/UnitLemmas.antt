@@ -8,8 +8,8 @@ use Rattle.stab_lanes.proofs.MovedBitLemmas.{word_bit-cut}
 alike : (a b : ℕ) → a ≡ b → (a == b) ≡ true
 alike a b e = grind (arith, e)
 
-apart : (a b : ℕ) → (a ≡ b → ⊥) → (a == b) ≡ false
-apart a b ne = grind (arith, ne)
+distinct : (a b : ℕ) → (a ≡ b → ⊥) → (a == b) ≡ false
+distinct a b ne = grind (arith, ne)
 
 -- a word of which one bit is 1
 
@@ -18,7 +18,7 @@ word_bit-pow k l = by_cases (cases_eq l k)
   where
     by_cases : (l ≡ k) ⊎ (l ≡ k → ⊥) → word_bit (2 ^ k) l ≡ (l == k)
     by_cases (inl e) = ap (word_bit (2 ^ k)) e ∙ ap (λ b. eqb b 1) (bit_at-pow_same k) ∙ sym (alike l k e)
-    by_cases (inr ne) = ap (λ b. eqb b 1) (bit_at-pow_other k l ne) ∙ sym (apart l k ne)
+    by_cases (inr ne) = ap (λ b. eqb b 1) (bit_at-pow_other k l ne) ∙ sym (distinct l k ne)
 
 -- a one that is moved up
 pub word_bit-moved : (k l : ℕ) → l < 64 → word_bit (1 * 2 ^ k % 2 ^ 64) l ≡ (l == k)
@@ -30,7 +30,7 @@ wide_bit-with n k l w is within lt = by_word (cases_eq (l / 64) (k / 64))
   where
     by_bit : l / 64 ≡ k / 64 → (l % 64 ≡ k % 64) ⊎ (l % 64 ≡ k % 64 → ⊥) → (l % 64 == k % 64) ≡ (l == k)
     by_bit e (inl r) = alike (l % 64) (k % 64) r ∙ sym (alike l k (omega (arith, e, r)))
-    by_bit e (inr ne) = apart (l % 64) (k % 64) ne ∙ sym (apart l k (λ same. ne (ap (λ m. m % 64) same)))
+    by_bit e (inr ne) = distinct (l % 64) (k % 64) ne ∙ sym (distinct l k (λ same. ne (ap (λ m. m % 64) same)))
 
     by_word : (l / 64 ≡ k / 64) ⊎ (l / 64 ≡ k / 64 → ⊥) → wide_bit (set (replicate n 0) (k / 64) w) l ≡ (l == k)
     by_word (inl e) =
@@ -45,14 +45,14 @@ wide_bit-with n k l w is within lt = by_word (cases_eq (l / 64) (k / 64))
     by_word (inr ne) =
         ap (λ w. word_bit w (l % 64)) (get_or-set_other (replicate n 0) (k / 64) (l / 64) w 0 ne ∙ get_or-replicate n (l / 64) 0 0 (omega (arith, lt)))
         ∙ word_bit-zero (l % 64)
-        ∙ sym (apart l k (λ same. ne (ap (λ m. m / 64) same)))
+        ∙ sym (distinct l k (λ same. ne (ap (λ m. m / 64) same)))
 
 pub one_wide_bit : (n k l : ℕ) → k / 64 < n → l < 64 * n → wide_bit (set (replicate n 0) (k / 64) (1 * 2 ^ (k % 64) % 2 ^ 64)) l ≡ (l == k)
 one_wide_bit n k l within lt = wide_bit-with n k l (1 * 2 ^ (k % 64) % 2 ^ 64) refl within lt
 
 pub no_wide_bit : (n k l : ℕ) → n ≤ k / 64 → l < 64 * n → wide_bit (replicate n 0) l ≡ (l == k)
 no_wide_bit n k l high lt =
-    wide_bit-all n 0 l false lt (λ r less. word_bit-zero r) ∙ sym (apart l k (λ same. absurd (omega (arith, ap (λ m. m / 64) same, high, lt))))
+    wide_bit-all n 0 l false lt (λ r less. word_bit-zero r) ∙ sym (distinct l k (λ same. absurd (omega (arith, ap (λ m. m / 64) same, high, lt))))
 
 -- the lane that a search finds
 
@@ -71,7 +71,7 @@ module _ (numbers : List ℕ) (up : AreAscending numbers) (t : ℕ) where
   never l none = by_cases (cases_lt l (length numbers))
     where
       by_cases : (l < length numbers) ⊎ (length numbers ≤ l) → unit_coin numbers l t ≡ false
-      by_cases (inl lt) = λ i. is_less l (length numbers) lt i && apart (get_or numbers l 0) t (none lt) i
+      by_cases (inl lt) = λ i. is_less l (length numbers) lt i && distinct (get_or numbers l 0) t (none lt) i
       by_cases (inr le) = ap (λ b. b && (get_or numbers l 0 == t)) (is_beyond l (length numbers) le)
 
   pub unit-found : (k l : ℕ) → k < length numbers → get_or numbers k 0 ≡ t → (l == k) ≡ unit_coin numbers l t
@@ -86,7 +86,7 @@ module _ (numbers : List ℕ) (up : AreAscending numbers) (t : ℕ) where
 
       by_cases : (l ≡ k) ⊎ (l ≡ k → ⊥) → (l == k) ≡ unit_coin numbers l t
       by_cases (inl e) = alike l k e ∙ sym (always l (omega (arith, e, within)) (ap (λ m. get_or numbers m 0) e ∙ here))
-      by_cases (inr ne) = apart l k ne ∙ sym (never l (other ne))
+      by_cases (inr ne) = distinct l k ne ∙ sym (never l (other ne))
 
   pub unit-absent : (k l : ℕ) → ((i : ℕ) → i < k → get_or numbers i 0 < t) → ((i : ℕ) → k ≤ i → i < length numbers → t < get_or numbers i 0) → false ≡ unit_coin numbers l t
   unit-absent k l below above = sym (never l none)

@@ -49,7 +49,7 @@ pub record IsMeasuredBy (pivots : RunPivots) (measured : Signed) (flip : Bool) (
   pub letters : new.letters ≡ letters_measured pivots (next_coin old) measured old.letters
   pub flips : new.flips ≡ record old.flips { free = old.flips.free ++ false ∷ [] }
 
--- after these steps from the first on: they give with the coins of a lane what they give with coins 0, flipped, and lead to points that
+-- after these steps from the first on: they give with the coins of a lane what they give with coins 0, flipped, and come to points that
 -- differ by its frame; which outcomes are random is flipped nowhere
 pub record IsLane (n : ℕ) (coins : ℕ → Bool) (xs : List Step) (d : Difference) : Type 0 where
   pub flips : RunOutput

@@ -56,15 +56,15 @@ impl<W: Word> Frames<W> {
     pub fn apply_pair(&mut self, gate: PairGate, first: usize, second: usize)
         requires first_in_range { first < length self.old.letters.items }
         requires second_in_range { second < length self.old.letters.items }
-        requires apart { second ≢ first }
+        requires distinct { second ≢ first }
         ensures size { length self.new.letters.items ≡ length self.old.letters.items }
         ensures letters { (l : ℕ) → l < W.lanes → lane_letters W.at l self.new.letters.items ≡ (image_pair gate first second (plus (lane_letters W.at l self.old.letters.items))).letters }
     {
         match controlled_letter(gate) {
             Some(letter) => {
                 let controls = self.letters[first].x;
-                let apart = self.letters[second].anticommuting(letter);
-                self.letters[first].multiply(Letter::Z, apart);
+                let anticommuting = self.letters[second].anticommuting(letter);
+                self.letters[first].multiply(Letter::Z, anticommuting);
                 self.letters[second].multiply(letter, controls);
             }
             None => {
@@ -86,7 +86,7 @@ impl<W: Word> Frames<W> {
     /// The lanes whose string anticommutes with a product of letters on different qubits.
     pub fn anticommuting_factors(&self, factors: &[Factor]) -> W
         requires in_range { All (λ f. f.qubit < length self.now.letters.items) factors.now }
-        requires apart { names_twice factors.now ≡ false }
+        requires distinct { names_twice factors.now ≡ false }
         ensures value { (l : ℕ) → l < W.lanes → W.at result l ≡ strings_anticommute (lane_letters W.at l self.now.letters.items) (string_of (length self.now.letters.items) factors.now).letters }
     {
         let mut anticommuting = W::all(false);

@@ -45,6 +45,7 @@ pub use lanes::{Lanes, looked_up, observables, write_lane};
 pub use letters::Letters;
 pub use measure::RecordedPivots;
 pub use part::{propagate_along, propagate_part};
+pub use step::push_when;
 pub use units::{UnitLanes, UnitWord};
 pub use wide::Wide;
 pub use word::Word;

@@ -88,7 +88,7 @@ pub fn measure_product<W: Word, D: Draw<W>>(
     factors: &[Factor],
 ) -> Result<W, AllocError>
     requires in_range { All (λ f. f.qubit < recorded_pivots.strings.now.qubits) factors.now }
-    requires apart { names_twice factors.now ≡ false }
+    requires distinct { names_twice factors.now ≡ false }
     requires all { HasAll recorded_pivots }
     requires counted { IsCounted recorded_pivots number.old (length lanes.old.free.items) }
     requires frames { length lanes.old.frames.letters.items ≡ recorded_pivots.strings.now.qubits }

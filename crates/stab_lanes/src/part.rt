@@ -78,7 +78,7 @@ pub fn propagate_part<W: Word, D: Draw<W>>(
     Ok(())
 }
 
-/// Leads all lanes, which went over the steps before this one, over this many more.
+/// Propagates all lanes, which went over the steps before this one, over this many more.
 pub fn propagate_along<W: Word, D: Draw<W>>(
     alloc: Global,
     circuit: &Circuit,

@@ -2,7 +2,7 @@
 ghost use Rattle.std.specs.Prelude.{◌≡◌, ℕ, ◌+◌, ◌<◌, ◌∷◌, [], ◌++◌, ◌&&◌, if◌then◌else◌, length, OnOk};
 ghost use Rattle.stab_pauli.specs.Paulis.{single};
 ghost use Rattle.stab_frames.specs.Frames.{times_where};
-ghost use Rattle.stab_edits.specs.Cursors.{step_shown, IsApart};
+ghost use Rattle.stab_edits.specs.Cursors.{step_shown, HasDistinctQubits};
 ghost use Rattle.stab_run.specs.Runs.{flip_of};
 ghost use Rattle.stab_run.specs.Points.{coins_of};
 ghost use Rattle.stab_run.specs.ProgramStates.{StepFits};
@@ -31,12 +31,12 @@ fn reset_if<W: Word>(frames: &mut Frames<W>, letter: Letter, qubit: usize, reset
     }
 }
 
-/// Appends bits, if there are any.
-fn push_when<W: Word>(words: &mut Vec<W>, test: bool, word: W) -> Result<(), AllocError>
-    ensures value { OnOk result (words.new.items ≡ words.old.items ++ (if test then word ∷ [] else [])) }
+/// Appends an item, if there is one.
+pub fn push_when<T: Copy>(items: &mut Vec<T>, test: bool, item: T) -> Result<(), AllocError>
+    ensures value { OnOk result (items.new.items ≡ items.old.items ++ (if test then item ∷ [] else [])) }
 {
     if test {
-        words.push(word)?;
+        items.push(item)?;
     }
     Ok(())
 }
@@ -53,7 +53,7 @@ pub fn propagate_step<W: Word, D: Draw<W>>(
     requires counted { IsCounted recorded_pivots number.old (length lanes.old.free.items) }
     requires frames { length lanes.old.frames.letters.items ≡ recorded_pivots.strings.now.qubits }
     requires fits { StepFits recorded_pivots.strings.now.qubits (step_shown step) }
-    requires apart { IsApart (step_shown step) }
+    requires distinct { HasDistinctQubits (step_shown step) }
     ensures counted { OnOk result (IsCounted recorded_pivots.entry number.new (length lanes.new.free.items)) }
     ensures coin { OnOk result (length lanes.new.free.items ≡ length lanes.old.free.items + coins_of (step_shown step.entry)) }
     ensures frames { length lanes.new.frames.letters.items ≡ length lanes.old.frames.letters.items }

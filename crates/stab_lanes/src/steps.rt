@@ -1,7 +1,7 @@
 //! Steps of one instruction, or of detectors, together on the lanes that are propagated over what is recorded of a run.
 ghost use Rattle.std.specs.Prelude.{◌≡◌, ℕ, ◌+◌, ◌<◌, ◌∷◌, [], All, length, map, OnOk};
 ghost use Rattle.stab_items.specs.Steps.{one, controlled_step, measured, detector};
-ghost use Rattle.stab_edits.specs.Cursors.{lookbacks_of, steps_shown, IsApartAlone};
+ghost use Rattle.stab_edits.specs.Cursors.{lookbacks_of, steps_shown, HaveDistinctQubits};
 ghost use Rattle.stab_run.specs.Points.{all_coins_of};
 ghost use Rattle.stab_run.specs.ProgramStates.{StepFits};
 ghost use Rattle.stab_frames.specs.RunPivots.{RunPivots};
@@ -120,7 +120,7 @@ pub fn propagate_instruction<W: Word, D: Draw<W>>(
     requires counted { IsCounted recorded_pivots number.old (length lanes.old.free.items) }
     requires frames { length lanes.old.frames.letters.items ≡ recorded_pivots.strings.now.qubits }
     requires fits { All (StepFits recorded_pivots.strings.now.qubits) (steps_shown steps) }
-    requires apart { IsApartAlone steps }
+    requires distinct { HaveDistinctQubits steps }
     ensures counted { OnOk result (IsCounted recorded_pivots.entry number.new (length lanes.new.free.items)) }
     ensures coin { OnOk result (length lanes.new.free.items ≡ length lanes.old.free.items + all_coins_of (steps_shown steps.entry)) }
     ensures frames { length lanes.new.frames.letters.items ≡ length lanes.old.frames.letters.items }

@@ -39,7 +39,7 @@ fn key_bytes(seed: u64) -> [u8; 32]
 fn next_block(words: &mut ChaCha8Rng) -> [u32; 16]
     requires in_stream { words.old.word_pos + 16 < 2 ^ 68 }
     ensures each { (k : ℕ) → k < 16 → slice_index_or result k 0 ≡ word_at 4 words.old.key words.old.stream (words.old.word_pos + k) }
-    ensures behind { words.new ≡ record words.old { word_pos = words.old.word_pos + 16 } }
+    ensures following { words.new ≡ record words.old { word_pos = words.old.word_pos + 16 } }
 {
     [
         words.next_word(),

@@ -11,7 +11,7 @@ use Rattle.stab_line_reader.proofs.NeatLemmas.{Ends, ends-append, solid_word}
 use Rattle.stab_line_reader.proofs.AgainLemmas.{IsWord, AreWords, decimal_digits, decimal_some, target_word, lookback_word, qubits_words, pairs_spaced, pair_qubits_good}
 use Rattle.stab_line_reader.proofs.FactorLemmas.{product_free, product_word}
 use Rattle.stab_line_reader.proofs.ControlAgainLemmas.{flat, flat_words, controlled_spaced}
-use Rattle.stab_line_reader.proofs.ShapeLemmas.{IsName, IsApart, name_is}
+use Rattle.stab_line_reader.proofs.ShapeLemmas.{IsName, MayFollow, name_is}
 
 -- names
 gate_is : (g : Gate) → IsName (gate_name g)
@@ -83,7 +83,7 @@ well_well xs ys (inr e) f = inr (ends_well xs ys e f)
 
 -- targets as they are printed
 pub record AreTargets (text : List ℕ) : Type 0 where
-  pub apart : IsApart text
+  pub can_follow : MayFollow text
   pub ends : EndsWell text
   pub free : (p : ℕ → Bool) → IsClear p → Free p text
 
@@ -91,9 +91,9 @@ pub record AreTargets (text : List ℕ) : Type 0 where
 abbrev AreClear : {X : Type 0} → (X → List ℕ) → List X → Type 0
 AreClear text xs = Each (λ x. (p : ℕ → Bool) → IsClear p → Free p (text x)) xs
 
-spaced_apart : {X : Type 0} (text : X → List ℕ) (xs : List X) → IsApart (spaced text xs)
-spaced_apart text [] = tt
-spaced_apart text (x ∷ xs) = refl
+spaced_may_follow : {X : Type 0} (text : X → List ℕ) (xs : List X) → MayFollow (spaced text xs)
+spaced_may_follow text [] = tt
+spaced_may_follow text (x ∷ xs) = refl
 
 spaced_ends : {X : Type 0} (text : X → List ℕ) (xs : List X) → AreWords text xs → EndsWell (spaced text xs)
 spaced_ends text [] w = inl refl
@@ -104,10 +104,10 @@ spaced_free text [] p c f = tt
 spaced_free text (x ∷ xs) p c f = (c.space, free-append p (text x) (spaced text xs) (f.0 p c) (spaced_free text xs p c f.1))
 
 pub spaced_targets : {X : Type 0} (text : X → List ℕ) (xs : List X) → AreWords text xs → AreClear text xs → AreTargets (spaced text xs)
-spaced_targets text xs w f = record { apart = spaced_apart text xs; ends = spaced_ends text xs w; free = λ p c. spaced_free text xs p c f }
+spaced_targets text xs w f = record { can_follow = spaced_may_follow text xs; ends = spaced_ends text xs w; free = λ p c. spaced_free text xs p c f }
 
 no_targets : AreTargets []
-no_targets = record { apart = tt; ends = inl refl; free = λ p c. tt }
+no_targets = record { can_follow = tt; ends = inl refl; free = λ p c. tt }
 
 decimal_clear : (n : ℕ) → n < 2 ^ 64 → (p : ℕ → Bool) → IsClear p → Free p (decimal n)
 decimal_clear n wide p c = digits_free p (decimal n) c.digits (decimal_digits n wide)

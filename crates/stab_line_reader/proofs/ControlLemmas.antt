@@ -3,22 +3,22 @@ use Rattle.stab_line_reader.proofs.Names.{◌≡◌, Bor, Option, Some, None, Ma
 use Rattle.stab_lines.specs.declared.control.Control.TheVariants as control
 use Rattle.stab_lines.proofs.BoolLemmas.{and_left, and_right, passed}
 use Rattle.stab_line_reader.proofs.FrontTargetLemmas.{qubit_is_number}
-use Rattle.stab_line_reader.proofs.ResultLemmas.{behind}
+use Rattle.stab_line_reader.proofs.ResultLemmas.{following}
 
-one_more : (front : List ControlTarget) (x : ControlTarget) (given : Result (List ControlTarget) Refusal) → behind (front ++ x ∷ []) given ≡ behind front (given >>= λ rest. Ok (x ∷ rest))
+one_more : (front : List ControlTarget) (x : ControlTarget) (given : Result (List ControlTarget) Refusal) → following (front ++ x ∷ []) given ≡ following front (given >>= λ rest. Ok (x ∷ rest))
 one_more front x (Ok rest) = ap Ok (append_assoc front (x ∷ []) rest)
 one_more front x (Err e) = refl
 
 pub turns_next : (front new : List ControlTarget) (all after : List (List ℕ)) (a b : List ℕ) (rest : List (List ℕ)) (c : Control) (q : ℕ)
     → all ≡ a ∷ after → after ≡ b ∷ rest → Ok c ≡ control_of a → Ok q ≡ qubit_of b → new ≡ front ++ record { control = c; qubit = q } ∷ []
-    → behind new (by_turns rest) ≡ behind front (by_turns all)
+    → following new (by_turns rest) ≡ following front (by_turns all)
 turns_next front new all after a b rest c q e f g h n =
-    ap (λ l. behind l (by_turns rest)) n
+    ap (λ l. following l (by_turns rest)) n
     ∙ one_more front (record { control = c; qubit = q }) (by_turns rest)
-    ∙ ap (λ r. behind front (r >>= λ x. by_turns rest >>= λ more. Ok (record { control = c; qubit = x } ∷ more))) h
-    ∙ ap (λ r. behind front (r >>= λ x. qubit_of b >>= λ y. by_turns rest >>= λ more. Ok (record { control = x; qubit = y } ∷ more))) g
-    ∙ ap (λ l. behind front (by_turns (a ∷ l))) (sym f)
-    ∙ ap (λ l. behind front (by_turns l)) (sym e)
+    ∙ ap (λ r. following front (r >>= λ x. by_turns rest >>= λ more. Ok (record { control = c; qubit = x } ∷ more))) h
+    ∙ ap (λ r. following front (r >>= λ x. qubit_of b >>= λ y. by_turns rest >>= λ more. Ok (record { control = x; qubit = y } ∷ more))) g
+    ∙ ap (λ l. following front (by_turns (a ∷ l))) (sym f)
+    ∙ ap (λ l. following front (by_turns l)) (sym e)
 
 -- digits are no record
 pub no_record : (ds : List ℕ) → list_all is_digit ds ≡ true → is_lookback ds ≡ false
@@ -64,9 +64,9 @@ pair_seen bs after x (Some p) f g = pair_begins bs after p.1.now x p.0 f g
 
 -- one pair more
 pub pairs_next : (front new : List ControlledPair) (x : ControlledPair) (all rest : List (List ℕ)) → new ≡ front ++ x ∷ [] → controlled_of all ≡ begun_with x (controlled_of rest)
-    → behind new (controlled_of rest) ≡ behind front (controlled_of all)
-pairs_next front new x all rest n e = ap (λ l. behind l (controlled_of rest)) n ∙ pair_joined front x (controlled_of rest) ∙ ap (behind front) (sym e)
+    → following new (controlled_of rest) ≡ following front (controlled_of all)
+pairs_next front new x all rest n e = ap (λ l. following l (controlled_of rest)) n ∙ pair_joined front x (controlled_of rest) ∙ ap (following front) (sym e)
   where
-    pair_joined : (front : List ControlledPair) (x : ControlledPair) (given : Result (List ControlledPair) Refusal) → behind (front ++ x ∷ []) given ≡ behind front (given >>= λ more. Ok (x ∷ more))
+    pair_joined : (front : List ControlledPair) (x : ControlledPair) (given : Result (List ControlledPair) Refusal) → following (front ++ x ∷ []) given ≡ following front (given >>= λ more. Ok (x ∷ more))
     pair_joined front x (Ok more) = ap Ok (append_assoc front (x ∷ []) more)
     pair_joined front x (Err r) = refl

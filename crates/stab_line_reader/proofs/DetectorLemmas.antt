@@ -3,7 +3,7 @@ use Rattle.stab_line_reader.proofs.Names.{◌≡◌, ◌<◌, ℕ, ◌+◌, true
 use Rattle.stab_lines.specs.declared.name.Instruction.TheVariants as instruction
 use Rattle.stab_lines.specs.declared.operation.Kind.TheVariants as kind
 use Rattle.stab_line_reader.proofs.CoordinateLemmas.{each_coordinate, no_coordinate}
-use Rattle.stab_line_reader.proofs.ResultLemmas.{behind, behind_none, behind_next}
+use Rattle.stab_line_reader.proofs.ResultLemmas.{following, after_none, after_next}
 use Rattle.stab_lines.proofs.PieceLemmas.{blank_words}
 use Rattle.stab_lines.proofs.TargetLemmas.{lookback_in_range}
 
@@ -16,15 +16,15 @@ found_in_range found count k bs rest room h before =
 
 -- a record more, and what is read after it
 pub found_more : (found : List ℕ) (count k : ℕ) (bs rest : List ℕ) → count < length found → BeginsWithTarget lookback_of bs k rest
-    → behind (take (count + 1) (set found count k)) (each lookback_of (words rest)) ≡ behind (take count found) (each lookback_of (words bs))
+    → following (take (count + 1) (set found count k)) (each lookback_of (words rest)) ≡ following (take count found) (each lookback_of (words bs))
 found_more found count k bs rest room h =
-    ap (λ l. behind l (each lookback_of (words rest))) (take_more_set found count k room)
-    ∙ sym (behind_next lookback_of (take count found) h.0 (words rest) k h.2)
-    ∙ sym (ap (λ ws. behind (take count found) (each lookback_of ws)) h.1)
+    ap (λ l. following l (each lookback_of (words rest))) (take_more_set found count k room)
+    ∙ sym (after_next lookback_of (take count found) h.0 (words rest) k h.2)
+    ∙ sym (ap (λ ws. following (take count found) (each lookback_of ws)) h.1)
 
 -- no record more
-pub found_all : (found bs : List ℕ) (given : Result (List ℕ) Refusal) → is_blank bs ≡ true → behind found (each lookback_of (words bs)) ≡ given → given ≡ Ok found
-found_all found bs given blank e = sym e ∙ ap (λ ws. behind found (each lookback_of ws)) (blank_words bs blank) ∙ behind_none found
+pub found_all : (found bs : List ℕ) (given : Result (List ℕ) Refusal) → is_blank bs ≡ true → following found (each lookback_of (words bs)) ≡ given → given ≡ Ok found
+found_all found bs given blank e = sym e ∙ ap (λ ws. following found (each lookback_of ws)) (blank_words bs blank) ∙ after_none found
 
 -- what a detector does, if its coordinates are written as coordinates are
 pub detector_kind : (s : Shape) → list_all is_coordinate (arguments_of s.arguments) ≡ true

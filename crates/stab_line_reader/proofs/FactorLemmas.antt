@@ -29,24 +29,24 @@ axis_again axis.X ds = refl
 axis_again axis.Y ds = refl
 axis_again axis.Z ds = refl
 
-behind_axis : (a : Axis) (ds : List ℕ) → drop 1 (axis_text a ++ ds) ≡ ds
-behind_axis axis.X ds = drop_none ds
-behind_axis axis.Y ds = drop_none ds
-behind_axis axis.Z ds = drop_none ds
+after_axis : (a : Axis) (ds : List ℕ) → drop 1 (axis_text a ++ ds) ≡ ds
+after_axis axis.X ds = drop_none ds
+after_axis axis.Y ds = drop_none ds
+after_axis axis.Z ds = drop_none ds
 
-digits_behind : (b : Bool) (a : Axis) (ds : List ℕ) → drop 1 (unmarked (marked_text b a ds)) ≡ ds
-digits_behind b a ds = ap (drop 1) (unmarked_again b a ds) ∙ behind_axis a ds
+digits_after : (b : Bool) (a : Axis) (ds : List ℕ) → drop 1 (unmarked (marked_text b a ds)) ≡ ds
+digits_after b a ds = ap (drop 1) (unmarked_again b a ds) ∙ after_axis a ds
 
-letter_behind : (b : Bool) (a : Axis) (ds : List ℕ) → first_axis (unmarked (marked_text b a ds)) ≡ Some a
-letter_behind b a ds = ap first_axis (unmarked_again b a ds) ∙ axis_again a ds
+letter_after : (b : Bool) (a : Axis) (ds : List ℕ) → first_axis (unmarked (marked_text b a ds)) ≡ Some a
+letter_after b a ds = ap first_axis (unmarked_again b a ds) ∙ axis_again a ds
 
 factor_case : (b : Bool) (a : Axis) (q : ℕ) → q < most_qubits → factor_of (marked_text b a (decimal q)) ≡ Ok (record { letter = a; qubit = q; inverted = b })
 unfolding factor_of
 factor_case b a q small =
     let w = marked_text b a (decimal q) in
     ap (λ m. factor_on m (drop 1 (unmarked w)) (first_axis (unmarked w))) (mark_again b a (decimal q))
-    ∙ ap (λ ds. factor_on b ds (first_axis (unmarked w))) (digits_behind b a (decimal q))
-    ∙ ap (factor_on b (decimal q)) (letter_behind b a (decimal q))
+    ∙ ap (λ ds. factor_on b ds (first_axis (unmarked w))) (digits_after b a (decimal q))
+    ∙ ap (factor_on b (decimal q)) (letter_after b a (decimal q))
     ∙ ap (λ r. r >>= λ x. Ok (record { letter = a; qubit = x; inverted = b })) (qubit_again q small)
 
 factor_again : (f : Factor) → IsFactor f → factor_of (factor_text f) ≡ Ok f
@@ -57,8 +57,8 @@ unfolding is_factor
 is_factor_again f small =
     let w = factor_text f in
     let ds = decimal f.qubit in
-    both (is_some (first_axis (unmarked w))) (is_number (drop 1 (unmarked w))) (ap is_some (letter_behind f.inverted f.letter ds))
-    (ap is_number (digits_behind f.inverted f.letter ds) ∙ decimal_number f.qubit (omega (arith, small)))
+    both (is_some (first_axis (unmarked w))) (is_number (drop 1 (unmarked w))) (ap is_some (letter_after f.inverted f.letter ds))
+    (ap is_number (digits_after f.inverted f.letter ds) ∙ decimal_number f.qubit (omega (arith, small)))
 
 all_factors : (fs : List Factor) → Each IsFactor fs → list_all is_factor (map factor_text fs) ≡ true
 all_factors [] g = refl

@@ -133,23 +133,23 @@ closing_is (x ∷ xs) b h = ap (λ y. y ∷ xs) (byte_is x b h) ∙ ap (λ l. b 
     byte_is x b h = grind arith
 
 -- the parts of what is in front, if it is written as a record is
-pub record_parts : (front behind closing rest : List ℕ) (n : ℕ) → starts_with nat_eq front (codes "rec[-") ≡ true → behind ≡ drop 5 front → closing ≡ drop n behind
-    → starts_with_byte closing 93 ≡ true → rest ≡ drop 1 closing → front ≡ record_word (take n behind) ++ rest
-record_parts front behind closing rest n s b c e r =
+pub record_parts : (front following closing rest : List ℕ) (n : ℕ) → starts_with nat_eq front (codes "rec[-") ≡ true → following ≡ drop 5 front → closing ≡ drop n following
+    → starts_with_byte closing 93 ≡ true → rest ≡ drop 1 closing → front ≡ record_word (take n following) ++ rest
+record_parts front following closing rest n s b c e r =
     starts_is front s
-    ∙ ap (λ l. codes "rec[-" ++ l) (sym b ∙ sym (take-append-drop n behind) ∙ ap (λ l. take n behind ++ l) (sym c ∙ closing_is closing 93 e ∙ ap (λ l. 93 ∷ l) (sym r)))
-    ∙ ap (λ l. codes "rec[-" ++ l) (sym (append_assoc (take n behind) (codes "]") rest))
+    ∙ ap (λ l. codes "rec[-" ++ l) (sym b ∙ sym (take-append-drop n following) ∙ ap (λ l. take n following ++ l) (sym c ∙ closing_is closing 93 e ∙ ap (λ l. 93 ∷ l) (sym r)))
+    ∙ ap (λ l. codes "rec[-" ++ l) (sym (append_assoc (take n following) (codes "]") rest))
 
 -- a record in front
-pub record_begins : (bs front behind rest : List ℕ) (n k : ℕ) → front ≡ trimmed_front bs → front ≡ record_word (take n behind) ++ rest → list_all is_digit (take n behind) ≡ true
-    → k ≡ value (take n behind) → 0 < k → k ≤ most_lookback → is_word_end rest ≡ true → BeginsWithTarget lookback_of bs k rest
-record_begins bs front behind rest n k e parts digits same low high end =
-    let v : value (take n behind) ≡ k = sym same in (
-      record_word (take n behind),
-      word_begins bs front (record_word (take n behind)) rest e parts (record_solid (take n behind) digits) (record_some (take n behind)) end,
-      record_read (take n behind) k (both (is_some_word (take n behind)) _ (some_value (take n behind) (omega (arith, v, low))) digits) v low high,
+pub record_begins : (bs front following rest : List ℕ) (n k : ℕ) → front ≡ trimmed_front bs → front ≡ record_word (take n following) ++ rest → list_all is_digit (take n following) ≡ true
+    → k ≡ value (take n following) → 0 < k → k ≤ most_lookback → is_word_end rest ≡ true → BeginsWithTarget lookback_of bs k rest
+record_begins bs front following rest n k e parts digits same low high end =
+    let v : value (take n following) ≡ k = sym same in (
+      record_word (take n following),
+      word_begins bs front (record_word (take n following)) rest e parts (record_solid (take n following) digits) (record_some (take n following)) end,
+      record_read (take n following) k (both (is_some_word (take n following)) _ (some_value (take n following) (omega (arith, v, low))) digits) v low high,
     )
 
 -- what follows a record in front is shorter
-pub record_shorter : (bs front behind rest : List ℕ) (n : ℕ) → front ≡ trimmed_front bs → front ≡ record_word (take n behind) ++ rest → length rest < length bs
-record_shorter bs front behind rest n e parts = word_shorter bs front (record_word (take n behind)) rest e parts (record_some (take n behind))
+pub record_shorter : (bs front following rest : List ℕ) (n : ℕ) → front ≡ trimmed_front bs → front ≡ record_word (take n following) ++ rest → length rest < length bs
+record_shorter bs front following rest n e parts = word_shorter bs front (record_word (take n following)) rest e parts (record_some (take n following))

@@ -164,7 +164,7 @@ operation_again op g t =
     let s = shape_for op.tag k in
     let targets = kind_targets k g in
     headed_means (kind_name k) op.tag _ (kind_is k)
-    ∙ ap (λ r. r >>= shape_meaning) (shape_again (kind_name k) op.tag (kind_arguments k) (targets_text k) (kind_is k) (tag_free op.tag t).2 (kind_coordinates k g) targets.apart (targets.free is_brace no_braces))
+    ∙ ap (λ r. r >>= shape_meaning) (shape_again (kind_name k) op.tag (kind_arguments k) (targets_text k) (kind_is k) (tag_free op.tag t).2 (kind_coordinates k g) targets.can_follow (targets.free is_brace no_braces))
     ∙ ap (λ r. r >>= named_line s) (kind_name_again k)
     ∙ ap (λ r. r >>= λ kind. without_open s (Ok (line.Operation (record { kind = kind; tag = op.tag })))) (kind_again op.tag k g)
 

@@ -20,11 +20,11 @@ pub use Rattle.stab_io.specs.declared.refusal.Refusal.TheVariants.{BadArguments,
 pub use Rattle.stab_lines.specs.Axes.{first_axis}
 pub use Rattle.stab_lines.specs.Controls.{by_turns, paired, controlled_of, pair_of}
 unfoldable pub use Rattle.stab_lines.specs.Controls.{control_of}
-pub use Rattle.stab_line_reader.specs.FirstLines.{BeginsWithInstruction, TellsInstruction}
+pub use Rattle.stab_line_reader.specs.FirstLines.{BeginsWithInstruction, ReadsInstruction}
 pub use Rattle.stab_lines.specs.Laws.{IsLine, line_printed, Says}
 pub use Rattle.stab_lines.specs.Limits.{most_observables, most_lookback}
-pub use Rattle.stab_lines.specs.Lines.{is_byte, is_digit, is_spacing, trimmed, starts_with_byte, ends_with_byte, is_brace, trimmed_front, Shape, behind_tag, shaped, trimmed_end, has_byte, is_letter, is_name_byte, without_brace}
-unfoldable pub use Rattle.stab_lines.specs.Lines.{is_apart, shape_of, content_of, bracketed}
+pub use Rattle.stab_lines.specs.Lines.{is_byte, is_digit, is_spacing, trimmed, starts_with_byte, ends_with_byte, is_brace, trimmed_front, Shape, after_tag, shaped, trimmed_end, has_byte, is_letter, is_name_byte, without_brace}
+unfoldable pub use Rattle.stab_lines.specs.Lines.{may_follow, shape_of, content_of, bracketed}
 pub use Rattle.stab_lines.specs.Lookbacks.{IsLookback}
 pub use Rattle.stab_lines.specs.Meanings.{without_open, shape_meaning, is_close, targets_alone, opened, only_count, is_of_line, coordinates_of}
 unfoldable pub use Rattle.stab_lines.specs.Meanings.{kind_of, named_line, meaning_of, block_of, observable_include_of}
@@ -51,6 +51,6 @@ pub use Rattle.stab_lines.specs.declared.operation.Operation.{Operation}
 pub use Rattle.stab_lines.specs.declared.product.Factor.{Factor}
 pub use Rattle.stab_lines.specs.declared.range.MeasureTarget.{MeasureTarget}
 pub use Rattle.stab_line_reader.specs.inner.FrontTargets.{BeginsWithTarget, begun_with, second_of, follows}
-pub use Rattle.stab_line_reader.specs.inner.Numbers.{is_word_end, BeginsWithNumber, IsBehindWord}
+pub use Rattle.stab_line_reader.specs.inner.Numbers.{is_word_end, BeginsWithNumber, IsAfterWord}
 pub use Rattle.stab_line_reader.specs.inner.Parts.{is_coordinate, after_coordinates}
-pub use Rattle.stab_line_reader.specs.inner.PlainLines.{EndsLine, paired_words, spaced_words, AreSpacedTargets, TellsTargets, plain_shape, BeginsWithKind, TellsKind, IsSpacedQubit, IsSpacedPair, AreNumbers}
+pub use Rattle.stab_line_reader.specs.inner.PlainLines.{EndsLine, paired_words, spaced_words, AreSpacedTargets, ReadsTargets, plain_shape, BeginsWithKind, ReadsKind, IsSpacedQubit, IsSpacedPair, AreNumbers}

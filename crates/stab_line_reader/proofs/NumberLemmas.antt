@@ -1,5 +1,5 @@
 -- Numbers that are the first of several words.
-use Rattle.stab_line_reader.proofs.Names.{◌≡◌, ◌<◌, ◌≤◌, ℕ, zero, suc, Bool, true, false, List, [], ◌∷◌, length, take, drop, get_or, refl, sym, ap, subst, ◌∙◌, arith, drop-cons, length-take, position_or_len, list_all, nat_tests, get_or-take, position_or_len_is, list_all_at, is_spacing, is_digit, trimmed_front, is_some_word, value, is_word_end, BeginsWithNumber, IsBehindWord}
+use Rattle.stab_line_reader.proofs.Names.{◌≡◌, ◌<◌, ◌≤◌, ℕ, zero, suc, Bool, true, false, List, [], ◌∷◌, length, take, drop, get_or, refl, sym, ap, subst, ◌∙◌, arith, drop-cons, length-take, position_or_len, list_all, nat_tests, get_or-take, position_or_len_is, list_all_at, is_spacing, is_digit, trimmed_front, is_some_word, value, is_word_end, BeginsWithNumber, IsAfterWord}
 use Rattle.stab_lines.proofs.BoolLemmas.{both, and_left}
 use Rattle.stab_lines.proofs.FreeLemmas.{prefix_no}
 use Rattle.stab_lines.proofs.PieceLemmas.{one_word, rest_shorter}
@@ -29,20 +29,20 @@ some_taken (b ∷ bs) n h within = let one = length-take n (b ∷ bs) in grind (
 
 -- a number in front is the first word
 pub number_begins : (bs front rest : List ℕ) (n number : ℕ) → front ≡ trimmed_front bs → 0 < n → n ≤ length front → list_all is_digit (take n front) ≡ true
-    → number ≡ value (take n front) → IsBehindWord (drop n front) rest → BeginsWithNumber bs number rest
-number_begins bs front rest n number e some within digits same behind =
-    let place = number_place front n within digits behind.0 in (
+    → number ≡ value (take n front) → IsAfterWord (drop n front) rest → BeginsWithNumber bs number rest
+number_begins bs front rest n number e some within digits same following =
+    let place = number_place front n within digits following.0 in (
       take n front,
-      one_word bs front n e (omega (arith, some, within)) place ∙ ap (λ ws. take n front ∷ ws) (sym behind.1),
+      one_word bs front n e (omega (arith, some, within)) place ∙ ap (λ ws. take n front ∷ ws) (sym following.1),
       both (is_some_word (take n front)) _ (some_taken front n some within) digits,
       sym same,
     )
 
 -- what follows a number in front is shorter
-pub number_ends : (bs front rest : List ℕ) (n : ℕ) → front ≡ trimmed_front bs → 0 < n → n ≤ length front → list_all is_digit (take n front) ≡ true → IsBehindWord (drop n front) rest → length rest < length bs
-number_ends bs front rest n e some within digits behind =
-    let shorter = rest_shorter bs front n e (omega (arith, some, within)) (number_place front n within digits behind.0) in
-    omega (arith, shorter, behind.2)
+pub number_ends : (bs front rest : List ℕ) (n : ℕ) → front ≡ trimmed_front bs → 0 < n → n ≤ length front → list_all is_digit (take n front) ≡ true → IsAfterWord (drop n front) rest → length rest < length bs
+number_ends bs front rest n e some within digits following =
+    let shorter = rest_shorter bs front n e (omega (arith, some, within)) (number_place front n within digits following.0) in
+    omega (arith, shorter, following.2)
 
 -- there is no spacing before digits
 pub digits_front : (bs : List ℕ) (n : ℕ) → 0 < n → n ≤ length bs → list_all is_digit (take n bs) ≡ true → bs ≡ trimmed_front bs

@@ -1,5 +1,5 @@
 -- The line of an instruction on numbers alone that is read off the front of a text.
-use Rattle.stab_line_reader.proofs.Names.{Bor, suc, ◌+◌, if◌then◌else◌, pieces_after, Option, Some, None, MatchOption, IfOk, ◌≡◌, ◌<◌, ℕ, Bool, true, false, ◌||◌, List, [], ◌∷◌, ◌++◌, length, take, drop, Result, Ok, Err, refl, sym, ap, subst, ◌∙◌, arith, append_assoc, append-nil, option_copied, list_all, list_any, slice_split, prefix_len, length-append, take-append-drop, Refusal, Gate, Axis, MeasureTarget, ControlledPair, Measurement, Instruction, Kind, ◌>>=◌, each, is_byte, is_letter, is_name_byte, is_brace, content_of, words, is_number, is_some_word, name_of, qubit_of, measure_target_of, pairs_of, controlled_of, kind_of, without_open, named_line, shape_meaning, meaning_of, head_text, BeginsWithInstruction, TellsInstruction, follows, EndsLine, paired_words, spaced_words, AreSpacedTargets, TellsTargets, plain_shape, BeginsWithKind, TellsKind}
+use Rattle.stab_line_reader.proofs.Names.{Bor, suc, ◌+◌, if◌then◌else◌, pieces_after, Option, Some, None, MatchOption, IfOk, ◌≡◌, ◌<◌, ℕ, Bool, true, false, ◌||◌, List, [], ◌∷◌, ◌++◌, length, take, drop, Result, Ok, Err, refl, sym, ap, subst, ◌∙◌, arith, append_assoc, append-nil, option_copied, list_all, list_any, slice_split, prefix_len, length-append, take-append-drop, Refusal, Gate, Axis, MeasureTarget, ControlledPair, Measurement, Instruction, Kind, ◌>>=◌, each, is_byte, is_letter, is_name_byte, is_brace, content_of, words, is_number, is_some_word, name_of, qubit_of, measure_target_of, pairs_of, controlled_of, kind_of, without_open, named_line, shape_meaning, meaning_of, head_text, BeginsWithInstruction, ReadsInstruction, follows, EndsLine, paired_words, spaced_words, AreSpacedTargets, ReadsTargets, plain_shape, BeginsWithKind, ReadsKind}
 use Rattle.stab_lines.specs.declared.name.Instruction.TheVariants as instruction
 use Rattle.stab_lines.specs.declared.name.Name.TheVariants as name
 use Rattle.stab_lines.specs.declared.operation.Kind.TheVariants as kind
@@ -100,33 +100,33 @@ swap_does name ws = joined (each qubit_of (words (spaced_words ws)))
     joined (Ok qubits) = refl
     joined (Err r) = refl
 
-kind_told : {X : Type 0} (i j : Instruction) (meaning : List (List ℕ) → Result (List X) Refusal) (k : List X → Kind) (bs : List ℕ) (given : Option (List X × Option (Bor (List ℕ)))) (found : List X × Option (Bor (List ℕ)))
+kind_reported : {X : Type 0} (i j : Instruction) (meaning : List (List ℕ) → Result (List X) Refusal) (k : List X → Kind) (bs : List ℕ) (given : Option (List X × Option (Bor (List ℕ)))) (found : List X × Option (Bor (List ℕ)))
     → meaning [] ≡ Ok [] → ((name : List ℕ) (ws : List (List ℕ)) → kind_of j (plain_shape name ws) ≡ (meaning (words (spaced_words ws)) >>= λ xs. Ok (k xs)))
-    → i ≡ j → given ≡ Some found → TellsTargets meaning bs (Ok given) → BeginsWithKind i bs (k found.0) (option_copied found.1)
-kind_told i j meaning k bs given found none does e s h =
-    let told = subst (λ x. TellsTargets meaning bs (Ok x)) s h in
-    subst (λ x. BeginsWithKind x bs (k found.0) (option_copied found.1)) (sym e) (plain_kind j meaning k bs told.0 found.0 (option_copied found.1) none does told.1 told.2)
+    → i ≡ j → given ≡ Some found → ReadsTargets meaning bs (Ok given) → BeginsWithKind i bs (k found.0) (option_copied found.1)
+kind_reported i j meaning k bs given found none does e s h =
+    let reported = subst (λ x. ReadsTargets meaning bs (Ok x)) s h in
+    subst (λ x. BeginsWithKind x bs (k found.0) (option_copied found.1)) (sym e) (plain_kind j meaning k bs reported.0 found.0 (option_copied found.1) none does reported.1 reported.2)
 
 -- what each instruction does to the targets that were met
-pub gate_told : (i : Instruction) (g : Gate) (bs : List ℕ) (given : Option (List ℕ × Option (Bor (List ℕ)))) (found : List ℕ × Option (Bor (List ℕ))) → i ≡ instruction.Gate g → given ≡ Some found
-    → TellsTargets (each qubit_of) bs (Ok given) → BeginsWithKind i bs (kind.Gate g found.0) (option_copied found.1)
-gate_told i g bs given found e s h = kind_told i (instruction.Gate g) (each qubit_of) (kind.Gate g) bs given found refl (gate_does g) e s h
+pub gate_reported : (i : Instruction) (g : Gate) (bs : List ℕ) (given : Option (List ℕ × Option (Bor (List ℕ)))) (found : List ℕ × Option (Bor (List ℕ))) → i ≡ instruction.Gate g → given ≡ Some found
+    → ReadsTargets (each qubit_of) bs (Ok given) → BeginsWithKind i bs (kind.Gate g found.0) (option_copied found.1)
+gate_reported i g bs given found e s h = kind_reported i (instruction.Gate g) (each qubit_of) (kind.Gate g) bs given found refl (gate_does g) e s h
 
-pub reset_told : (i : Instruction) (a : Axis) (bs : List ℕ) (given : Option (List ℕ × Option (Bor (List ℕ)))) (found : List ℕ × Option (Bor (List ℕ))) → i ≡ instruction.Reset a → given ≡ Some found
-    → TellsTargets (each qubit_of) bs (Ok given) → BeginsWithKind i bs (kind.Reset a found.0) (option_copied found.1)
-reset_told i a bs given found e s h = kind_told i (instruction.Reset a) (each qubit_of) (kind.Reset a) bs given found refl (reset_does a) e s h
+pub reset_reported : (i : Instruction) (a : Axis) (bs : List ℕ) (given : Option (List ℕ × Option (Bor (List ℕ)))) (found : List ℕ × Option (Bor (List ℕ))) → i ≡ instruction.Reset a → given ≡ Some found
+    → ReadsTargets (each qubit_of) bs (Ok given) → BeginsWithKind i bs (kind.Reset a found.0) (option_copied found.1)
+reset_reported i a bs given found e s h = kind_reported i (instruction.Reset a) (each qubit_of) (kind.Reset a) bs given found refl (reset_does a) e s h
 
-pub measure_told : (i : Instruction) (m : Measurement) (bs : List ℕ) (given : Option (List MeasureTarget × Option (Bor (List ℕ)))) (found : List MeasureTarget × Option (Bor (List ℕ))) → i ≡ instruction.Measure m
-    → given ≡ Some found → TellsTargets (each measure_target_of) bs (Ok given) → BeginsWithKind i bs (kind.Measure m found.0) (option_copied found.1)
-measure_told i m bs given found e s h = kind_told i (instruction.Measure m) (each measure_target_of) (kind.Measure m) bs given found refl (measure_does m) e s h
+pub measure_reported : (i : Instruction) (m : Measurement) (bs : List ℕ) (given : Option (List MeasureTarget × Option (Bor (List ℕ)))) (found : List MeasureTarget × Option (Bor (List ℕ))) → i ≡ instruction.Measure m
+    → given ≡ Some found → ReadsTargets (each measure_target_of) bs (Ok given) → BeginsWithKind i bs (kind.Measure m found.0) (option_copied found.1)
+measure_reported i m bs given found e s h = kind_reported i (instruction.Measure m) (each measure_target_of) (kind.Measure m) bs given found refl (measure_does m) e s h
 
-pub controlled_told : (i : Instruction) (a : Axis) (bs : List ℕ) (given : Option (List ControlledPair × Option (Bor (List ℕ)))) (found : List ControlledPair × Option (Bor (List ℕ))) → i ≡ instruction.Controlled a
-    → given ≡ Some found → TellsTargets controlled_of bs (Ok given) → BeginsWithKind i bs (kind.Controlled a found.0) (option_copied found.1)
-controlled_told i a bs given found e s h = kind_told i (instruction.Controlled a) controlled_of (kind.Controlled a) bs given found refl (controlled_does a) e s h
+pub controlled_reported : (i : Instruction) (a : Axis) (bs : List ℕ) (given : Option (List ControlledPair × Option (Bor (List ℕ)))) (found : List ControlledPair × Option (Bor (List ℕ))) → i ≡ instruction.Controlled a
+    → given ≡ Some found → ReadsTargets controlled_of bs (Ok given) → BeginsWithKind i bs (kind.Controlled a found.0) (option_copied found.1)
+controlled_reported i a bs given found e s h = kind_reported i (instruction.Controlled a) controlled_of (kind.Controlled a) bs given found refl (controlled_does a) e s h
 
-pub swap_told : (i : Instruction) (bs : List ℕ) (given : Option (List (ℕ × ℕ) × Option (Bor (List ℕ)))) (found : List (ℕ × ℕ) × Option (Bor (List ℕ))) → i ≡ instruction.Swap → given ≡ Some found
-    → TellsTargets paired_words bs (Ok given) → BeginsWithKind i bs (kind.Swap found.0) (option_copied found.1)
-swap_told i bs given found e s h = kind_told i instruction.Swap paired_words kind.Swap bs given found refl swap_does e s h
+pub swap_reported : (i : Instruction) (bs : List ℕ) (given : Option (List (ℕ × ℕ) × Option (Bor (List ℕ)))) (found : List (ℕ × ℕ) × Option (Bor (List ℕ))) → i ≡ instruction.Swap → given ≡ Some found
+    → ReadsTargets paired_words bs (Ok given) → BeginsWithKind i bs (kind.Swap found.0) (option_copied found.1)
+swap_reported i bs given found e s h = kind_reported i instruction.Swap paired_words kind.Swap bs given found refl swap_does e s h
 
 -- a name is one
 plain_name : (name : List ℕ) → list_all is_name_byte name ≡ true → list_any is_letter (take 1 name) ≡ true → IsName name
@@ -157,7 +157,7 @@ plain_means text ws i k n h named does =
     let targets = plain_targets ws h in
     ap meaning_of (content_again 0 (plain_line text ws) (plain_neat text ws n h))
     ∙ headed_means text [] (spaced_words ws) n
-    ∙ ap (λ r. r >>= shape_meaning) (shape_again text [] [] (spaced_words ws) n tt tt targets.apart (targets.free is_brace no_braces))
+    ∙ ap (λ r. r >>= shape_meaning) (shape_again text [] [] (spaced_words ws) n tt tt targets.can_follow (targets.free is_brace no_braces))
     ∙ ap (λ r. r >>= named_line s) named
     ∙ ap (λ r. r >>= λ what. without_open s (Ok (line.Operation (record { kind = what; tag = [] })))) does
 
@@ -177,20 +177,20 @@ plain_begins text first bs i k after e n named h = (
   plain_means first h.0 i k n h.2.1 named (h.4 first),
 )
 
-plain_told : (text first bs : List ℕ) (i : Instruction) (r : Result (Option (Kind × Option (Bor (List ℕ)))) Refusal) → text ≡ first ++ bs → IsName first → name_of first ≡ Ok (name.Instruction i)
-    → TellsKind i bs r → TellsInstruction text r
-plain_told text first bs i (Ok None) e n named h = tt
-plain_told text first bs i (Ok (Some found)) e n named h = plain_begins text first bs i found.0 (option_copied found.1) e n named h
-plain_told text first bs i (Err r) e n named h = h
+plain_reported : (text first bs : List ℕ) (i : Instruction) (r : Result (Option (Kind × Option (Bor (List ℕ)))) Refusal) → text ≡ first ++ bs → IsName first → name_of first ≡ Ok (name.Instruction i)
+    → ReadsKind i bs r → ReadsInstruction text r
+plain_reported text first bs i (Ok None) e n named h = tt
+plain_reported text first bs i (Ok (Some found)) e n named h = plain_begins text first bs i found.0 (option_copied found.1) e n named h
+plain_reported text first bs i (Err r) e n named h = h
 
 parts : (text first bs : List ℕ) (k : ℕ) → first ≡ take k text → bs ≡ drop k text → text ≡ first ++ bs
 parts text first bs k f b = sym (take-append-drop k text) ∙ ap (λ l. l ++ drop k text) (sym f) ∙ ap (λ l. first ++ l) (sym b)
 
 -- the name that is in front
-pub name_told : (text first bs : List ℕ) (k : ℕ) (i : Instruction) (r : Result (Option (Kind × Option (Bor (List ℕ)))) Refusal) → first ≡ take k text → bs ≡ drop k text → k ≡ prefix_len is_name_byte text
-    → list_any is_letter (take 1 first) ≡ true → name_of first ≡ Ok (name.Instruction i) → TellsKind i bs r → TellsInstruction text r
-name_told text first bs k i r f b p l named h =
-    plain_told text first bs i r (parts text first bs k f b) (plain_name first (ap (list_all is_name_byte) (f ∙ ap (λ n. take n text) p) ∙ all_front is_name_byte text) l) named h
+pub name_reported : (text first bs : List ℕ) (k : ℕ) (i : Instruction) (r : Result (Option (Kind × Option (Bor (List ℕ)))) Refusal) → first ≡ take k text → bs ≡ drop k text → k ≡ prefix_len is_name_byte text
+    → list_any is_letter (take 1 first) ≡ true → name_of first ≡ Ok (name.Instruction i) → ReadsKind i bs r → ReadsInstruction text r
+name_reported text first bs k i r f b p l named h =
+    plain_reported text first bs i r (parts text first bs k f b) (plain_name first (ap (list_all is_name_byte) (f ∙ ap (λ n. take n text) p) ∙ all_front is_name_byte text) l) named h
 
 -- what follows it is shorter
 after_shorter : (text first bs rest : List ℕ) (ws : List (List ℕ)) (after : Option (List ℕ)) → text ≡ first ++ bs → bs ≡ spaced_words ws ++ rest → EndsLine rest after
@@ -198,12 +198,12 @@ after_shorter : (text first bs rest : List ℕ) (ws : List (List ℕ)) (after : 
 after_shorter text first bs rest ws None e f a = tt
 after_shorter text first bs rest ws (Some after) e f a = omega (arith, ap length e, ap length f, ap length a, length-append first bs, length-append (spaced_words ws) rest)
 
-plain_shorter : (text first bs : List ℕ) (i : Instruction) (r : Result (Option (Kind × Option (Bor (List ℕ)))) Refusal) → text ≡ first ++ bs → TellsKind i bs r
+plain_shorter : (text first bs : List ℕ) (i : Instruction) (r : Result (Option (Kind × Option (Bor (List ℕ)))) Refusal) → text ≡ first ++ bs → ReadsKind i bs r
     → IfOk r (λ found. MatchOption found (Unit {0}) (λ p. MatchOption (option_copied p.1) (Unit {0}) (λ after. length after < length text)))
 plain_shorter text first bs i (Ok None) e h = tt
 plain_shorter text first bs i (Ok (Some found)) e h = after_shorter text first bs h.1 h.0 (option_copied found.1) e h.2.0 h.3
 plain_shorter text first bs i (Err r) e h = tt
 
-pub name_shorter : (text first bs : List ℕ) (k : ℕ) (i : Instruction) (r : Result (Option (Kind × Option (Bor (List ℕ)))) Refusal) → first ≡ take k text → bs ≡ drop k text → TellsKind i bs r
+pub name_shorter : (text first bs : List ℕ) (k : ℕ) (i : Instruction) (r : Result (Option (Kind × Option (Bor (List ℕ)))) Refusal) → first ≡ take k text → bs ≡ drop k text → ReadsKind i bs r
     → IfOk r (λ found. MatchOption found (Unit {0}) (λ p. MatchOption (option_copied p.1) (Unit {0}) (λ after. length after < length text)))
 name_shorter text first bs k i r f b h = plain_shorter text first bs i r (parts text first bs k f b) h

@@ -1,5 +1,5 @@
 -- Which refusals a line can have.
-use Rattle.stab_line_reader.proofs.Names.{◌≡◌, refl, ℕ, ◌==◌, List, [], ◌∷◌, Bool, true, false, length, drop, Option, None, Some, Result, Ok, Err, if◌then◌else◌, Refusal, Gate, Axis, Control, Factor, Measurement, Instruction, Name, Blank, Close, ◌>>=◌, each, slice_split, Shape, is_byte, starts_with_byte, bracketed, behind_tag, shaped, shape_of, words, arguments_of, first_named, instruction_named, name_of, gate_named, controlled_named, measurement_named, other_named, first_axis, unmarked, factor_on, factor_of, on_different, product_of, control_of, by_turns, pair_of, paired, controlled_of, qubit_of, measure_target_of, lookback_of, count_of, pairs_of, coordinate_of, one_argument, number_of, observable_of, targets_alone, coordinates_of, kind_of, observable_include_of, only_count, opened, block_of, named_line, shape_meaning, is_close, meaning_of, is_of_line}
+use Rattle.stab_line_reader.proofs.Names.{◌≡◌, refl, ℕ, ◌==◌, List, [], ◌∷◌, Bool, true, false, length, drop, Option, None, Some, Result, Ok, Err, if◌then◌else◌, Refusal, Gate, Axis, Control, Factor, Measurement, Instruction, Name, Blank, Close, ◌>>=◌, each, slice_split, Shape, is_byte, starts_with_byte, bracketed, after_tag, shaped, shape_of, words, arguments_of, first_named, instruction_named, name_of, gate_named, controlled_named, measurement_named, other_named, first_axis, unmarked, factor_on, factor_of, on_different, product_of, control_of, by_turns, pair_of, paired, controlled_of, qubit_of, measure_target_of, lookback_of, count_of, pairs_of, coordinate_of, one_argument, number_of, observable_of, targets_alone, coordinates_of, kind_of, observable_include_of, only_count, opened, block_of, named_line, shape_meaning, is_close, meaning_of, is_of_line}
 use Rattle.stab_lines.specs.declared.control.Control.TheVariants as control
 use Rattle.stab_lines.specs.declared.name.Instruction.TheVariants as instruction
 use Rattle.stab_lines.specs.declared.name.Name.TheVariants as name
@@ -36,7 +36,7 @@ bracketed_line opening closing bs = if_line _ (if_line _ (good _) (bad _ refl)) 
 
 shape_line : (content : List ℕ) → IsOfLine (shape_of content)
 unfolding shape_of
-shape_line content = bind_line _ (behind_tag content) (bracketed_line 91 93 _) (λ tag. bind_line _ (shaped content tag.0) (bracketed_line 40 41 tag.1) (λ arguments. if_line _ (good _) (bad _ refl)))
+shape_line content = bind_line _ (after_tag content) (bracketed_line 91 93 _) (λ tag. bind_line _ (shaped content tag.0) (bracketed_line 40 41 tag.1) (λ arguments. if_line _ (good _) (bad _ refl)))
 
 first_line : (a : Option Gate) (b : Option Axis) (c : Option Measurement) (d : Option Instruction) → IsOfLine (first_named a b c d)
 first_line (Some a) b c d = good _

@@ -19,7 +19,7 @@ BeginsWithInstruction text k after =
     × (meaning_of (content_of first) ≡ Ok (line.Operation (record { kind = k; tag = [] })))
 
 -- the call gave the instruction that the first line means and the lines after it, or said nothing, or failed for lack of memory
-abbrev pub TellsInstruction : List ℕ → Result (Option (Kind × Option (Bor (List ℕ)))) Refusal → Type 0
-TellsInstruction text (Ok None) = Unit {0}
-TellsInstruction text (Ok (Some found)) = BeginsWithInstruction text found.0 (option_copied found.1)
-TellsInstruction text (Err r) = r ≡ OutOfMemory
+abbrev pub ReadsInstruction : List ℕ → Result (Option (Kind × Option (Bor (List ℕ)))) Refusal → Type 0
+ReadsInstruction text (Ok None) = Unit {0}
+ReadsInstruction text (Ok (Some found)) = BeginsWithInstruction text found.0 (option_copied found.1)
+ReadsInstruction text (Err r) = r ≡ OutOfMemory

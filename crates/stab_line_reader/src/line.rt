@@ -2,7 +2,7 @@ ghost use Rattle.std.specs.Prelude.{IfErr, ◌≡◌, ◌≤◌, ◌<◌, IsTrue
 ghost use Rattle.std.specs.List.{position_or_len, prefix_len, list_all, list_any, before_first, slice_split};
 ghost use Rattle.stab_io.specs.declared.refusal.Refusal.TheVariants.{BadLine};
 ghost use Rattle.stab_line_reader.specs.inner.Parts.{GivesBy};
-ghost use Rattle.stab_lines.specs.Lines.{is_spacing as spacing, is_letter as letter, is_digit as digit, is_name_byte as name_byte, is_brace as brace, trimmed_front, trimmed_end, trimmed, content_of, bracketed, is_byte, starts_with_byte, ends_with_byte, is_apart as apart};
+ghost use Rattle.stab_lines.specs.Lines.{is_spacing as spacing, is_letter as letter, is_digit as digit, is_name_byte as name_byte, is_brace as brace, trimmed_front, trimmed_end, trimmed, content_of, bracketed, is_byte, starts_with_byte, ends_with_byte, may_follow as can_follow};
 
 use stab_io::Refusal;
 use stab_lines::{has_brace, is_spacing, position_of, without_spacing};
@@ -98,9 +98,9 @@ pub struct Shape<'a> {
 }
 
 /// Whether targets may follow directly like this.
-#[tactic(auto, unfolding(stab_lines::specs::Lines::is_apart))]
-fn is_apart(bytes: &[u8]) -> bool
-    ensures value { result ≡ apart bytes.now }
+#[tactic(auto, unfolding(stab_lines::specs::Lines::may_follow))]
+fn may_follow(bytes: &[u8]) -> bool
+    ensures value { result ≡ can_follow bytes.now }
 {
     match bytes.first() {
         None => true,
@@ -131,7 +131,7 @@ impl<'a> Shape<'a> {
             rest
         };
         if starts_with_letter(content)
-            && is_apart(rest)
+            && may_follow(rest)
             && !has_brace(arguments)
             && !has_brace(targets)
         {

@@ -1,7 +1,7 @@
 ghost use Rattle.std.specs.Prelude.{◌<◌, length, IfOk, MatchOption};
 ghost use Rattle.std.specs.Option.{option_copied};
-ghost use Rattle.stab_line_reader.specs.FirstLines.{TellsInstruction};
-ghost use Rattle.stab_line_reader.specs.inner.PlainLines.{TellsKind};
+ghost use Rattle.stab_line_reader.specs.FirstLines.{ReadsInstruction};
+ghost use Rattle.stab_line_reader.specs.inner.PlainLines.{ReadsKind};
 
 use crate::line::{is_digit, name_len, starts_with_letter};
 use crate::spaced_target::{ControlledTargets, PairTargets, targets_in_front};
@@ -17,7 +17,7 @@ fn kind_in_front(
     instruction: Instruction,
     bytes: &[u8],
 ) -> Result<Option<(Kind, Option<&[u8]>)>, Refusal>
-    ensures tells { TellsKind instruction bytes.now result }
+    ensures reports { ReadsKind instruction bytes.now result }
 {
     match instruction {
         Instruction::Gate(gate) => match targets_in_front::<QubitTargets>(alloc, bytes)? {
@@ -62,7 +62,7 @@ pub fn instruction_in_front(
     alloc: Global,
     text: &[u8],
 ) -> Result<Option<(Kind, Option<&[u8]>)>, Refusal>
-    ensures tells { TellsInstruction text.now result }
+    ensures reports { ReadsInstruction text.now result }
     ensures shorter { IfOk result (λ found. MatchOption found (Unit {0}) (λ p. MatchOption (option_copied p.1) (Unit {0}) (λ after. length after < length text.now))) }
 {
     let (name, targets) = text.split_at(name_len(text));

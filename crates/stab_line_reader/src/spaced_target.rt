@@ -5,7 +5,7 @@ ghost use Rattle.stab_lines.specs.Results.{each};
 ghost use Rattle.stab_lines.specs.Targets.{qubit_of, measure_target_of};
 ghost use Rattle.stab_lines.specs.declared.control.ControlledPair.TheVariants.{Qubits};
 ghost use Rattle.stab_lines.specs.Controls.{controlled_of};
-ghost use Rattle.stab_line_reader.specs.inner.PlainLines.{paired_words, EndsLine, IsSpacedQubit, IsSpacedPair, AreSpacedTargets, TellsTargets};
+ghost use Rattle.stab_line_reader.specs.inner.PlainLines.{paired_words, EndsLine, IsSpacedQubit, IsSpacedPair, AreSpacedTargets, ReadsTargets};
 
 use crate::line::starts_with;
 use crate::target::{MOST_QUBITS, MeasureTargets, QubitTargets};
@@ -53,10 +53,10 @@ fn spaced_pair(bytes: &[u8]) -> Option<(Pair, &[u8])>
     ensures value { MatchOption result (Unit {0}) (λ p. IsSpacedPair bytes.now p.0 p.1.now) }
     ensures shorter { MatchOption result (Unit {0}) (λ p. length p.1.now < length bytes.now) }
 {
-    let Some((first, behind)) = spaced_qubit(bytes) else {
+    let Some((first, following)) = spaced_qubit(bytes) else {
         return None;
     };
-    let Some((second, rest)) = spaced_qubit(behind) else {
+    let Some((second, rest)) = spaced_qubit(following) else {
         return None;
     };
     if first == second {
@@ -157,7 +157,7 @@ pub fn targets_in_front<T: SpacedTarget>(
     alloc: Global,
     bytes: &[u8],
 ) -> Result<Option<(Sequence<T::Kept>, Option<&[u8]>)>, Refusal>
-    ensures tells { TellsTargets T.meaning bytes.now result }
+    ensures reports { ReadsTargets T.meaning bytes.now result }
 {
     let mut found = Vec::new(alloc);
     let mut rest = bytes;

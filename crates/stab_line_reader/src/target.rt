@@ -170,9 +170,9 @@ pub fn record_at_front(bytes: &[u8]) -> Option<(u32, &[u8])>
     if !bytes.starts_with(b"rec[-") {
         return None;
     }
-    let behind = bytes.split_at(5).1;
-    let (length, number) = digits_in_front(behind);
-    let closing = behind.split_at(length).1;
+    let following = bytes.split_at(5).1;
+    let (length, number) = digits_in_front(following);
+    let closing = following.split_at(length).1;
     if !starts_with(closing, b']') {
         return None;
     }

@@ -3,7 +3,7 @@ ghost use Rattle.std.specs.Option.{option_copied};
 ghost use Rattle.std.specs.List.{position_or_len, list_all, slice_split};
 ghost use Rattle.stab_lines.specs.Lines.{is_byte, is_digit as digit, is_spacing as spacing};
 ghost use Rattle.stab_lines.specs.Words.{words, is_blank as blank, is_number as number, value, pieces_after};
-ghost use Rattle.stab_line_reader.specs.inner.Numbers.{BeginsWithNumber, IsBehindWord, is_word_end};
+ghost use Rattle.stab_line_reader.specs.inner.Numbers.{BeginsWithNumber, IsAfterWord, is_word_end};
 
 use crate::line::is_digit;
 use stab_lines::{is_spacing, without_spacing_in_front};
@@ -129,7 +129,7 @@ fn number_in_front(bytes: &[u8], cap: u64) -> Option<(u64, &[u8])>
     if length == 0 || number >= cap {
         return None;
     }
-    match behind_word(bytes.split_at(length).1) {
+    match after_word(bytes.split_at(length).1) {
         Some(rest) => Some((number, rest)),
         None => None,
     }
@@ -149,7 +149,7 @@ fn spaced_number(bytes: &[u8], cap: u64) -> Option<(u64, &[u8])>
     if length == 0 || number >= cap {
         return None;
     }
-    match behind_word(bytes.split_at(length).1) {
+    match after_word(bytes.split_at(length).1) {
         Some(rest) => Some((number, rest)),
         None => None,
     }
@@ -157,8 +157,8 @@ fn spaced_number(bytes: &[u8], cap: u64) -> Option<(u64, &[u8])>
 
 /// What follows a word that ends where the bytes begin, without the spacing that ends it.
 #[inline(always)]
-fn behind_word(bytes: &[u8]) -> Option<&[u8]>
-    ensures value { MatchOption result (Unit {0}) (λ rest. IsBehindWord bytes.now rest.now) }
+fn after_word(bytes: &[u8]) -> Option<&[u8]>
+    ensures value { MatchOption result (Unit {0}) (λ rest. IsAfterWord bytes.now rest.now) }
 {
     match bytes.first() {
         None => Some(bytes),

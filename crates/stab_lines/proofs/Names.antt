@@ -23,8 +23,8 @@ pub use Rattle.stab_lines.specs.Controls.{by_turns, paired, controlled_of, pair_
 unfoldable pub use Rattle.stab_lines.specs.Controls.{control_of}
 pub use Rattle.stab_lines.specs.Laws.{IsLine}
 pub use Rattle.stab_lines.specs.Limits.{most_observables, most_lookback}
-pub use Rattle.stab_lines.specs.Lines.{is_byte, is_digit, is_spacing, trimmed, starts_with_byte, ends_with_byte, is_brace, trimmed_front, Shape, behind_tag, shaped, has_byte, is_letter, is_name_byte, without_brace}
-unfoldable pub use Rattle.stab_lines.specs.Lines.{is_apart, shape_of, content_of, bracketed}
+pub use Rattle.stab_lines.specs.Lines.{is_byte, is_digit, is_spacing, trimmed, starts_with_byte, ends_with_byte, is_brace, trimmed_front, Shape, after_tag, shaped, has_byte, is_letter, is_name_byte, without_brace}
+unfoldable pub use Rattle.stab_lines.specs.Lines.{may_follow, shape_of, content_of, bracketed}
 pub use Rattle.stab_lines.specs.Lookbacks.{IsLookback}
 pub use Rattle.stab_lines.specs.Meanings.{shape_meaning, is_close, targets_alone, opened, only_count, coordinates_of}
 unfoldable pub use Rattle.stab_lines.specs.Meanings.{kind_of, named_line, meaning_of, block_of, observable_include_of}

@@ -20,17 +20,17 @@ others_more bs byte n m within h k =
 pub any_split : (p : ℕ → Bool) (bs : List ℕ) (n : ℕ) → list_any p bs ≡ (list_any p (take n bs) || list_any p (drop n bs))
 any_split p bs n = ap (list_any p) (sym (take-append-drop n bs)) ∙ list_any-append p (take n bs) (drop n bs)
 
-position_behind : (p : ℕ → Bool) (xs ys : List ℕ) → list_any p xs ≡ false → position_or_len p (xs ++ ys) ≡ length xs + position_or_len p ys
-position_behind p [] ys h = omega arith
-position_behind p (x ∷ xs) ys h =
+position_after : (p : ℕ → Bool) (xs ys : List ℕ) → list_any p xs ≡ false → position_or_len p (xs ++ ys) ≡ length xs + position_or_len p ys
+position_after p [] ys h = omega arith
+position_after p (x ∷ xs) ys h =
     let parts = or_parts (p x) (list_any p xs) h in
-    let more = position_behind p xs ys parts.1 in
+    let more = position_after p xs ys parts.1 in
     let one : position_or_len p (x ∷ (xs ++ ys)) ≡ 1 + position_or_len p (xs ++ ys) = ap (λ b. if not b then 1 + position_or_len p (xs ++ ys) else 0) parts.0 in
     omega (arith, more, one)
 
 -- if others are in front, the byte comes first after them
-pub behind_others : (bs : List ℕ) (byte n near : ℕ) → n ≤ length bs → list_any (is_byte byte) (take n bs) ≡ false → near ≡ position_or_len (is_byte byte) (drop n bs) → n + near ≡ position_or_len (is_byte byte) bs
-behind_others bs byte n near within h e =
+pub after_others : (bs : List ℕ) (byte n near : ℕ) → n ≤ length bs → list_any (is_byte byte) (take n bs) ≡ false → near ≡ position_or_len (is_byte byte) (drop n bs) → n + near ≡ position_or_len (is_byte byte) bs
+after_others bs byte n near within h e =
     let all = ap (position_or_len (is_byte byte)) (take-append-drop n bs) in
-    let cut = position_behind (is_byte byte) (take n bs) (drop n bs) h in
+    let cut = position_after (is_byte byte) (take n bs) (drop n bs) h in
     omega (arith, all, cut, e, length-take n bs, within)

@@ -1,5 +1,5 @@
 -- What is known of all that a line is read as.
-use Rattle.stab_lines.proofs.Names.{◌≡◌, ◌≢◌, ◌<◌, ◌≤◌, refl, sym, subst, ℕ, List, [], ◌∷◌, Bool, true, false, not, nat_lt, ◌==◌, ◌&&◌, ◌||◌, length, drop, take, Option, None, Some, Result, Ok, Err, if◌then◌else◌, arith, list_all, list_any, prefix_len, slice_split, take_while, nat_tests, Refusal, BadArguments, BadTarget, BadLine, most_qubits, most_observables, Axis, Factor, Control, ControlTarget, Instruction, Name, Blank, Close, Open, ◌>>=◌, each, Shape, is_byte, bracketed, behind_tag, shaped, shape_of, starts_with_byte, ends_with_byte, has_byte, is_name_byte, is_letter, is_brace, is_apart, without_brace, words, is_blank, arguments_of, is_some_word, is_number, value, IsLookback, name_of, first_axis, unmarked, is_factor, factor_on, factor_of, names_twice, on_different, product_of, control_of, by_turns, pair_of, paired, controlled_of, qubit_of, measure_target_of, lookback_of, is_lookback, count_of, pairs_of, is_coordinate_byte, coordinate_of, number_of, observable_of, targets_alone, coordinates_of, kind_of, observable_include_of, only_count, opened, block_of, named_line, shape_meaning, is_close, meaning_of}
+use Rattle.stab_lines.proofs.Names.{◌≡◌, ◌≢◌, ◌<◌, ◌≤◌, refl, sym, subst, ℕ, List, [], ◌∷◌, Bool, true, false, not, nat_lt, ◌==◌, ◌&&◌, ◌||◌, length, drop, take, Option, None, Some, Result, Ok, Err, if◌then◌else◌, arith, list_all, list_any, prefix_len, slice_split, take_while, nat_tests, Refusal, BadArguments, BadTarget, BadLine, most_qubits, most_observables, Axis, Factor, Control, ControlTarget, Instruction, Name, Blank, Close, Open, ◌>>=◌, each, Shape, is_byte, bracketed, after_tag, shaped, shape_of, starts_with_byte, ends_with_byte, has_byte, is_name_byte, is_letter, is_brace, may_follow, without_brace, words, is_blank, arguments_of, is_some_word, is_number, value, IsLookback, name_of, first_axis, unmarked, is_factor, factor_on, factor_of, names_twice, on_different, product_of, control_of, by_turns, pair_of, paired, controlled_of, qubit_of, measure_target_of, lookback_of, is_lookback, count_of, pairs_of, is_coordinate_byte, coordinate_of, number_of, observable_of, targets_alone, coordinates_of, kind_of, observable_include_of, only_count, opened, block_of, named_line, shape_meaning, is_close, meaning_of}
 use Rattle.stab_lines.specs.declared.control.Control.TheVariants as control
 use Rattle.stab_lines.specs.declared.control.ControlledPair.TheVariants as pair
 use Rattle.stab_lines.specs.declared.name.Instruction.TheVariants as instruction
@@ -243,7 +243,7 @@ HasTag s = IsTag s.tag
 
 shaped_sure : (content tag : List ℕ) (arguments : List ℕ × List ℕ) → IsTag tag → IsSure HasTag (shaped content tag arguments)
 shaped_sure content tag arguments t =
-    guard_sure HasTag (list_any is_letter (take 1 content) && is_apart arguments.1 && not (list_any is_brace arguments.0) && not (list_any is_brace (without_brace arguments.1)))
+    guard_sure HasTag (list_any is_letter (take 1 content) && may_follow arguments.1 && not (list_any is_brace arguments.0) && not (list_any is_brace (without_brace arguments.1)))
     (Ok (record { name = take_while is_name_byte content; tag = tag; arguments = arguments.0; targets = without_brace arguments.1; opens = ends_with_byte arguments.1 123 }))
     BadLine (sure_ok HasTag _ t)
 
@@ -251,7 +251,7 @@ shape_sure : (content : List ℕ) → Free (is_byte 10) content → Free (is_byt
 unfolding shape_of
 shape_sure content f g =
     let rest = drop (prefix_len is_name_byte content) content in
-    sure_bind (IsCutAt 93 rest) HasTag (bracketed 91 93 rest) (behind_tag content) (bracketed_sure 91 93 rest)
+    sure_bind (IsCutAt 93 rest) HasTag (bracketed 91 93 rest) (after_tag content) (bracketed_sure 91 93 rest)
     (λ tag p. sure_bind (IsCutAt 41 tag.1) HasTag (bracketed 40 41 tag.1) (shaped content tag.0) (bracketed_sure 40 41 tag.1)
     (λ arguments q. shaped_sure content tag.0 arguments (free_tag tag.0 (p.1 (is_byte 10) (free_drop (is_byte 10) _ content f)).0 (p.1 (is_byte 35) (free_drop (is_byte 35) _ content g)).0 p.0)))
 

@@ -71,8 +71,8 @@ pub record Shape : Type 0 where
   pub opens : Bool
 
 -- whether targets may follow the name, tag or arguments directly like this
-unfoldable pub is_apart : List ℕ → Bool
-is_apart bs = (length bs == 0) || list_any is_spacing (take 1 bs) || ((length bs == 1) && ends_with_byte bs 123)
+unfoldable pub may_follow : List ℕ → Bool
+may_follow bs = (length bs == 0) || list_any is_spacing (take 1 bs) || ((length bs == 1) && ends_with_byte bs 123)
 
 -- the targets, without the brace at the end
 abbrev pub without_brace : List ℕ → List ℕ
@@ -81,13 +81,13 @@ without_brace bs = if ends_with_byte bs 123 then take (length bs - 1) bs else bs
 -- the shape, if the rest is as it must be
 abbrev pub shaped : List ℕ → List ℕ → List ℕ × List ℕ → Result Shape Refusal
 shaped content tag arguments =
-    if list_any is_letter (take 1 content) && is_apart arguments.1 && not (list_any is_brace arguments.0) && not (list_any is_brace (without_brace arguments.1))
+    if list_any is_letter (take 1 content) && may_follow arguments.1 && not (list_any is_brace arguments.0) && not (list_any is_brace (without_brace arguments.1))
     then Ok (record { name = take_while is_name_byte content; tag = tag; arguments = arguments.0; targets = without_brace arguments.1; opens = ends_with_byte arguments.1 123 })
     else Err BadLine
 
-abbrev pub behind_tag : List ℕ → List ℕ × List ℕ → Result Shape Refusal
-behind_tag content tag = bracketed 40 41 tag.1 >>= shaped content tag.0
+abbrev pub after_tag : List ℕ → List ℕ × List ℕ → Result Shape Refusal
+after_tag content tag = bracketed 40 41 tag.1 >>= shaped content tag.0
 
 -- the shape of a content, or that it has none
 unfoldable pub shape_of : List ℕ → Result Shape Refusal
-shape_of content = bracketed 91 93 (drop (prefix_len is_name_byte content) content) >>= behind_tag content
+shape_of content = bracketed 91 93 (drop (prefix_len is_name_byte content) content) >>= after_tag content

@@ -1,6 +1,6 @@
 -- Rows that a mask chooses: what a walk from one to the next has done.
 use Rattle.stab_pauli.proofs.Names.{◌≡◌, ◌≢◌, ℕ, ◌+◌, ◌-◌, ◌*◌, ◌/◌, ◌^◌, ◌<◌, ◌≤◌, Bool, true, false, refl, sym, ◌∙◌, ap, subst, length, get_or, arith, inl, inr, ◌⊎◌, cases_order, cases_lt, length-set, get_or-set_same, get_or-set_other, get_or_past, get_or-replicate, length-replicate, I, has_x, Signed, identity, Rows, row_at, with_row, chooses, AreChosen}
-use Rattle.stab_pauli.proofs.MaskLemmas.{clash, none-chosen, spared-above}
+use Rattle.stab_pauli.proofs.MaskLemmas.{clash, none-chosen, unchosen-above}
 
 -- the chosen rows are changed except those that are left in the rest of the mask
 pub record IsWalked (first mask rest : ℕ) (change : Bool → Signed → Signed) (old now : Rows) : Type 0 where
@@ -19,7 +19,7 @@ module _ (first mask : ℕ) (change : Bool → Signed → Signed) (old : Rows) w
     among = λ k lt one. one;
     done = λ k lt none. sym (ap (λ b. change b (row_at old (first + k))) none ∙ stays (row_at old (first + k)));
     left = λ k lt one. refl;
-    others = λ a apart. refl;
+    others = λ a distinct. refl;
   }
 
   pub walk-end : (now : Rows) (rest : ℕ) → rest ≡ 0 → IsWalked first mask rest change old now → AreChosen first mask change old now
@@ -35,7 +35,7 @@ module _ (first mask : ℕ) (change : Bool → Signed → Signed) (old : Rows) w
       (new : Rows) (made : new ≡ with_row now (first + k) (change true (row_at now (first + k)))) (next : ℕ) (gone : chooses next k ≡ false)
       (kept : (j : ℕ) → j ≢ k → j < 64 → chooses next j ≡ chooses rest j) where
     other : (a : ℕ) → a ≢ first + k → row_at new a ≡ row_at now a
-    other a apart = ap (λ (r : Rows). row_at r a) made ∙ get_or-set_other now.rows (first + k) a (change true (row_at now (first + k))) (identity now.qubits) apart
+    other a distinct = ap (λ (r : Rows). row_at r a) made ∙ get_or-set_other now.rows (first + k) a (change true (row_at now (first + k))) (identity now.qubits) distinct
 
     here : row_at new (first + k) ≡ change (chooses mask k) (row_at old (first + k))
     here =
@@ -46,35 +46,35 @@ module _ (first mask : ℕ) (change : Bool → Signed → Signed) (old : Rows) w
     among-next : (j : ℕ) → j < 64 → chooses next j ≡ true → chooses mask j ≡ true
     among-next j lj chosen = by_place (cases_order j k)
       where
-        apart : j ≢ k → chooses mask j ≡ true
-        apart ne = walked.among j lj (sym (kept j ne lj) ∙ chosen)
+        distinct : j ≢ k → chooses mask j ≡ true
+        distinct ne = walked.among j lj (sym (kept j ne lj) ∙ chosen)
 
         by_place : (j ≡ k) ⊎ ((j < k) ⊎ (k < j)) → chooses mask j ≡ true
         by_place (inl e) = ap (chooses mask) e ∙ walked.among k lk one
-        by_place (inr (inl lt)) = apart (omega arith)
-        by_place (inr (inr gt)) = apart (omega arith)
+        by_place (inr (inl lt)) = distinct (omega arith)
+        by_place (inr (inr gt)) = distinct (omega arith)
 
     done-next : (j : ℕ) → j < 64 → chooses next j ≡ false → row_at new (first + j) ≡ change (chooses mask j) (row_at old (first + j))
     done-next j lj none = by_place (cases_order j k)
       where
-        apart : j ≢ k → row_at new (first + j) ≡ change (chooses mask j) (row_at old (first + j))
-        apart ne = other (first + j) (omega arith) ∙ walked.done j lj (sym (kept j ne lj) ∙ none)
+        distinct : j ≢ k → row_at new (first + j) ≡ change (chooses mask j) (row_at old (first + j))
+        distinct ne = other (first + j) (omega arith) ∙ walked.done j lj (sym (kept j ne lj) ∙ none)
 
         by_place : (j ≡ k) ⊎ ((j < k) ⊎ (k < j)) → row_at new (first + j) ≡ change (chooses mask j) (row_at old (first + j))
         by_place (inl e) = subst (λ i. row_at new (first + i) ≡ change (chooses mask i) (row_at old (first + i))) (sym e) here
-        by_place (inr (inl lt)) = apart (omega arith)
-        by_place (inr (inr gt)) = apart (omega arith)
+        by_place (inr (inl lt)) = distinct (omega arith)
+        by_place (inr (inr gt)) = distinct (omega arith)
 
     left-next : (j : ℕ) → j < 64 → chooses next j ≡ true → row_at new (first + j) ≡ row_at old (first + j)
     left-next j lj chosen = by_place (cases_order j k)
       where
-        apart : j ≢ k → row_at new (first + j) ≡ row_at old (first + j)
-        apart ne = other (first + j) (omega arith) ∙ walked.left j lj (sym (kept j ne lj) ∙ chosen)
+        distinct : j ≢ k → row_at new (first + j) ≡ row_at old (first + j)
+        distinct ne = other (first + j) (omega arith) ∙ walked.left j lj (sym (kept j ne lj) ∙ chosen)
 
         by_place : (j ≡ k) ⊎ ((j < k) ⊎ (k < j)) → row_at new (first + j) ≡ row_at old (first + j)
         by_place (inl e) = clash (chooses next k) (ap (chooses next) (sym e) ∙ chosen) gone
-        by_place (inr (inl lt)) = apart (omega arith)
-        by_place (inr (inr gt)) = apart (omega arith)
+        by_place (inr (inl lt)) = distinct (omega arith)
+        by_place (inr (inr gt)) = distinct (omega arith)
 
     others-next : (a : ℕ) → (a < first) ⊎ (first + 64 ≤ a) → row_at new a ≡ row_at old a
     others-next a (inl lt) = other a (omega arith) ∙ walked.others a (inl lt)
@@ -113,7 +113,7 @@ module _ (v : Rows) (first end q : ℕ) (last : (k : ℕ) → k < 64 → end ≤
     where
       by_place : (first + k < end) ⊎ (end ≤ first + k) → chooses mask k ≡ has_x (get_or (row_at v (first + k)).letters q I)
       by_place (inl lt) = value k lt
-      by_place (inr le) = spared-above mask (end - first) k short (omega arith) ∙ sym (past-rows v (first + k) q (last k lk le))
+      by_place (inr le) = unchosen-above mask (end - first) k short (omega arith) ∙ sym (past-rows v (first + k) q (last k lk le))
 
   pub places-with_x : (places : ℕ) → ((k j : ℕ) → first + k < end → j < 64 → has_x (get_or (row_at v (first + k)).letters (64 * (q / 64) + j) I) ≡ true → chooses places j ≡ true)
       → (k j : ℕ) → k < 64 → j < 64 → has_x (get_or (row_at v (first + k)).letters (64 * (q / 64) + j) I) ≡ true → chooses places j ≡ true

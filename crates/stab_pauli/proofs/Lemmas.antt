@@ -3,11 +3,11 @@ pub use Rattle.stab_pauli.proofs.BlankLemmas.{fits, IsTable-none, table-none}
 pub use Rattle.stab_pauli.proofs.BlockLemmas.{product-halves, block-meet, first-half, second-half, part-inside, part-row}
 pub use Rattle.stab_pauli.proofs.ChosenLemmas.{IsWalked, mask-with_x, places-with_x}
 pub use Rattle.stab_pauli.proofs.LetterMaskLemmas.{mask-letter, mask-blank, string-letter, letter-inside}
-pub use Rattle.stab_pauli.proofs.MaskLemmas.{behind-first, behind-others, byte-small, behind_several-first, behind_several-others, eight-fits, eight-short, first-chosen, with-here, with-others, without-gone, without-others, without-fewer, grown, grown-eight}
+pub use Rattle.stab_pauli.proofs.MaskLemmas.{following-first, following-others, byte-small, after_several-first, after_several-others, eight-fits, eight-short, first-chosen, with-here, with-others, without-gone, without-others, without-fewer, grown, grown-eight}
 pub use Rattle.stab_pauli.proofs.NextLetterLemmas.{no_bit, next_bit-found, blank_word, letter_found, next_inside, blank_inside}
 pub use Rattle.stab_pauli.proofs.OnesLemmas.{words_odd-fold, word_odd-all, word_ones-all, words_odd-xor}
 pub use Rattle.stab_pauli.proofs.PackedLemmas.{order_phase-step, meet_phase-step, power_step}
-pub use Rattle.stab_pauli.proofs.PackingLemmas.{sparse-cut, sparse-few, sparse-behind, blocks-next, sparse-kept, sparse-blank, blank_block}
+pub use Rattle.stab_pauli.proofs.PackingLemmas.{sparse-cut, sparse-few, sparse-following, blocks-next, sparse-kept, sparse-blank, blank_block}
 pub use Rattle.stab_pauli.proofs.PaddedLemmas.{view_of, lies_of, is_of, length-view, written_view, alike, sign_read, place_in_row, IsView, same_numbers}
 pub use Rattle.stab_pauli.proofs.PlaceLemmas.{letter_at_place, row_letters-set}
 pub use Rattle.stab_pauli.proofs.PowerLemmas.{fixed_sign, powers_differ}
@@ -15,13 +15,13 @@ pub use Rattle.stab_pauli.proofs.RowLemmas.{put_middle, put_front, put_back, IsR
 pub use Rattle.stab_pauli.proofs.RowProductLemmas.{product_of, times_i_of, product_seen, times_i_seen, product_viewed, times_i_viewed, string_viewed, block_viewed}
 pub use Rattle.stab_pauli.proofs.SeenLemmas.{blank_view, written_resigned, phased_product-times_phase, signed_view, letter_view, counted_seen, seen_of, qubits_seen, in_seen, put_seen, written_seen, IsSeen, row_seen, read_power, same_view, fitting, rows_seen, letter_seen, place_seen, row_at-with_row, negated_seen, swapped_written, both_seen}
 pub use Rattle.stab_pauli.proofs.SignedLemmas.{anticommute-product, product-assoc, product-self}
-pub use Rattle.stab_pauli.proofs.SparseLemmas.{writing-on, writing-none, writing-end, IsWriting, short-spread, told_by}
-pub use Rattle.stab_pauli.proofs.SparsePlaceLemmas.{passed-more, passed-told, passed-all, eight-blank, blank_told}
+pub use Rattle.stab_pauli.proofs.SparseLemmas.{writing-on, writing-none, writing-end, IsWriting, short-spread, determined_by}
+pub use Rattle.stab_pauli.proofs.SparsePlaceLemmas.{passed-more, passed-determined, passed-all, eight-blank, blank_determined}
 pub use Rattle.stab_pauli.proofs.SupportLemmas.{IsTimesBut, words_odd-none, times-none, times-more, times-words, times-meet, CoversBefore}
 pub use Rattle.stab_pauli.proofs.SupportMaskLemmas.{letters-covered, words-covered}
 pub use Rattle.stab_pauli.proofs.SwapLemmas.{swapped-none, swapped-more, earlier}
-pub use Rattle.stab_pauli.proofs.TableLemmas.{rows_apart}
-pub use Rattle.stab_pauli.proofs.TellLemmas.{no_false, powers_apart, all_told, AreShort-same, words_told, letters_told, same_number}
+pub use Rattle.stab_pauli.proofs.TableLemmas.{rows_disjoint}
+pub use Rattle.stab_pauli.proofs.DetermineLemmas.{no_false, powers_distinct, all_determined, AreShort-same, words_determined, letters_determined, same_number}
 pub use Rattle.stab_pauli.proofs.TextLemmas.{length-part, get_or-part, IsSpeltBefore-more, IsSpeltBefore-all, IsSpeltBefore, length-letters_text, letters_text-next}
 pub use Rattle.stab_pauli.proofs.XMaskLemmas.{x-at, gathered-next, x-mask, gathered, gathered-one}
 pub use Rattle.stab_pauli.proofs.XPartLemmas.{still-word, lowest_in_word, first-found, still-block, none_here, none_in_row, found_in_row, any_none}

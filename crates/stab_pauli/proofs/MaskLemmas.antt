@@ -5,8 +5,8 @@ use Rattle.stab_pauli.proofs.BitLemmas.{two_cases, low_xor}
 pub chosen : (mask k : ℕ) → bit_at mask k ≡ 1 → chooses mask k ≡ true
 chosen mask k e = ap (λ n. eqb n 1) e
 
-pub spared : (mask k : ℕ) → bit_at mask k ≡ 0 → chooses mask k ≡ false
-spared mask k e = ap (λ n. eqb n 1) e
+pub unchosen : (mask k : ℕ) → bit_at mask k ≡ 0 → chooses mask k ≡ false
+unchosen mask k e = ap (λ n. eqb n 1) e
 
 -- no row is both
 pub clash : {A : Type 0} (b : Bool) → b ≡ true → b ≡ false → A
@@ -17,22 +17,22 @@ pub bit-chosen : (mask k : ℕ) → chooses mask k ≡ true → bit_at mask k �
 bit-chosen mask k one = by_bit (two_cases (bit_at mask k) (bit_at-lt mask k))
   where
     by_bit : (bit_at mask k ≡ 0) ⊎ (bit_at mask k ≡ 1) → bit_at mask k ≡ 1
-    by_bit (inl none) = clash (chooses mask k) one (spared mask k none)
+    by_bit (inl none) = clash (chooses mask k) one (unchosen mask k none)
     by_bit (inr e) = e
 
-pub bit-spared : (mask k : ℕ) → chooses mask k ≡ false → bit_at mask k ≡ 0
-bit-spared mask k none = by_bit (two_cases (bit_at mask k) (bit_at-lt mask k))
+pub bit-unchosen : (mask k : ℕ) → chooses mask k ≡ false → bit_at mask k ≡ 0
+bit-unchosen mask k none = by_bit (two_cases (bit_at mask k) (bit_at-lt mask k))
   where
     by_bit : (bit_at mask k ≡ 0) ⊎ (bit_at mask k ≡ 1) → bit_at mask k ≡ 0
     by_bit (inl e) = e
     by_bit (inr one) = clash (chooses mask k) (chosen mask k one) none
 
 pub none-chosen : (k : ℕ) → chooses 0 k ≡ false
-none-chosen k = spared 0 k (bit_at-zero k)
+none-chosen k = unchosen 0 k (bit_at-zero k)
 
 -- a mask of fewer rows chooses none past them
-pub spared-above : (mask size k : ℕ) → mask < 2 ^ size → size ≤ k → chooses mask k ≡ false
-spared-above mask size k lt le = spared mask k (bit_at_above mask size k lt le)
+pub unchosen-above : (mask size k : ℕ) → mask < 2 ^ size → size ≤ k → chooses mask k ≡ false
+unchosen-above mask size k lt le = unchosen mask k (bit_at_above mask size k lt le)
 
 -- the first row
 
@@ -84,18 +84,18 @@ with-others mask k r j false lt ne e = or-none mask j (r * 2 ^ k % 2 ^ 64) (noth
 
 -- after a row
 
-pub behind-first : (mask r : ℕ) (b : Bool) → r ≡ bool_byte b → chooses (2 * mask + r) 0 ≡ b
-behind-first mask r true e =
+pub following-first : (mask r : ℕ) (b : Bool) → r ≡ bool_byte b → chooses (2 * mask + r) 0 ≡ b
+following-first mask r true e =
     let one : r ≡ 1 = e in
     let low : (2 * mask + r) % 2 ≡ 1 = omega arith in
     ap (λ n. eqb n 1) (bit_at_lowest (2 * mask + r) ∙ low)
-behind-first mask r false e =
+following-first mask r false e =
     let none : r ≡ 0 = e in
     let low : (2 * mask + r) % 2 ≡ 0 = omega arith in
     ap (λ n. eqb n 1) (bit_at_lowest (2 * mask + r) ∙ low)
 
-pub behind-others : (mask r k : ℕ) → r < 2 → chooses (2 * mask + r) (k + 1) ≡ chooses mask k
-behind-others mask r k lt =
+pub following-others : (mask r k : ℕ) → r < 2 → chooses (2 * mask + r) (k + 1) ≡ chooses mask k
+following-others mask r k lt =
     ap (chooses (2 * mask + r)) (let e : k + 1 ≡ suc k = omega arith in e)
     ∙ ap (λ n. eqb n 1) (bit_at-suc (2 * mask + r) k)
     ∙ ap (λ n. chooses n k) (let e : (2 * mask + r) / 2 ≡ mask = omega arith in e)
@@ -140,25 +140,25 @@ bits-front (suc s) (suc k) mask rows lt =
     let half : (2 ^ suc s * mask + rows) / 2 ≡ 2 ^ s * mask + rows / 2 = omega (arith, e) in
     bit_at-suc (2 ^ suc s * mask + rows) k ∙ ap (λ n. bit_at n k) half ∙ bits-front s k mask (rows / 2) (omega arith) ∙ sym (bit_at-suc rows k)
 
-bits-behind : (s k mask rows : ℕ) → rows < 2 ^ s → bit_at (2 ^ s * mask + rows) (k + s) ≡ bit_at mask k
-bits-behind zero k mask rows lt =
+bits-following : (s k mask rows : ℕ) → rows < 2 ^ s → bit_at (2 ^ s * mask + rows) (k + s) ≡ bit_at mask k
+bits-following zero k mask rows lt =
     let none : rows ≡ 0 = omega (arith, lt) in
     let e : 2 ^ 0 * mask + rows ≡ mask = omega (arith, none) in
     let at : k + 0 ≡ k = omega arith in
     λ i. bit_at (e i) (at i)
-bits-behind (suc s) k mask rows lt =
+bits-following (suc s) k mask rows lt =
     let e = double s mask in
     let half : (2 ^ suc s * mask + rows) / 2 ≡ 2 ^ s * mask + rows / 2 = omega (arith, e) in
     let at : k + suc s ≡ suc (k + s) = omega arith in
     let two = pow-succ' 2 s in
     ap (bit_at (2 ^ suc s * mask + rows)) at ∙ bit_at-suc (2 ^ suc s * mask + rows) (k + s) ∙ ap (λ n. bit_at n (k + s)) half
-    ∙ bits-behind s k mask (rows / 2) (omega (arith, two, lt))
+    ∙ bits-following s k mask (rows / 2) (omega (arith, two, lt))
 
-pub behind_several-first : (s k mask rows : ℕ) → k < s → chooses (2 ^ s * mask + rows) k ≡ chooses rows k
-behind_several-first s k mask rows lt = ap (λ n. eqb n 1) (bits-front s k mask rows lt)
+pub after_several-first : (s k mask rows : ℕ) → k < s → chooses (2 ^ s * mask + rows) k ≡ chooses rows k
+after_several-first s k mask rows lt = ap (λ n. eqb n 1) (bits-front s k mask rows lt)
 
-pub behind_several-others : (s k mask rows : ℕ) → rows < 2 ^ s → chooses (2 ^ s * mask + rows) (k + s) ≡ chooses mask k
-behind_several-others s k mask rows lt = ap (λ n. eqb n 1) (bits-behind s k mask rows lt)
+pub after_several-others : (s k mask rows : ℕ) → rows < 2 ^ s → chooses (2 ^ s * mask + rows) (k + s) ≡ chooses mask k
+after_several-others s k mask rows lt = ap (λ n. eqb n 1) (bits-following s k mask rows lt)
 
 pub eight-short : (mask size eight : ℕ) → mask < 2 ^ size → eight < 2 ^ 8 → 256 * mask + eight < 2 ^ (size + 8)
 eight-short mask size eight short few = let e = pow-add 2 size 8 in omega (arith, e, short, few)

@@ -20,9 +20,9 @@ pub use Rattle.std.specs.Int.Bits.{xor_zero_r}
 pub use Rattle.std.specs.List.{All, list_any}
 pub use Rattle.std.specs.Prelude.{bit_xor, bit_and, min, ◌⊎◌, bit_or, ◌↔◌, IfNone, Option, Some, None, slice_set}
 pub use Rattle.std.specs.Simd.Lanes.{zip2, chunk, put_chunk, pick_l}
-pub use Rattle.stab_gates.proofs.LetterLemmas.{each_letter, by_letters, letter_product-I, letter_product-self, letter_product-comm, letter_product-assoc, letter_phase-self, letter_phase-swap, letter_phase-twice, letter_phase-assoc, letters_anticommute-I, letters_anticommute-self, letters_anticommute-comm, letters_anticommute-product, letters_anticommute-tells}
+pub use Rattle.stab_gates.proofs.LetterLemmas.{each_letter, by_letters, letter_product-I, letter_product-self, letter_product-comm, letter_product-assoc, letter_phase-self, letter_phase-swap, letter_phase-twice, letter_phase-assoc, letters_anticommute-I, letters_anticommute-self, letters_anticommute-comm, letters_anticommute-product, letters_anticommute-determines}
 pub use Rattle.stab_gates.proofs.ParityLemmas.{parity-false, parity-assoc, parity-mid, parity-comm, not-true}
-pub use Rattle.stab_gates.proofs.PhaseLemmas.{phase_of_sign-injective, phase_add-assoc, phase_of_sign-parity, quarters-add, quarters-mod, phase_add-zero, phase_add-comm, phase_add-left, phase_add-mid, phase_add-back_left, phase_add-back_right, phase_add-cancel, phase_of_sign-sign_of_phase, sign_of_phase-phase_of_sign, is_even-phase_of_sign, phase_of_sign-not, phase_of_sign-twice, is_even-sign, is_even-quarter, is_even-twice, tells_phases}
+pub use Rattle.stab_gates.proofs.PhaseLemmas.{phase_of_sign-injective, phase_add-assoc, phase_of_sign-parity, quarters-add, quarters-mod, phase_add-zero, phase_add-comm, phase_add-left, phase_add-mid, phase_add-back_left, phase_add-back_right, phase_add-cancel, phase_of_sign-sign_of_phase, sign_of_phase-phase_of_sign, is_even-phase_of_sign, phase_of_sign-not, phase_of_sign-twice, is_even-sign, is_even-quarter, is_even-twice, determines_phases}
 pub use Rattle.stab_gates.specs.LetterTexts.{letter_text}
 pub use Rattle.stab_gates.specs.Letters.{◌⊕◌, letter_product, letter_power, letter_phase, letters_anticommute}
 pub use Rattle.stab_gates.specs.Phases.{phase_add, is_even, sign_of_phase, phase_inverse, phase_of_sign, quarters}

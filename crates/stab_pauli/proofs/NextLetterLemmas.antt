@@ -5,15 +5,15 @@ use Rattle.stab_pauli.proofs.BitLemmas.{two_cases}
 use Rattle.stab_pauli.proofs.MaskLemmas.{clash}
 use Rattle.stab_pauli.proofs.BlankLemmas.{fits}
 use Rattle.stab_pauli.proofs.PlaceLemmas.{x_place, bits_letter, letter_at_place}
-use Rattle.stab_pauli.proofs.XPartLemmas.{before, blank_behind}
+use Rattle.stab_pauli.proofs.XPartLemmas.{before, blank_after}
 
 -- bits of a word after the first s
 
-pub bit_behind : (word s i : ℕ) → bit_at (word / 2 ^ s) i ≡ bit_at word (s + i)
-bit_behind word s i = ap (λ x. x % 2) (shr-shr word s i)
+pub bit_after : (word s i : ℕ) → bit_at (word / 2 ^ s) i ≡ bit_at word (s + i)
+bit_after word s i = ap (λ x. x % 2) (shr-shr word s i)
 
 moved_back : (word s k : ℕ) → s ≤ k → bit_at word k ≡ bit_at (word / 2 ^ s) (k - s)
-moved_back word s k le = ap (bit_at word) (let e : k ≡ s + (k - s) = omega arith in e) ∙ sym (bit_behind word s (k - s))
+moved_back word s k le = ap (bit_at word) (let e : k ≡ s + (k - s) = omega arith in e) ∙ sym (bit_after word s (k - s))
 
 pub no_bit : (word s rest : ℕ) → rest ≡ word / 2 ^ s → rest ≡ 0 → (k : ℕ) → s ≤ k → k < 64 → bit_at word k ≡ 0
 no_bit word s rest e none k le lt = moved_back word s k le ∙ ap (λ w. bit_at w (k - s)) (sym e ∙ none) ∙ bit_at-zero (k - s)
@@ -30,7 +30,7 @@ next_bit-found word s rest e small pos fits = record {
     found = bit_at-trailing_zeros w64 rest pos fits
 
     one : bit_at word (s + trailing_zeros w64 rest) ≡ 1
-    one = sym (bit_behind word s (trailing_zeros w64 rest)) ∙ ap (λ w. bit_at w (trailing_zeros w64 rest)) (sym e) ∙ found.1
+    one = sym (bit_after word s (trailing_zeros w64 rest)) ∙ ap (λ w. bit_at w (trailing_zeros w64 rest)) (sym e) ∙ found.1
 
     by_place : (s + trailing_zeros w64 rest < 64) ⊎ (64 ≤ s + trailing_zeros w64 rest) → s + trailing_zeros w64 rest < 64
     by_place (inl lt) = lt
@@ -109,7 +109,7 @@ module _ (n m from : ℕ) (ws : List ℕ) (is : IsRow n m ws) where
     where
       by_place : (k < n) ⊎ (n ≤ k) → k < n
       by_place (inl lt) = lt
-      by_place (inr le) = absurd (next.here (blank_behind n m ws k is le))
+      by_place (inr le) = absurd (next.here (blank_after n m ws k is le))
 
   pub blank_inside : IsBlankFrom from (256 * m) (row_letters m ws) → IsBlankFrom from n (take n (row_letters m ws))
   blank_inside h j le lj = let f = fits n m is.blocks in get_or-take n (row_letters m ws) j I lj ∙ h j le (omega arith)

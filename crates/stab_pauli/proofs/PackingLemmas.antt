@@ -69,9 +69,9 @@ sparse-blank gs ks b m block e none = record {
 }
 
 -- more words after some
-pub sparse-behind : (gs ks new_gs new_ks : List ℕ) (b d : ℕ) (words more all : List ℕ) → words ++ more ≡ all → IsSparse gs ks b words
+pub sparse-following : (gs ks new_gs new_ks : List ℕ) (b d : ℕ) (words more all : List ℕ) → words ++ more ≡ all → IsSparse gs ks b words
     → IsSparse new_gs new_ks d (spread gs ks b ++ more) → IsSparse new_gs new_ks d all
-sparse-behind gs ks new_gs new_ks b d words more all whole is new = record {
+sparse-following gs ks new_gs new_ks b d words more all whole is new = record {
   even = new.even;
   words_are = new.words_are ∙ ap (λ t. t ++ more) is.words_are ∙ whole;
 }
@@ -81,10 +81,10 @@ pub blocks-next : (words : List ℕ) (k n : ℕ) → n ≡ 8 → take (8 * k) wo
 blocks-next words k n e = sym (take-add (8 * k) n words) ∙ ap (λ m. take m words) (omega (arith, e))
 
 -- no more come after than there are
-spread-behind : (gs ks : List ℕ) (b : ℕ) → b ≤ length (spread gs ks b)
-spread-behind [] ks b = omega (arith, length-replicate {A = ℕ} b 0)
-spread-behind (g ∷ gs) [] b = omega (arith, length-replicate {A = ℕ} b 0)
-spread-behind (g ∷ gs) (w ∷ ks) b = omega (arith, length-from g w (spread gs ks b), spread-behind gs ks b)
+spread-following : (gs ks : List ℕ) (b : ℕ) → b ≤ length (spread gs ks b)
+spread-following [] ks b = omega (arith, length-replicate {A = ℕ} b 0)
+spread-following (g ∷ gs) [] b = omega (arith, length-replicate {A = ℕ} b 0)
+spread-following (g ∷ gs) (w ∷ ks) b = omega (arith, length-from g w (spread gs ks b), spread-following gs ks b)
 
 pub sparse-few : (gs ks : List ℕ) (b : ℕ) (words : List ℕ) → IsSparse gs ks b words → b ≤ length words
-sparse-few gs ks b words is = omega (arith, spread-behind gs ks b, ap length is.words_are)
+sparse-few gs ks b words is = omega (arith, spread-following gs ks b, ap length is.words_are)

@@ -1,6 +1,6 @@
 -- One string in its words: what is past its last letter is I, which changes no product.
 use Rattle.stab_pauli.proofs.Names.{◌≡◌, ℕ, zero, suc, [], ◌∷◌, ◌++◌, ◌-◌, ◌*◌, ◌<◌, refl, sym, ◌∙◌, ap, List, length, set, take, drop, replicate, arith, subst, bit_xor, length-replicate, length-take-le, append-nil, drop-set-lt, take-length, drop-length, length-zip2, Letter, I, Phase, phase_add, phase_of_sign, sign_of_phase, phase_inverse, ◌⊕◌, Signed, string_product, strings_anticommute, xor_words, string_power, strings_meet, sign_power, power_of, row_letters, blocks_of, AreBlocks, IsPadded, IsRow, IsSignedRow, signed_row}
-use Rattle.stab_pauli.proofs.PowerLemmas.{power_told, is_sign_left, sign_of_left, strings_anticommute-meet}
+use Rattle.stab_pauli.proofs.PowerLemmas.{power_determined, is_sign_left, sign_of_left, strings_anticommute-meet}
 use Rattle.stab_pauli.proofs.BlankLemmas.{fits, row-none, take-replicate, drop-replicate}
 use Rattle.stab_pauli.proofs.RowLemmas.{row_product, length-row}
 use Rattle.stab_pauli.proofs.TableLemmas.{take-product, padded-product, padded-meet, padded-power}
@@ -22,7 +22,7 @@ pub view_of : {n m : ℕ} {ws : List ℕ} {k : Phase} {v : Signed} → IsSignedR
 view_of {n} {m} {ws} {k} signed is = record {
   row = signed.row;
   letters = ap (λ (p : Signed). p.letters) is;
-  power = power_told k (take n (row_letters m ws)) signed.sign ∙ ap power_of is;
+  power = power_determined k (take n (row_letters m ws)) signed.sign ∙ ap power_of is;
 }
 
 -- the words and the power of a string

@@ -81,8 +81,8 @@ sign_power-of t p =
     ∙ ap (phase_add t) (phase_add-back_left (string_power p)) ∙ phase_add-zero t
 
 -- a power that leaves a sign is determined by it and the letters
-pub power_told : (t : Phase) (p : List Letter) → IsSign (sign_power t p) → t ≡ phase_add (phase_of_sign (sign_of_phase (sign_power t p))) (string_power p)
-power_told t p is = sym (sign_power-left t p) ∙ ap (λ s. phase_add s (string_power p)) (sym (phase_of_sign-sign_of_phase (sign_power t p) is))
+pub power_determined : (t : Phase) (p : List Letter) → IsSign (sign_power t p) → t ≡ phase_add (phase_of_sign (sign_of_phase (sign_power t p))) (string_power p)
+power_determined t p is = sym (sign_power-left t p) ∙ ap (λ s. phase_add s (string_power p)) (sym (phase_of_sign-sign_of_phase (sign_power t p) is))
 
 pub sign_left : (s : Bool) (t : Phase) (p : List Letter) → t ≡ phase_add (phase_of_sign s) (string_power p) → sign_power t p ≡ phase_of_sign s
 sign_left s t p e = ap (λ u. sign_power u p) e ∙ sign_power-of (phase_of_sign s) p
@@ -96,8 +96,8 @@ sign_of_left s t p e = ap sign_of_phase (sign_left s t p e) ∙ sign_of_phase-ph
 -- the powers of signed strings
 
 -- if two have the same letters, the powers show the signs
-pub power_of-tells : (v v' : Signed) → v.letters ≡ v'.letters → power_of v ≡ power_of v' → v.negative ≡ v'.negative
-power_of-tells v v' el e =
+pub power_of-determines : (v v' : Signed) → v.letters ≡ v'.letters → power_of v ≡ power_of v' → v.negative ≡ v'.negative
+power_of-determines v v' el e =
     phase_of_sign-injective v.negative v'.negative
     (phase_add-cancel (string_power v.letters) (phase_of_sign v.negative) (phase_of_sign v'.negative)
     (phase_add-comm (string_power v.letters) (phase_of_sign v.negative) ∙ e ∙ ap (λ l. phase_add (phase_of_sign v'.negative) (string_power l)) (sym el)

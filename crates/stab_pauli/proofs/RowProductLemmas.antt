@@ -20,9 +20,9 @@ pub product_seen : {n m : ℕ} {ws : List ℕ} {ps : List Phase} {v : Rows} {ws'
     → (a : ℕ) → a < length ps → anticommute (row_at v a) v' ≡ false → (words : List ℕ) (len : ℕ) (x y r : Phase) (b : Bool) → slice ≡ ws → other ≡ ws' → IsTimes m a slice other words b
     → x ≡ get_or ps a x → y ≡ k' → r ≡ phase_add (phase_add x y) (phase_of_sign b) → len ≡ length ws
     → IsSeen n m (take len (words ++ drop (length words) ws)) (set ps a r) (with_row v a (product (row_at v a) v'))
-product_seen {n} {m} {ws} {ps} {v} {ws'} mine theirs a la apart words len x y r b es eo times ex ey er l =
+product_seen {n} {m} {ws} {ps} {v} {ws'} mine theirs a la distinct words len x y r b es eo times ex ey er l =
     written_seen ws words (xor_words (chunk (8 * m * a) (8 * m) ws) ws') (8 * m * a) len read.words_are l
-    (put_seen mine a la (product_view (xor_words (chunk (8 * m * a) (8 * m) ws) ws') x y r b (row_seen mine a la) theirs apart refl (read_power ps a x la ex) ey read.meet_is er))
+    (put_seen mine a la (product_view (xor_words (chunk (8 * m * a) (8 * m) ws) ws') x y r b (row_seen mine a la) theirs distinct refl (read_power ps a x la ex) ey read.meet_is er))
   where
     read : IsTimes m a ws ws' words b
     read = read_times ws ws' es eo times
@@ -32,9 +32,9 @@ pub times_i_seen : {n m : ℕ} {ws : List ℕ} {ps : List Phase} {v : Rows} {ws'
     → (a : ℕ) → a < length ps → anticommute (row_at v a) v' ≡ true → (words : List ℕ) (len : ℕ) (x y t r : Phase) (b : Bool) → slice ≡ ws → other ≡ ws' → IsTimes m a slice other words b
     → x ≡ get_or ps a x → y ≡ k' → t ≡ phase_add (phase_add x y) (phase_of_sign b) → r ≡ phase_add Quarter t → len ≡ length ws
     → IsSeen n m (take len (words ++ drop (length words) ws)) (set ps a r) (with_row v a (product_times_i (row_at v a) v'))
-times_i_seen {n} {m} {ws} {ps} {v} {ws'} mine theirs a la apart words len x y t r b es eo times ex ey et er l =
+times_i_seen {n} {m} {ws} {ps} {v} {ws'} mine theirs a la distinct words len x y t r b es eo times ex ey et er l =
     written_seen ws words (xor_words (chunk (8 * m * a) (8 * m) ws) ws') (8 * m * a) len read.words_are l
-    (put_seen mine a la (times_i_view (xor_words (chunk (8 * m * a) (8 * m) ws) ws') x y t r b (row_seen mine a la) theirs apart refl (read_power ps a x la ex) ey read.meet_is et er))
+    (put_seen mine a la (times_i_view (xor_words (chunk (8 * m * a) (8 * m) ws) ws') x y t r b (row_seen mine a la) theirs distinct refl (read_power ps a x la ex) ey read.meet_is et er))
   where
     read : IsTimes m a ws ws' words b
     read = read_times ws ws' es eo times
@@ -77,39 +77,39 @@ pub product_viewed : {n m : ℕ} {ws : List ℕ} {ps : List Phase} {v : Rows} {n
     → length v'.letters ≡ v.qubits → (a : ℕ) → a < length ps → anticommute v' (row_at v a) ≡ false → (words : List ℕ) (len : ℕ) (y r : Phase) (b : Bool) → slice ≡ ws' → read ≡ chunk (8 * m * a) (8 * m) ws
     → IsTimesRow m slice read words b → y ≡ get_or ps a y → r ≡ phase_add (phase_add k' y) (phase_of_sign b) → len ≡ length ws'
     → IsView n' m' (take len (words ++ drop (length words) ws')) r (product v' (row_at v a))
-product_viewed {n} {m} {ws} {ps} {v} {n'} {m'} {ws'} {k'} mine theirs l a la apart words len y r b es er times ey e el =
+product_viewed {n} {m} {ws} {ps} {v} {n'} {m'} {ws'} {k'} mine theirs l a la distinct words len y r b es er times ey e el =
     let fit = fitting mine theirs l in
     let read = read_times_row ws' (chunk (8 * m * a) (8 * m) ws) es er times in
     written_view words len theirs el (same_numbers n' m' fit.qubits fit.blocks
-    (product_view words k' y r b fit.view (row_seen mine a la) apart read.words_are refl (read_power ps a y la ey) read.meet_is e))
+    (product_view words k' y r b fit.view (row_seen mine a la) distinct read.words_are refl (read_power ps a y la ey) read.meet_is e))
 
 -- i times that product
 pub times_i_viewed : {n m : ℕ} {ws : List ℕ} {ps : List Phase} {v : Rows} {n' m' : ℕ} {ws' : List ℕ} {k' : Phase} {v' : Signed} {slice read : List ℕ} → IsSeen n m ws ps v → IsView n' m' ws' k' v'
     → length v'.letters ≡ v.qubits → (a : ℕ) → a < length ps → anticommute v' (row_at v a) ≡ true → (words : List ℕ) (len : ℕ) (y t r : Phase) (b : Bool) → slice ≡ ws' → read ≡ chunk (8 * m * a) (8 * m) ws
     → IsTimesRow m slice read words b → y ≡ get_or ps a y → t ≡ phase_add (phase_add k' y) (phase_of_sign b) → r ≡ phase_add Quarter t → len ≡ length ws'
     → IsView n' m' (take len (words ++ drop (length words) ws')) r (product_times_i v' (row_at v a))
-times_i_viewed {n} {m} {ws} {ps} {v} {n'} {m'} {ws'} {k'} mine theirs l a la apart words len y t r b es er times ey et e el =
+times_i_viewed {n} {m} {ws} {ps} {v} {n'} {m'} {ws'} {k'} mine theirs l a la distinct words len y t r b es er times ey et e el =
     let fit = fitting mine theirs l in
     let read = read_times_row ws' (chunk (8 * m * a) (8 * m) ws) es er times in
     written_view words len theirs el (same_numbers n' m' fit.qubits fit.blocks
-    (times_i_view words k' y t r b fit.view (row_seen mine a la) apart read.words_are refl (read_power ps a y la ey) read.meet_is et e))
+    (times_i_view words k' y t r b fit.view (row_seen mine a la) distinct read.words_are refl (read_power ps a y la ey) read.meet_is et e))
 
 -- a string, multiplied by another
 pub product_of : {n m : ℕ} {ws : List ℕ} {k : Phase} {v : Signed} {n' m' : ℕ} {ws' : List ℕ} {k' : Phase} {v' : Signed} {slice read : List ℕ} → IsView n m ws k v → IsView n' m' ws' k' v'
     → length v.letters ≡ length v'.letters → anticommute v v' ≡ false → (words : List ℕ) (len : ℕ) (r : Phase) (b : Bool) → slice ≡ ws → read ≡ ws'
     → IsTimesRow m slice read words b → r ≡ phase_add (phase_add k k') (phase_of_sign b) → len ≡ length ws
     → IsView n m (take len (words ++ drop (length words) ws)) r (product v v')
-product_of {n} {m} {ws} {k} {v} {n'} {m'} {ws'} {k'} mine theirs l apart words len r b es er times e el =
+product_of {n} {m} {ws} {k} {v} {n'} {m'} {ws'} {k'} mine theirs l distinct words len r b es er times e el =
     let fit = alike mine theirs l in
     let read = read_times_row ws ws' es er times in
-    written_view words len mine el (product_view words k k' r b mine fit.view apart read.words_are refl refl read.meet_is e)
+    written_view words len mine el (product_view words k k' r b mine fit.view distinct read.words_are refl refl read.meet_is e)
 
 -- i times that product
 pub times_i_of : {n m : ℕ} {ws : List ℕ} {k : Phase} {v : Signed} {n' m' : ℕ} {ws' : List ℕ} {k' : Phase} {v' : Signed} {slice read : List ℕ} → IsView n m ws k v → IsView n' m' ws' k' v'
     → length v.letters ≡ length v'.letters → anticommute v v' ≡ true → (words : List ℕ) (len : ℕ) (t r : Phase) (b : Bool) → slice ≡ ws → read ≡ ws'
     → IsTimesRow m slice read words b → t ≡ phase_add (phase_add k k') (phase_of_sign b) → r ≡ phase_add Quarter t → len ≡ length ws
     → IsView n m (take len (words ++ drop (length words) ws)) r (product_times_i v v')
-times_i_of {n} {m} {ws} {k} {v} {n'} {m'} {ws'} {k'} mine theirs l apart words len t r b es er times et e el =
+times_i_of {n} {m} {ws} {k} {v} {n'} {m'} {ws'} {k'} mine theirs l distinct words len t r b es er times et e el =
     let fit = alike mine theirs l in
     let read = read_times_row ws ws' es er times in
-    written_view words len mine el (times_i_view words k k' t r b mine fit.view apart read.words_are refl refl read.meet_is et e)
+    written_view words len mine el (times_i_view words k k' t r b mine fit.view distinct read.words_are refl refl read.meet_is et e)

@@ -93,19 +93,19 @@ product_power {n} {m} {ws} {ws'} x y b mine theirs ex ey eb =
 pub product_view : {n m : ℕ} {ws ws' : List ℕ} {k k' : Phase} {v v' : Signed} (new : List ℕ) (x y r : Phase) (b : Bool) → IsView n m ws k v → IsView n m ws' k' v'
     → anticommute v v' ≡ false → new ≡ xor_words ws ws' → x ≡ k → y ≡ k' → b ≡ strings_meet (row_letters m ws) (row_letters m ws')
     → r ≡ phase_add (phase_add x y) (phase_of_sign b) → IsView n m new r (product v v')
-product_view {n} {m} {ws} {ws'} {v = v} {v' = v'} new x y r b mine theirs apart e ex ey eb er = record {
+product_view {n} {m} {ws} {ws'} {v = v} {v' = v'} new x y r b mine theirs distinct e ex ey eb er = record {
   row = IsRow-read n m ws ws' new mine.row theirs.row e;
   letters = product_letters new mine theirs e;
-  power = er ∙ product_power x y b mine theirs ex ey eb ∙ power_of-product v v' apart;
+  power = er ∙ product_power x y b mine theirs ex ey eb ∙ power_of-product v v' distinct;
 }
 
 pub times_i_view : {n m : ℕ} {ws ws' : List ℕ} {k k' : Phase} {v v' : Signed} (new : List ℕ) (x y t r : Phase) (b : Bool) → IsView n m ws k v → IsView n m ws' k' v'
     → anticommute v v' ≡ true → new ≡ xor_words ws ws' → x ≡ k → y ≡ k' → b ≡ strings_meet (row_letters m ws) (row_letters m ws')
     → t ≡ phase_add (phase_add x y) (phase_of_sign b) → r ≡ phase_add Quarter t → IsView n m new r (product_times_i v v')
-times_i_view {n} {m} {ws} {ws'} {v = v} {v' = v'} new x y t r b mine theirs apart e ex ey eb et er = record {
+times_i_view {n} {m} {ws} {ws'} {v = v} {v' = v'} new x y t r b mine theirs distinct e ex ey eb et er = record {
   row = IsRow-read n m ws ws' new mine.row theirs.row e;
   letters = product_letters new mine theirs e;
-  power = er ∙ ap (phase_add Quarter) (et ∙ product_power x y b mine theirs ex ey eb) ∙ power_of-times_phase v v' apart;
+  power = er ∙ ap (phase_add Quarter) (et ∙ product_power x y b mine theirs ex ey eb) ∙ power_of-times_phase v v' distinct;
 }
 
 -- i times a product of two that anticommute, as it is among all powers of i

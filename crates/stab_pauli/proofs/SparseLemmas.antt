@@ -1,10 +1,10 @@
 -- Words of which most are 0: what a word after them makes, how they are written over words 0, and how they are compared.
 use Rattle.stab_pauli.proofs.Names.{◌≡◌, ℕ, zero, suc, ◌+◌, ◌<◌, ◌≤◌, refl, sym, ◌∙◌, ap, arith, append_assoc, length-append, List, [], ◌∷◌, ◌++◌, length, get_or, set, drop, replicate, length-replicate, replicate-append-replicate, set-append_right, set_at, drop_more, length-set, drop_all, AreShort, SparseWords, spread}
-use Rattle.stab_pauli.proofs.TellLemmas.{short_more, short_tail}
+use Rattle.stab_pauli.proofs.DetermineLemmas.{short_more, short_tail}
 
 -- the words that a value stands for
-abbrev pub told_by : SparseWords → List ℕ
-told_by w = spread w.gaps.items w.kept.items w.behind
+abbrev pub determined_by : SparseWords → List ℕ
+determined_by w = spread w.gaps.items w.kept.items w.following
 
 -- after them
 
@@ -105,11 +105,11 @@ short-blank : (n : ℕ) → AreShort 64 (replicate n 0)
 short-blank zero = record { below = λ i. omega arith }
 short-blank (suc n) = short_more 64 0 (replicate n 0) (omega arith) (short-blank n)
 
-short-behind : (n : ℕ) (ws : List ℕ) → AreShort 64 ws → AreShort 64 (replicate n 0 ++ ws)
-short-behind zero ws short = short
-short-behind (suc n) ws short = short_more 64 0 (replicate n 0 ++ ws) (omega arith) (short-behind n ws short)
+short-following : (n : ℕ) (ws : List ℕ) → AreShort 64 ws → AreShort 64 (replicate n 0 ++ ws)
+short-following zero ws short = short
+short-following (suc n) ws short = short_more 64 0 (replicate n 0 ++ ws) (omega arith) (short-following n ws short)
 
 pub short-spread : (gs ks : List ℕ) (b : ℕ) → AreShort 64 ks → AreShort 64 (spread gs ks b)
 short-spread [] ks b short = short-blank b
 short-spread (g ∷ gs) [] b short = short-blank b
-short-spread (g ∷ gs) (w ∷ ks) b short = short-behind g (w ∷ spread gs ks b) (short_more 64 w (spread gs ks b) (short.below 0) (short-spread gs ks b (short_tail 64 w ks short)))
+short-spread (g ∷ gs) (w ∷ ks) b short = short-following g (w ∷ spread gs ks b) (short_more 64 w (spread gs ks b) (short.below 0) (short-spread gs ks b (short_tail 64 w ks short)))

@@ -2,9 +2,9 @@
 use Rattle.stab_pauli.proofs.Names.{◌≡◌, ℕ, ◌+◌, ◌-◌, ◌≤◌, refl, sym, ◌∙◌, ap, arith, append_assoc, length-append, List, [], ◌∷◌, ◌++◌, length, get_or, take, drop, replicate, take-add, append-nil, replicate-append-replicate, take_at, drop_at, length-take-le, bit_or, spread_next, words_from}
 
 -- a block of words 0 has no bit
-pub blank_told : (xs : List ℕ) → xs ≡ replicate 8 0
+pub blank_determined : (xs : List ℕ) → xs ≡ replicate 8 0
     → bit_or (bit_or (bit_or (get_or xs 0 0) (get_or xs 1 0)) (bit_or (get_or xs 2 0) (get_or xs 3 0))) (bit_or (bit_or (get_or xs 4 0) (get_or xs 5 0)) (bit_or (get_or xs 6 0) (get_or xs 7 0))) ≡ 0
-blank_told xs e =
+blank_determined xs e =
     ap (λ t. bit_or (bit_or (bit_or (get_or t 0 0) (get_or t 1 0)) (bit_or (get_or t 2 0) (get_or t 3 0))) (bit_or (bit_or (get_or t 4 0) (get_or t 5 0)) (bit_or (get_or t 6 0) (get_or t 7 0)))) e
 
 -- eight words 0, of a gap of as many or more
@@ -31,8 +31,8 @@ passed-more whole words rest part new k n m e before here same =
     ∙ ap (λ i. take i words ++ new) (sym e)
 
 -- if they are these, they must go on in the same way
-pub passed-told : (whole words rest : List ℕ) (k n m : ℕ) → m ≡ n → k ≤ length words → whole ≡ take k words ++ rest → whole ≡ words → take n rest ≡ take m (drop k words)
-passed-told whole words rest k n m e le before all =
+pub passed-determined : (whole words rest : List ℕ) (k n m : ℕ) → m ≡ n → k ≤ length words → whole ≡ take k words ++ rest → whole ≡ words → take n rest ≡ take m (drop k words)
+passed-determined whole words rest k n m e le before all =
     ap (take n) (sym (ap (drop k) before ∙ drop_at (take k words) rest k (length-take-le k words le)) ∙ ap (drop k) all)
     ∙ ap (λ i. take i (drop k words)) (sym e)
 

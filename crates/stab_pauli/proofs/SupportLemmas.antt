@@ -59,8 +59,8 @@ first-block m p l =
     append-nil (packed_letters 64 (chunk 0 4 (chunk 0 8 p)) (chunk 4 4 (chunk 0 8 p)))
     ∙ (λ i. packed_letters 64 (chunk-in 0 8 0 4 p (omega arith) (omega arith) i) (chunk-in 0 8 4 4 p (omega arith) (omega arith) i))
 
-block-behind : (b : ℕ) (p : List ℕ) → chunk (8 * b) 8 (drop 8 p) ≡ chunk (8 * suc b) 8 p
-block-behind b p = let e : 8 + 8 * b ≡ 8 * suc b = omega arith in ap (take 8) (drop-drop (8 * b) 8 p ∙ ap (λ n. drop n p) e)
+block-following : (b : ℕ) (p : List ℕ) → chunk (8 * b) 8 (drop 8 p) ≡ chunk (8 * suc b) 8 p
+block-following b p = let e : 8 + 8 * b ≡ 8 * suc b = omega arith in ap (take 8) (drop-drop (8 * b) 8 p ∙ ap (λ n. drop n p) e)
 
 -- the bits of rows meet as often as those of their blocks
 meets-blocks : (m : ℕ) (p q : List ℕ) → length p ≡ 8 * m → length q ≡ 8 * m → strings_meet (row_letters m p) (row_letters m q) ≡ parity m (block_meets p q)
@@ -70,7 +70,7 @@ meets-blocks (suc m) p q lp lq =
     ∙ (λ i. strings_meet (sym (first-block m p lp) i) (sym (first-block m q lq) i) ⊕ meets-blocks m (drop 8 p) (drop 8 q) (length-rest m p lp) (length-rest m q lq) i)
     ∙ ap (λ t. block_meets p q 0 ⊕ t)
     (parity-same m (block_meets (drop 8 p) (drop 8 q)) (λ b. block_meets p q (suc b))
-    (λ b lt. λ i. strings_meet (row_letters 1 (block-behind b p i)) (row_letters 1 (block-behind b q i))))
+    (λ b lt. λ i. strings_meet (row_letters 1 (block-following b p i)) (row_letters 1 (block-following b q i))))
   where
     front : List ℕ → List Letter
     front row = packed_letters 64 (take 4 row) (take 4 (drop 4 row))

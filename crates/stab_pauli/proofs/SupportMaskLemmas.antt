@@ -6,7 +6,7 @@ use Rattle.stab_pauli.proofs.BlankLemmas.{row-none}
 use Rattle.stab_pauli.proofs.PaddedLemmas.{length-string}
 use Rattle.stab_pauli.proofs.XPartLemmas.{before}
 use Rattle.stab_pauli.proofs.LetterMaskLemmas.{string-letter}
-use Rattle.stab_pauli.proofs.TellLemmas.{short_take, short_drop, row_told}
+use Rattle.stab_pauli.proofs.DetermineLemmas.{short_take, short_drop, row_determined}
 
 -- a letter of a row, by its block alone
 block-letter : (m : ℕ) (row : List ℕ) (b k : ℕ) → length row ≡ 8 * m → b < m → k < 256 → get_or (row_letters m row) (256 * b + k) I ≡ get_or (row_letters 1 (chunk (8 * b) 8 row)) k I
@@ -28,7 +28,7 @@ block-letter m row b k l lb lk =
 
 -- a block of letters I is eight words 0
 blank-block : (row : List ℕ) → length row ≡ 8 → AreShort 64 row → ((k : ℕ) → k < 256 → get_or (row_letters 1 row) k I ≡ I) → row ≡ replicate 8 0
-blank-block row l short blank = row_told 1 row (replicate 8 0) l (length-replicate {A = ℕ} 8 0) short short_zeros (letters ∙ sym (row-none 1 (replicate 8 0) refl))
+blank-block row l short blank = row_determined 1 row (replicate 8 0) l (length-replicate {A = ℕ} 8 0) short short_zeros (letters ∙ sym (row-none 1 (replicate 8 0) refl))
   where
     zero_at : (i : ℕ) → (i < 8) ⊎ (8 ≤ i) → get_or {A = ℕ} (replicate 8 0) i 0 ≡ 0
     zero_at i (inl lt) = get_or-replicate {A = ℕ} 8 i 0 0 lt

@@ -23,14 +23,14 @@ pub get_or-outside : (a s : ℕ) (ws new : List ℕ) (i : ℕ) → length new �
 get_or-outside a s ws new i l (inl lt) = get_or-put_chunk_below a ws new i 0 lt
 get_or-outside a s ws new i l (inr le) = get_or-put_chunk_above a ws new i 0 (omega arith)
 
-apart_second : (a b s j : ℕ) → (a + s ≤ b) ⊎ (b + s ≤ a) → j < s → (a + j < b) ⊎ (b + s ≤ a + j)
-apart_second a b s j (inl h) lt = inl (omega arith)
-apart_second a b s j (inr h) lt = inr (omega arith)
+disjoint_second : (a b s j : ℕ) → (a + s ≤ b) ⊎ (b + s ≤ a) → j < s → (a + j < b) ⊎ (b + s ≤ a + j)
+disjoint_second a b s j (inl h) lt = inl (omega arith)
+disjoint_second a b s j (inr h) lt = inr (omega arith)
 
 get_or-swapped_first : (a b s : ℕ) (ws : List ℕ) (j : ℕ) → a + s ≤ length ws → b + s ≤ length ws → (a + s ≤ b) ⊎ (b + s ≤ a) → j < s
     → get_or (swapped_words a b s ws) (a + j) 0 ≡ get_or ws (b + j) 0
 get_or-swapped_first a b s ws j la lb h lt =
-    get_or-outside b s (put_chunk a ws (chunk b s ws)) (chunk a s ws) (a + j) (length-chunk a s ws la) (apart_second a b s j h lt)
+    get_or-outside b s (put_chunk a ws (chunk b s ws)) (chunk a s ws) (a + j) (length-chunk a s ws la) (disjoint_second a b s j h lt)
     ∙ get_or-put_chunk_at a ws (chunk b s ws) j 0 (rw (length-chunk b s ws lb) lt) (rw (length-chunk b s ws lb) la)
     ∙ get_or-chunk b s ws j 0 lt
 
@@ -96,45 +96,45 @@ swapped-more a b k m ws la lb h =
     at : (i : ℕ) → Place a k i → Place b k i → Place (a + k) m i → Place (b + k) m i
         → get_or (swapped_words (a + k) (b + k) m now) i 0 ≡ get_or (swapped_words a b (k + m) ws) i 0
     at i (inr (j, lt, e)) pb pc pd = rw e
-        (get_or-swapped_other (a + k) (b + k) m now (a + j) na nb (inl (omega arith)) (first_apart h)
+        (get_or-swapped_other (a + k) (b + k) m now (a + j) na nb (inl (omega arith)) (first_disjoint h)
         ∙ get_or-swapped_first a b k ws j fa fb early lt ∙ sym (get_or-swapped_first a b (k + m) ws j la lb h (omega arith)))
       where
-        first_apart : (a + (k + m) ≤ b) ⊎ (b + (k + m) ≤ a) → (a + j < b + k) ⊎ (b + k + m ≤ a + j)
-        first_apart (inl x) = inl (omega arith)
-        first_apart (inr x) = inr (omega arith)
+        first_disjoint : (a + (k + m) ≤ b) ⊎ (b + (k + m) ≤ a) → (a + j < b + k) ⊎ (b + k + m ≤ a + j)
+        first_disjoint (inl x) = inl (omega arith)
+        first_disjoint (inr x) = inr (omega arith)
     at i (inl pa) (inr (j, lt, e)) pc pd = rw e
-        (get_or-swapped_other (a + k) (b + k) m now (b + j) na nb (second_apart h) (inl (omega arith))
+        (get_or-swapped_other (a + k) (b + k) m now (b + j) na nb (second_disjoint h) (inl (omega arith))
         ∙ get_or-swapped_second a b k ws j fa fb lt ∙ sym (get_or-swapped_second a b (k + m) ws j la lb (omega arith)))
       where
-        second_apart : (a + (k + m) ≤ b) ⊎ (b + (k + m) ≤ a) → (b + j < a + k) ⊎ (a + k + m ≤ b + j)
-        second_apart (inl x) = inr (omega arith)
-        second_apart (inr x) = inl (omega arith)
+        second_disjoint : (a + (k + m) ≤ b) ⊎ (b + (k + m) ≤ a) → (b + j < a + k) ⊎ (a + k + m ≤ b + j)
+        second_disjoint (inl x) = inr (omega arith)
+        second_disjoint (inr x) = inl (omega arith)
     at i (inl pa) (inl pb) (inr (j, lt, e)) pd =
         let g : a + k + j ≡ a + (k + j) = omega arith in
         let g' : b + k + j ≡ b + (k + j) = omega arith in
         rw e
         (get_or-swapped_first (a + k) (b + k) m now j na nb late lt
-        ∙ get_or-swapped_other a b k ws (b + k + j) fa fb (later_apart h) (inr (omega arith))
+        ∙ get_or-swapped_other a b k ws (b + k + j) fa fb (later_disjoint h) (inr (omega arith))
         ∙ ap (λ n. get_or ws n 0) g'
         ∙ sym (get_or-swapped_first a b (k + m) ws (k + j) la lb h (omega arith))
         ∙ ap (λ n. get_or (swapped_words a b (k + m) ws) n 0) (sym g))
       where
-        later_apart : (a + (k + m) ≤ b) ⊎ (b + (k + m) ≤ a) → (b + k + j < a) ⊎ (a + k ≤ b + k + j)
-        later_apart (inl x) = inr (omega arith)
-        later_apart (inr x) = inl (omega arith)
+        later_disjoint : (a + (k + m) ≤ b) ⊎ (b + (k + m) ≤ a) → (b + k + j < a) ⊎ (a + k ≤ b + k + j)
+        later_disjoint (inl x) = inr (omega arith)
+        later_disjoint (inr x) = inl (omega arith)
     at i (inl pa) (inl pb) (inl pc) (inr (j, lt, e)) =
         let g : b + k + j ≡ b + (k + j) = omega arith in
         let g' : a + k + j ≡ a + (k + j) = omega arith in
         rw e
         (get_or-swapped_second (a + k) (b + k) m now j na nb lt
-        ∙ get_or-swapped_other a b k ws (a + k + j) fa fb (inr (omega arith)) (later_apart h)
+        ∙ get_or-swapped_other a b k ws (a + k + j) fa fb (inr (omega arith)) (later_disjoint h)
         ∙ ap (λ n. get_or ws n 0) g'
         ∙ sym (get_or-swapped_second a b (k + m) ws (k + j) la lb (omega arith))
         ∙ ap (λ n. get_or (swapped_words a b (k + m) ws) n 0) (sym g))
       where
-        later_apart : (a + (k + m) ≤ b) ⊎ (b + (k + m) ≤ a) → (a + k + j < b) ⊎ (b + k ≤ a + k + j)
-        later_apart (inl x) = inl (omega arith)
-        later_apart (inr x) = inr (omega arith)
+        later_disjoint : (a + (k + m) ≤ b) ⊎ (b + (k + m) ≤ a) → (a + k + j < b) ⊎ (b + k ≤ a + k + j)
+        later_disjoint (inl x) = inl (omega arith)
+        later_disjoint (inr x) = inr (omega arith)
     at i (inl pa) (inl pb) (inl pc) (inl pd) =
         get_or-swapped_other (a + k) (b + k) m now i na nb pc pd
         ∙ get_or-swapped_other a b k ws i fa fb pa pb

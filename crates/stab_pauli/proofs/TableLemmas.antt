@@ -167,8 +167,8 @@ pub length-row_at : (m : ℕ) (ws : List ℕ) (ss : List Phase) (a : ℕ) → le
 length-row_at m ws ss a e lt = length-chunk (8 * m * a) (8 * m) ws (row_fits m (length ss) a (length ws) lt e)
 
 -- two rows do not overlap
-pub rows_apart : (m a b : ℕ) → a ≢ b → (8 * m * a + 8 * m ≤ 8 * m * b) ⊎ (8 * m * b + 8 * m ≤ 8 * m * a)
-rows_apart m a b h = by_order (cases_order a b)
+pub rows_disjoint : (m a b : ℕ) → a ≢ b → (8 * m * a + 8 * m ≤ 8 * m * b) ⊎ (8 * m * b + 8 * m ≤ 8 * m * a)
+rows_disjoint m a b h = by_order (cases_order a b)
   where
     by_order : (a ≡ b) ⊎ ((a < b) ⊎ (b < a)) → (8 * m * a + 8 * m ≤ 8 * m * b) ⊎ (8 * m * b + 8 * m ≤ 8 * m * a)
     by_order (inl e) = absurd (h e)

@@ -110,8 +110,8 @@ none_in_row n m ws is h =
     any_none n (row_letters m ws) s (rw (length-row m ws is.size) f)
 
 -- what is past the last letter is I
-pub blank_behind : (n m : ℕ) (ws : List ℕ) (k : ℕ) → IsRow n m ws → n ≤ k → get_or (row_letters m ws) k I ≡ I
-blank_behind n m ws k is h =
+pub blank_after : (n m : ℕ) (ws : List ℕ) (k : ℕ) → IsRow n m ws → n ≤ k → get_or (row_letters m ws) k I ≡ I
+blank_after n m ws k is h =
     let there : n + (k - n) ≡ k = omega arith in
     ap (λ j. get_or (row_letters m ws) j I) (sym there) ∙ sym (get_or-drop n (row_letters m ws) (k - n) I) ∙ ap (λ p. get_or p (k - n) I) is.padded
     ∙ get_or-replicate (256 * m - n) (k - n) I
@@ -122,7 +122,7 @@ found_inside n m ws k is lt e = by_place (before k n)
   where
     by_place : (k < n) ⊎ (n ≤ k) → k < n
     by_place (inl h) = h
-    by_place (inr h) = absurd (no_x (ap has_x (sym (blank_behind n m ws k is h)) ∙ e))
+    by_place (inr h) = absurd (no_x (ap has_x (sym (blank_after n m ws k is h)) ∙ e))
       where
         no_x : has_x I ≡ true → ⊥
         no_x q = cc

@@ -51,7 +51,7 @@ pub fn with_if(mask: u64, k: usize, chosen: bool) -> u64
 
 /// The mask of fewer than 64 rows with a further row before all others.
 #[inline(always)]
-pub fn behind(mask: u64, size: usize, chosen: bool) -> u64
+pub fn following(mask: u64, size: usize, chosen: bool) -> u64
     requires room { size < 64 }
     requires short { mask < 2 ^ size }
     ensures first { chooses result 0 ≡ chosen }
@@ -63,7 +63,7 @@ pub fn behind(mask: u64, size: usize, chosen: bool) -> u64
 
 /// The mask of at most 56 rows with eight further rows before all others, which have a mask of their own.
 #[inline(always)]
-pub fn behind_eight(mask: u64, size: usize, eight: u64) -> u64
+pub fn after_eight(mask: u64, size: usize, eight: u64) -> u64
     requires room { size + 8 ≤ 64 }
     requires short { mask < 2 ^ size }
     requires eight { eight < 2 ^ 8 }

@@ -204,7 +204,7 @@ impl PauliRows {
     pub fn swap(&mut self, a: usize, b: usize)
         requires a_in_range { a < length self.old.rows }
         requires b_in_range { b < length self.old.rows }
-        requires apart { a ≢ b }
+        requires distinct { a ≢ b }
         ensures value { self.new ≡ swapped_rows self.old a b }
     {
         let count = self.powers.len();
@@ -217,7 +217,7 @@ impl PauliRows {
     pub fn multiply(&mut self, a: usize, b: usize)
         requires a_in_range { a < length self.old.rows }
         requires b_in_range { b < length self.old.rows }
-        requires apart { a ≢ b }
+        requires distinct { a ≢ b }
         requires commuting { anticommute (row_at self.old a) (row_at self.old b) ≡ false }
         ensures value { self.new ≡ with_row self.old a (product (row_at self.old a) (row_at self.old b)) }
     {
@@ -232,7 +232,7 @@ impl PauliRows {
     pub fn multiply_times_i(&mut self, a: usize, b: usize)
         requires a_in_range { a < length self.old.rows }
         requires b_in_range { b < length self.old.rows }
-        requires apart { a ≢ b }
+        requires distinct { a ≢ b }
         requires anticommuting { anticommute (row_at self.old a) (row_at self.old b) ≡ true }
         ensures value { self.new ≡ with_row self.old a (product_times_i (row_at self.old a) (row_at self.old b)) }
         ensures phased { phased (row_at self.new a) ≡ times_phase Quarter (phased_product (phased (row_at self.old a)) (phased (row_at self.old b))) }

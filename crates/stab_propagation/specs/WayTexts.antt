@@ -1,8 +1,9 @@
 -- Way texts: what is written of the way of a string that is put in.
 -- Source: this project's own.
-use Rattle.std.specs.Prelude.{◌≡◌, ℕ, ◌-◌, Bool, false, List, [], ◌∷◌, ◌++◌, length, replicate, codes, decimal}
+use Rattle.std.specs.Prelude.{◌≡◌, ℕ, ◌-◌, Bool, false, List, [], ◌∷◌, ◌++◌, length, replicate, codes, decimal, if◌then◌else◌}
 use Rattle.std.specs.List.{flat_map}
 use Rattle.stab_gates.specs.LetterTexts.{letter_text}
+use Rattle.stab_gates.specs.declared.letter.Letter.{Letter}
 use Rattle.stab_circuit.specs.Items.{Items}
 use Rattle.stab_circuit.specs.Steps.{unroll, observables_of}
 use Rattle.stab_results.specs.declared.format.Kinds.{Kinds}
@@ -11,6 +12,7 @@ use Rattle.stab_run.specs.Points.{RunOutput, with_additions}
 use Rattle.stab_ways.specs.declared.way.PlacedLetter.{PlacedLetter}
 use Rattle.stab_ways.specs.PutIn.{string_after, string_flips}
 use Rattle.stab_ways.specs.Ways.{Turn, placed, string_turns}
+use Rattle.stab_ways.specs.Ticks.{tick_turns}
 use Rattle.stab_ways.specs.Laws.{FlipsRun, coins_with}
 use Rattle.stab_texts.specs.CoinTables.{whole_kinds}
 use Rattle.stab_texts.specs.Distances.{where_text}
@@ -30,7 +32,7 @@ abbrev pub string_text : List PlacedLetter → List ℕ
 string_text [] = codes "1"
 string_text (l ∷ letters) = placed_text l ++ flat_map factor_text letters
 
--- the line of an item after which a string is another one: how many steps are before its end, its path, and the string there
+-- the line of a place and the string there: how many steps are before it, the path of the item of the last of them, and the string
 abbrev pub turn_line : Items → Turn → List ℕ
 turn_line items t = where_text t.after (path_at items (t.after - 1)) ++ (string_text t.string ++ codes "\n")
 
@@ -46,15 +48,19 @@ flips_line kinds bits = codes "flips" ++ (flat_map (entry kinds) (one_places bit
 abbrev pub left_line : List PlacedLetter → List ℕ
 left_line letters = codes "left " ++ (string_text letters ++ codes "\n")
 
--- a line for each item after which the string is another one, in each round, then what is flipped, and the string at the end
-abbrev pub way_text : Items → PutIn → List ℕ
-way_text items put =
-    flat_map (turn_line items) (string_turns (length put.string) put.place put.string items)
+-- where the string is written: after each item after which it is another one, in each round; or at every tick from its place on
+abbrev pub asked_turns : (every : Bool) → ℕ → ℕ → List Letter → Items → List Turn
+asked_turns every n k string items = if every then tick_turns n k string items else string_turns n k string items
+
+-- a line for each of these, then what is flipped, and the string at the end
+abbrev pub way_text : Items → (every : Bool) → PutIn → List ℕ
+way_text items every put =
+    flat_map (turn_line items) (asked_turns every (length put.string) put.place put.string items)
     ++ (flips_line (whole_kinds items) (bits_flipped items (string_flips (length put.string) put.place put.string (unroll items)))
     ++ left_line (placed 0 (string_after (length put.string) put.place put.string (unroll items) (length (unroll items)))))
 
 -- The bytes are those of the way of a string; and the run with the string put in, and exactly the coins of the random outcomes that it flips
 -- exchanged, is the run without it, flipped so, and its state after each step is that of the other with the string there applied.
-pub record IsWayText (items : Items) (put : PutIn) (bytes : List ℕ) : Type 0 where
-  pub text : bytes ≡ way_text items put
+pub record IsWayText (items : Items) (every : Bool) (put : PutIn) (bytes : List ℕ) : Type 0 where
+  pub text : bytes ≡ way_text items every put
   pub runs : (coins : ℕ → Bool) → FlipsRun (length put.string) put.place put.string (unroll items) coins (coins_with (length put.string) put.place put.string (unroll items) coins)

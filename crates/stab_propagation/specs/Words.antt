@@ -11,7 +11,7 @@ use Rattle.stab_circuit.specs.Items.{Items, entries}
 use Rattle.stab_circuit.specs.Steps.{unroll, qubits_of}
 use Rattle.stab_edits.specs.Paths.{Path}
 use Rattle.stab_edits.specs.Places.{item_at}
-use Rattle.stab_script.specs.FramedRequests.{round_of}
+use Rattle.stab_script.specs.CountedRequests.{round_number_of}
 use Rattle.stab_script.specs.PlaceCounts.{steps_up_to}
 use Rattle.stab_script.specs.ScriptWords.{place_of}
 use Rattle.stab_script.specs.Signs.{string_of_word}
@@ -30,9 +30,9 @@ abbrev pub steps_in_front : Items → Option Path → Result ℕ Refusal
 steps_in_front items None = Err BadArguments
 steps_in_front items (Some path) = if is_end path items then Ok (length (unroll items)) else (item_at path (entries items) >>= λ item. Ok (length (steps_up_to path items)))
 
--- how many steps are before a place: as many as the word writes after @, as in @1207, or those before the item that it leads to, as 3/0/2
+-- how many steps are before a place: as many as the word writes after @, as in @1207, or those before the item that it goes to, as 3/0/2
 abbrev pub steps_of_word : Items → (word : List ℕ) → Result ℕ Refusal
-steps_of_word items word = if starts_with_byte word 64 then steps_within (length (unroll items)) (round_of (drop 1 word)) else steps_in_front items (place_of word)
+steps_of_word items word = if starts_with_byte word 64 then steps_within (length (unroll items)) (round_number_of (drop 1 word)) else steps_in_front items (place_of word)
 
 -- a string, and how many steps are before the place at which it is put in
 pub record PutIn : Type 0 where

@@ -3,7 +3,7 @@ ghost use Rattle.std.specs.Prelude.{◌≡◌, None, IfOk, length};
 ghost use Rattle.stab_circuit.specs.Steps.{check_of, qubits_of, unroll};
 ghost use Rattle.stab_edits.specs.Views.{circuit_items};
 ghost use Rattle.stab_lines.specs.Results.{Gives};
-ghost use Rattle.stab_script.specs.FramedRequests.{round_of};
+ghost use Rattle.stab_script.specs.CountedRequests.{round_number_of};
 ghost use Rattle.stab_propagation.specs.Words.{GivesPutIn, is_end, put_in_of, steps_in_front, steps_of_word, steps_within};
 
 use stab_circuit::{Circuit, Path};
@@ -47,7 +47,7 @@ fn steps_in_front(circuit: &Circuit, path: Option<Path>) -> Result<usize, Refusa
 }
 
 /// How many steps are before the place of a word: as many as it writes after `@`, as in `@1207`, or those before the item that
-/// it leads to, as `3/0/2` does, in the first round of each block around it; the number of items is the end.
+/// it goes to, as `3/0/2` does, in the first round of each block around it; the number of items is the end.
 ///
 /// Refusals: `BadArguments` if it is no such word, `PlaceOutOfRange` and `NotABlock`.
 fn read_steps(circuit: &Circuit, word: &[u8]) -> Result<usize, Refusal>

@@ -1,4 +1,4 @@
--- Runs that come again: if a run is as it stood before, and no coin decided since, the same steps give the same again.
+-- Runs that come again: if a run is as it was before, and no coin decided since, the same steps give the same.
 use Rattle.stab_recording.proofs.Names.{◌≡◌, ℕ, zero, suc, ◌+◌, ◌-◌, ◌*◌, ◌<◌, ◌≤◌, sym, ◌∙◌, ap, subst, Bool, false, inl, inr, List, [], ◌∷◌, ◌++◌, length, take, drop, get_or, arith, take-add, add-mul, mul-le-mul_right, cases_lt, length-drop, take-append-drop, take-append-le, drop-append-le, take-take, drop_at, Step, rounds, looks_too_far, Repeat, round_of, IsRepeat, AreRepeats, ones, Point, origin, point_after, outputs, lengths_of, front_of, rest_of, AgreeBack, with_coin, after-append, outputs-append, fixed-future, same-future-back, front-output, outcomes-counted, rest-joined, rounds-append, length-rounds, between}
 use Rattle.std.proofs.Math.Seq.{drop-drop, length-take-le}
 use Rattle.stab_recording.proofs.CutLemmas.{ones-take}
@@ -24,24 +24,24 @@ module _ (ys : List Step) (block : Repeat) (is : IsRepeat ys block) where
   abbrev round : List Step
   round = round_of block ys
 
-  abbrev behind : List Step
-  behind = drop block.first ys
+  abbrev following : List Step
+  following = drop block.first ys
 
   sized : (i : ℕ) → length (rounds i round) ≡ i * L
-  sized i = length-rounds i round ∙ ap (λ n. i * n) (length-take-le L behind (omega (arith, length-drop block.first ys, is.inside, one)))
+  sized i = length-rounds i round ∙ ap (λ n. i * n) (length-take-le L following (omega (arith, length-drop block.first ys, is.inside, one)))
     where
       one : L ≤ block.rounds * L
       one = let many : 1 ≤ block.rounds = omega (arith, is.many) in let le = mul-le-mul_right L many in omega arith
 
-  whole : behind ≡ rounds block.rounds round ++ drop (block.rounds * L) behind
-  whole = sym (take-append-drop (block.rounds * L) behind) ∙ ap (λ l. l ++ drop (block.rounds * L) behind) is.again
+  whole : following ≡ rounds block.rounds round ++ drop (block.rounds * L) following
+  whole = sym (take-append-drop (block.rounds * L) following) ∙ ap (λ l. l ++ drop (block.rounds * L) following) is.again
 
-  in-rounds : (x m : ℕ) → x + m ≤ block.rounds * L → take m (drop x behind) ≡ take m (drop x (rounds block.rounds round))
+  in-rounds : (x m : ℕ) → x + m ≤ block.rounds * L → take m (drop x following) ≡ take m (drop x (rounds block.rounds round))
   in-rounds x m le =
       ap (λ l. take m (drop x l)) whole
-      ∙ part-left m x (rounds block.rounds round) (drop (block.rounds * L) behind) (omega (arith, le, sized block.rounds))
+      ∙ part-left m x (rounds block.rounds round) (drop (block.rounds * L) following) (omega (arith, le, sized block.rounds))
 
-  rounds-later : (x q m : ℕ) → (x + q * L) + m ≤ block.rounds * L → q ≤ block.rounds → take m (drop x behind) ≡ take m (drop (x + q * L) behind)
+  rounds-later : (x q m : ℕ) → (x + q * L) + m ≤ block.rounds * L → q ≤ block.rounds → take m (drop x following) ≡ take m (drop (x + q * L) following)
   rounds-later x q m le few =
       in-rounds x m (omega (arith, le))
       ∙ ap (λ l. take m (drop x l)) (ap (λ k. rounds k round) {x = block.rounds} {y = rest + q} (omega (arith, few)) ∙ rounds-append rest q round)
@@ -62,10 +62,10 @@ module _ (ys : List Step) (block : Repeat) (is : IsRepeat ys block) where
   same-later i k q m from later within =
       ap (take m) (place i from)
       ∙ rounds-later (i - block.first) q m (omega (arith, from, later, within)) (few-rounds q block.rounds L is.some (omega (arith, from, later, within)))
-      ∙ ap (λ x. take m (drop x behind)) {x = (i - block.first) + q * L} {y = k - block.first} (omega (arith, from, later))
+      ∙ ap (λ x. take m (drop x following)) {x = (i - block.first) + q * L} {y = k - block.first} (omega (arith, from, later))
       ∙ sym (ap (take m) (place k (omega (arith, from, later))))
     where
-      place : (j : ℕ) → block.first ≤ j → drop j ys ≡ drop (j - block.first) behind
+      place : (j : ℕ) → block.first ≤ j → drop j ys ≡ drop (j - block.first) following
       place j le = ap (λ x. drop x ys) {x = j} {y = block.first + (j - block.first)} (omega (arith, le)) ∙ sym (drop-drop (j - block.first) block.first ys)
 
 -- what a run gave up to an earlier step
@@ -118,8 +118,8 @@ module _ (n : ℕ) (coins : ℕ → Bool) (ys : List Step) (i j k window : ℕ) 
       ∙ rest-joined (outputs n coins (take i ys) origin) (outputs n coins part then) (outcomes-counted n coins (take i ys) origin)
 
   module _ (near : looks_too_far window part ≡ false) (fixed : ones (outputs n coins part then).free ≡ 0) (agree : AgreeBack n window (with_coin now.coin then) now) where
-    pub given-again : outputs n coins part now ≡ outputs n coins part then
-    given-again =
+    pub same-given : outputs n coins part now ≡ outputs n coins part then
+    same-given =
         sym (same-future-back n coins window part (with_coin now.coin then) now near agree).0
         ∙ (fixed-future n coins now.coin part then fixed).0
 

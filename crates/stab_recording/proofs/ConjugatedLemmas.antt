@@ -1,6 +1,6 @@
--- Conjugated steps: if a frame distinguishes two points, and went over the steps from the one with the coins of the other, what they give
--- at the other is what they gave at the one, flipped, and the frame distinguishes where they lead.
-use Rattle.stab_recording.proofs.Names.{◌≡◌, ℕ, ◌+◌, sym, ◌∙◌, subst, Bool, false, List, Option, take, drop, All, arith, Letter, Step, looks_too_far, Point, RunOutput, point_after, outputs, all_coins_of, StepFits, with_coin, flipped_output, frame_over, flips_over, AreTrue, RunPivots, AreEnough, PropagationState, frame_at, PropagatesWith, DiffersBack, AreFramedOver, coins_from, pivots_between, PropagatesToOthers, come-conjugated, gone-over-seen, flips_since}
+-- Conjugated steps: if two points differ by a frame, and the frame went over the steps from the one with the coins of the other, what they give at
+-- the other is what they gave at the one, flipped, and where they end differs by the frame.
+use Rattle.stab_recording.proofs.Names.{◌≡◌, ℕ, ◌+◌, sym, ◌∙◌, subst, Bool, false, List, Option, take, drop, All, arith, Letter, Step, looks_too_far, Point, RunOutput, point_after, outputs, all_coins_of, StepFits, with_coin, flipped_output, frame_over, flips_over, AreTrue, RunPivots, AreEnough, PropagationState, frame_at, PropagatesWith, DiffersBack, ArePropagatedOver, coins_from, pivots_between, PropagatesToOthers, come-conjugated, gone-over-seen, flips_since}
 use Rattle.stab_recording.proofs.FlippedLemmas.{flips-free, since-joined}
 
 -- coins from the first on are all
@@ -28,12 +28,12 @@ module _ (n window base da db : ℕ) (coins : ℕ → Bool) (strings : ℕ → O
 
   come : (outputs n coins xs b ≡ flipped_output (outputs n coins xs a) frame_flips)
       × DiffersBack n window (frame_over n pivots xs w.coin (frame_at base w)) (point_after n coins xs a) (point_after n coins xs b)
-      × AreFramedOver n coins xs a b
+      × ArePropagatedOver n coins xs a b
   come = come-conjugated n window w.coin da db coins strings xs (frame_at base w) a b fits near from_a from_b differs (went.1 base)
 
   pub comes-over : (outputs n coins xs b ≡ flipped_output (outputs n coins xs a) (flips_since w v))
       × DiffersBack n window (frame_at base v) (point_after n coins xs a) (point_after n coins xs b)
-      × AreFramedOver n coins xs a b
+      × ArePropagatedOver n coins xs a b
       × (v.coin ≡ w.coin + all_coins_of xs)
   comes-over = (
     come.0

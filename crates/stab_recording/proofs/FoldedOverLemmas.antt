@@ -1,13 +1,13 @@
--- Folded segments: a replay on its way that gives again what it gave from one laid copy to the next, up to a frame if there is one, is on
+-- Folded segments: a replay on its way that repeats what it gave from one saved checkpoint to the next, up to a frame if there is one, is on
 -- its way again.
-use Rattle.stab_recording.proofs.Names.{◌≡◌, ℕ, zero, suc, ◌+◌, ◌-◌, ◌≤◌, refl, sym, ◌∙◌, ap, subst, Bool, true, List, [], ◌∷◌, ◌++◌, length, take, drop, IsSomeAnd, Option, None, Some, slice_get, add-one, arith, option_map, take_at, none-some, same_Some, slice_get_within, TableauState, Step, Repeat, RunOutput, origin, joined, point_after, outputs, output_of, lengths_of, outputs-append, PropagationState, Checkpoint, IsCheckpoint, checkpoint_steps, Near, Plan, Replay, KeepsPivots, IsAtStep, IsAtStop, step_among_new, Segment, IsRoundsBehind, IsAlike, MayComeAgain, IsFolding, IsSegment, HasCopied, MayGoOver, HasFramed, with_folded, last_state, with_state, with_cursor, Earlier, get-append}
+use Rattle.stab_recording.proofs.Names.{◌≡◌, ℕ, zero, suc, ◌+◌, ◌-◌, ◌≤◌, refl, sym, ◌∙◌, ap, subst, Bool, true, List, [], ◌∷◌, ◌++◌, length, take, drop, IsSomeAnd, Option, None, Some, slice_get, add-one, arith, option_map, take_at, none-some, same_Some, slice_get_within, TableauState, Step, Repeat, RunOutput, origin, joined, point_after, outputs, output_of, lengths_of, outputs-append, PropagationState, Checkpoint, IsCheckpoint, checkpoint_steps, Near, Plan, Replay, KeepsPivots, IsAtStep, IsAtStop, step_among_new, Segment, IsRoundsAfter, IsAlike, MayRecur, IsFolding, IsSegment, HasRepeated, MayGoOver, HasPropagated, with_folded, last_state, with_state, with_cursor, Recurrence, get-append}
 use Rattle.std.proofs.Common.{IfSome}
 use Rattle.stab_recording.proofs.AgainOverLemmas.{same-later, later-steps}
-use Rattle.stab_recording.proofs.FoldedPartLemmas.{IsPartAgain, Comes, span, go-over, copied-comes, framed-comes}
+use Rattle.stab_recording.proofs.FoldedPartLemmas.{IsPartAgain, Comes, span, go-over, repeated-comes, by_frame-comes}
 use Rattle.stab_recording.proofs.CursorPlaceLemmas.{at-number, last-pushed}
-use Rattle.stab_recording.proofs.ReplayLemmas.{on-stop, with-laid}
+use Rattle.stab_recording.proofs.ReplayLemmas.{on-stop, with-saved}
 
--- no copy is after the place of a replay
+-- no checkpoint is after the place of a replay
 
 no-later : (K x e : ℕ) (xs : List ℕ) → Near K (x ∷ xs ++ e ∷ []) → x ≤ e
 no-later K x e [] h = h.0
@@ -18,7 +18,7 @@ near-at K a e i [] c near here = absurd (none-some c here)
 near-at K a e zero (b ∷ cs) c near here = subst (λ (x : Checkpoint). x.step ≤ e) (same_Some b c here) (no-later K b.step e (checkpoint_steps cs) near.2)
 near-at K a e (suc i) (b ∷ cs) c near here = near-at K b.step e i cs c near.2 here
 
--- the next copy is a stride further at most
+-- the next checkpoint is a stride further at most
 near-next : (K a e i : ℕ) (cs : List Checkpoint) (c d : Checkpoint) → Near K (a ∷ checkpoint_steps cs ++ e ∷ []) → slice_get cs i ≡ Some c → slice_get cs (suc i) ≡ Some d → d.step ≤ c.step + K
 near-next K a e zero [] c d near here there = absurd (none-some c here)
 near-next K a e (suc i) [] c d near here there = absurd (none-some c here)
@@ -31,32 +31,32 @@ place-before : (P : ℕ → Type 0) (o : Option Checkpoint) (place : Checkpoint 
 place-before P None place h = tt
 place-before P (Some c) place h = h
 
--- a replay that stands as it stood at a copy, up to a frame if there is one, and what it gave from there to the next copy
+-- a replay whose state is that of a checkpoint, up to a frame if there is one, and what it gave from there to the next checkpoint
 
-module _ (n : ℕ) (coins : ℕ → Bool) (begin : ℕ) (p : Plan) (ys : List Step) (copies : List Checkpoint) (old : List Bool) (next : ℕ) (block : Repeat) (end : ℕ) (passed : Bool) (r : Replay)
-    (e : Earlier) (folding : IsFolding n coins begin p ys copies old next block end passed r e) (spacing : ℕ) (g : Segment) (same : g.number ≡ e.number) (is : IsSegment spacing end r g) where
+module _ (n : ℕ) (coins : ℕ → Bool) (begin : ℕ) (p : Plan) (ys : List Step) (checkpoints : List Checkpoint) (old : List Bool) (next : ℕ) (block : Repeat) (end : ℕ) (passed : Bool) (r : Replay)
+    (e : Recurrence) (folding : IsFolding n coins begin p ys checkpoints old next block end passed r e) (spacing : ℕ) (g : Segment) (same : g.number ≡ e.number) (is : IsSegment spacing end r g) where
   abbrev z : Replay
   z = with_cursor ys (with_state passed r)
 
   abbrev c : Checkpoint
-  c = is.copy
+  c = is.checkpoint
 
   abbrev d : Checkpoint
   d = is.later
 
-  copied : folding.copy ≡ c
-  copied = same_Some folding.copy c (sym folding.here ∙ ap (slice_get r.laid.items) (sym same) ∙ is.here)
+  repeated : folding.checkpoint ≡ c
+  repeated = same_Some folding.checkpoint c (sym folding.here ∙ ap (slice_get r.saved.items) (sym same) ∙ is.here)
 
-  behind : IsRoundsBehind block r.step c
-  behind = subst (IsRoundsBehind block r.step) copied folding.behind
+  following : IsRoundsAfter block r.step c
+  following = subst (IsRoundsAfter block r.step) repeated folding.following
 
   alike : IsAlike n coins ys r e.frame c
-  alike = subst (IsAlike n coins ys r e.frame) copied folding.alike
+  alike = subst (IsAlike n coins ys r e.frame) repeated folding.alike
 
   at : IsAtStep n coins ys z
   at = folding.may.way.stop.replay.at_step
 
-  near : Near p.stride (begin ∷ checkpoint_steps r.laid.items ++ r.step ∷ [])
+  near : Near p.stride (begin ∷ checkpoint_steps r.saved.items ++ r.step ∷ [])
   near = folding.may.way.stop.replay.near
 
   order : c.step ≤ d.step
@@ -72,12 +72,12 @@ module _ (n : ℕ) (coins : ℕ → Bool) (begin : ℕ) (p : Plan) (ys : List St
     fits = folding.may.fits;
     output = at.run.output;
     has_pivots = at.has_pivots;
-    copy = at-number (IsCheckpoint n coins ys) r.laid.items g.number c is.here folding.may.way.stop.replay.checkpoints;
-    later = at-number (IsCheckpoint n coins ys) r.laid.items (g.number + 1) d is.there folding.may.way.stop.replay.checkpoints;
+    checkpoint = at-number (IsCheckpoint n coins ys) r.saved.items g.number c is.here folding.may.way.stop.replay.checkpoints;
+    later = at-number (IsCheckpoint n coins ys) r.saved.items (g.number + 1) d is.there folding.may.way.stop.replay.checkpoints;
     order = order;
-    before = near-at p.stride begin r.step (g.number + 1) r.laid.items d near is.there;
+    before = near-at p.stride begin r.step (g.number + 1) r.saved.items d near is.there;
     same_steps =
-        same-later ys block folding.may.is_repeat c.step r.step behind.rounds (d.step - c.step) behind.first behind.whole
+        same-later ys block folding.may.is_repeat c.step r.step following.rounds (d.step - c.step) following.first following.whole
         (let in_block = folding.may.is_end.in_block in omega (arith, in_block, within));
   }
 
@@ -94,7 +94,7 @@ module _ (n : ℕ) (coins : ℕ → Bool) (begin : ℕ) (p : Plan) (ys : List St
       pivots = record r.pivots { strings = s.pivots.strings };
       step = s.step;
       applied = s.applied;
-      framed = s.framed;
+      by_frame = s.by_frame;
       cursor = record { all = ys; left = drop s.step ys };
     }
 
@@ -123,47 +123,47 @@ module _ (n : ℕ) (coins : ℕ → Bool) (begin : ℕ) (p : Plan) (ys : List St
       has_pivots = subst (λ zs. KeepsPivots n coins zs s.pivots.strings s.outputs.free.items r.pivots.window) steps_now come.has_pivots;
     }
 
-    stopped : IsAtStop n coins begin p ys copies old next arrived
+    stopped : IsAtStop n coins begin p ys checkpoints old next arrived
     stopped =
-        on-stop n coins begin p ys copies old coins next s.step (option_map (step_among_new p) (slice_get copies next)) z arrived folding.may.way refl
+        on-stop n coins begin p ys checkpoints old coins next s.step (option_map (step_among_new p) (slice_get checkpoints next)) z arrived folding.may.way refl
         (subst (λ m. IsAtStep m coins ys arrived) (sym at.qubits) at_step) refl
         (sym (ap (λ (o : RunOutput). take (length r.outputs.records.items) o.records) come.output ∙ take_at r.outputs.records.items _ (length r.outputs.records.items) refl))
         (let counted = come.counted in let step = come.step in omega (arith, counted, step, order)) refl (let step = come.step in omega (arith, step)) inside
-        (let step = come.step in omega (arith, step, near-next p.stride begin r.step g.number r.laid.items c d near is.here (ap (slice_get r.laid.items) (sym (add-one g.number)) ∙ is.there))) refl
-        (place-before (λ k. s.step ≤ k) (slice_get copies next) (step_among_new p) (earlier (slice_get copies next) folding.may.is_end.before))
+        (let step = come.step in omega (arith, step, near-next p.stride begin r.step g.number r.saved.items c d near is.here (ap (slice_get r.saved.items) (sym (add-one g.number)) ∙ is.there))) refl
+        (place-before (λ k. s.step ≤ k) (slice_get checkpoints next) (step_among_new p) (recurrence (slice_get checkpoints next) folding.may.is_end.before))
       where
-        earlier : (o : Option Checkpoint) → IfSome o (λ f. end ≤ step_among_new p f) → IfSome o (λ f. s.step ≤ step_among_new p f)
-        earlier None h = tt
-        earlier (Some f) h = let le = within in let step = come.step in omega (arith, h, le, step)
+        recurrence : (o : Option Checkpoint) → IfSome o (λ f. end ≤ step_among_new p f) → IfSome o (λ f. s.step ≤ step_among_new p f)
+        recurrence None h = tt
+        recurrence (Some f) h = let le = within in let step = come.step in omega (arith, h, le, step)
 
-    state_now : last_state r.tableau s.laid.items ≡ state
-    state_now = ap (last_state r.tableau) come.laid ∙ last-pushed r.tableau r.laid.items (record { step = s.step; lengths = lengths_of (output_of s.outputs); tableau = state })
+    state_now : last_state r.tableau s.saved.items ≡ state
+    state_now = ap (last_state r.tableau) come.saved ∙ last-pushed r.tableau r.saved.items (record { step = s.step; lengths = lengths_of (output_of s.outputs); tableau = state })
 
-    there : with_cursor ys (with_state true s) ≡ record arrived { laid = s.laid }
-    there = ap (λ x. with_cursor ys (with_state true x)) come.rest ∙ (λ i. record arrived { tableau = state_now i; laid = s.laid })
+    there : with_cursor ys (with_state true s) ≡ record arrived { saved = s.saved }
+    there = ap (λ x. with_cursor ys (with_state true x)) come.rest ∙ (λ i. record arrived { tableau = state_now i; saved = s.saved })
 
-    folded-on : IsFolding n coins begin p ys copies old next block end true s (record { number = g.number + 1; frame = v })
+    folded-on : IsFolding n coins begin p ys checkpoints old next block end true s (record { number = g.number + 1; frame = v })
     folded-on = record {
       may =
-          subst (MayComeAgain n coins begin p ys copies old next block end) (sym there)
+          subst (MayRecur n coins begin p ys checkpoints old next block end) (sym there)
           (record {
-            way = with-laid n coins begin p ys copies old next arrived s stopped come.laid;
+            way = with-saved n coins begin p ys checkpoints old next arrived s stopped come.saved;
             is_repeat = folding.may.is_repeat;
             is_end = folding.may.is_end;
             total = folding.may.total;
             few = folding.may.few;
             fits = folding.may.fits;
           });
-      copy = d;
+      checkpoint = d;
       here =
-          ap (λ l. slice_get l (g.number + 1)) come.laid
-          ∙ get-append r.laid.items _ (g.number + 1) (slice_get_within r.laid.items (g.number + 1) d is.there)
+          ap (λ l. slice_get l (g.number + 1)) come.saved
+          ∙ get-append r.saved.items _ (g.number + 1) (slice_get_within r.saved.items (g.number + 1) d is.there)
           ∙ is.there;
-      behind = record {
-        first = let first = behind.first in omega (arith, first, order);
-        before = let earlier = behind.before in let step = come.step in omega (arith, earlier, step, order);
-        rounds = behind.rounds;
-        whole = let whole = behind.whole in let step = come.step in omega (arith, whole, step, order);
+      following = record {
+        first = let first = following.first in omega (arith, first, order);
+        before = let recurrence = following.before in let step = come.step in omega (arith, recurrence, step, order);
+        rounds = following.rounds;
+        whole = let whole = following.whole in let step = come.step in omega (arith, whole, step, order);
       };
       alike = subst (λ x. IsAlike n coins ys x v d) (sym come.rest) come.alike;
     }
@@ -173,18 +173,18 @@ module _ (n : ℕ) (coins : ℕ → Bool) (begin : ℕ) (p : Plan) (ys : List St
   pub may-go-over : (w : PropagationState) → e.frame ≡ Some w → MayGoOver n ys r w g
   may-go-over w frame = subst (MayGoOver n ys r w) (sym spans) (go-over n coins ys r g.number c d part_again w (subst (λ f. IsAlike n coins ys r f c) frame alike) is.there)
 
-  pub goes-on-copied : (s : Replay) → e.frame ≡ None → s ≡ record r { outputs = s.outputs; step = s.step; framed = s.framed; laid = s.laid }
-      → IsSomeAnd (slice_get r.laid.items (g.number + 1)) (HasCopied g r s)
-      → IsFolding n coins begin p ys copies old next block end true s (record { number = g.number + 1; frame = None })
-  goes-on-copied s frame rest gave =
+  pub goes-on-repeated : (s : Replay) → e.frame ≡ None → s ≡ record r { outputs = s.outputs; step = s.step; by_frame = s.by_frame; saved = s.saved }
+      → IsSomeAnd (slice_get r.saved.items (g.number + 1)) (HasRepeated g r s)
+      → IsFolding n coins begin p ys checkpoints old next block end true s (record { number = g.number + 1; frame = None })
+  goes-on-repeated s frame rest gave =
       folded-on s d.tableau None
-      (copied-comes n coins ys r g.number c d part_again s rest (subst (λ f. IsAlike n coins ys r f c) frame alike)
-      (subst (λ x. HasCopied x r s d) spans (subst (λ o. IsSomeAnd o (HasCopied g r s)) is.there gave)))
+      (repeated-comes n coins ys r g.number c d part_again s rest (subst (λ f. IsAlike n coins ys r f c) frame alike)
+      (subst (λ x. HasRepeated x r s d) spans (subst (λ o. IsSomeAnd o (HasRepeated g r s)) is.there gave)))
 
-  pub goes-on-framed : (s : Replay) (w v : PropagationState) → e.frame ≡ Some w → s ≡ with_folded r s
-      → IsSomeAnd (slice_get r.laid.items (g.number + 1)) (HasFramed coins g r s w v)
-      → IsFolding n coins begin p ys copies old next block end true s (record { number = g.number + 1; frame = Some v })
-  goes-on-framed s w v frame rest gave =
-      let given : HasFramed coins g r s w v d = subst (λ o. IsSomeAnd o (HasFramed coins g r s w v)) is.there gave in
-      let gave_span = subst (λ x. HasFramed coins x r s w v d) spans given in
-      folded-on s gave_span.state (Some v) (framed-comes n coins ys r g.number c d part_again w (subst (λ f. IsAlike n coins ys r f c) frame alike) s v rest gave_span)
+  pub goes-on-by_frame : (s : Replay) (w v : PropagationState) → e.frame ≡ Some w → s ≡ with_folded r s
+      → IsSomeAnd (slice_get r.saved.items (g.number + 1)) (HasPropagated coins g r s w v)
+      → IsFolding n coins begin p ys checkpoints old next block end true s (record { number = g.number + 1; frame = Some v })
+  goes-on-by_frame s w v frame rest gave =
+      let given : HasPropagated coins g r s w v d = subst (λ o. IsSomeAnd o (HasPropagated coins g r s w v)) is.there gave in
+      let gave_span = subst (λ x. HasPropagated coins x r s w v d) spans given in
+      folded-on s gave_span.state (Some v) (by_frame-comes n coins ys r g.number c d part_again w (subst (λ f. IsAlike n coins ys r f c) frame alike) s v rest gave_span)

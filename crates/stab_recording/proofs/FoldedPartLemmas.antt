@@ -1,28 +1,28 @@
--- Parts given again: what a replay gives again from one copy to the next, up to a frame if there is one, is what its run gives there.
-use Rattle.stab_recording.proofs.Names.{◌≡◌, ℕ, zero, suc, ◌+◌, ◌-◌, ◌≤◌, refl, sym, ◌∙◌, ap, subst, Bool, false, List, [], ◌∷◌, ◌++◌, length, take, drop, All, Option, None, Some, slice_get, arith, take-append-le, length-drop, take-take, take-append-drop, drop-take, All-take, All-drop, with_sign, strings_anticommute, member, SameGroup, TableauState, stabilises, IsConjugated, Letter, Step, looks_too_far, most_steps, Lengths, ones, Point, RunOutput, origin, joined, point_after, outputs, all_coins_of, StepFits, output_of, lengths_of, AgreeBack, with_coin, flags-are-coins, coins-few, coins-are, ones-append, flipped_output, AreTrue, pivot_at, LooksWithin, PropagationState, frame_at, DiffersBack, AreFramedOver, coins_from, PropagatesToOthers, Checkpoint, IsCheckpoint, Replay, between, flips_since, KeepsPivots, Segment, IsAsAt, DiffersFrom, IsAlike, HasCopied, MayGoOver, HasFramed, HasStringsAgain, with_folded, flipped-empty, true-front, true-rest}
+-- Parts repeated: what a replay repeats from one checkpoint to the next, up to a frame if there is one, is what its run gives there.
+use Rattle.stab_recording.proofs.Names.{◌≡◌, ℕ, zero, suc, ◌+◌, ◌-◌, ◌≤◌, refl, sym, ◌∙◌, ap, subst, Bool, false, List, [], ◌∷◌, ◌++◌, length, take, drop, All, Option, None, Some, slice_get, arith, take-append-le, length-drop, take-take, take-append-drop, drop-take, All-take, All-drop, with_sign, strings_anticommute, member, SameGroup, TableauState, stabilises, IsConjugated, Letter, Step, looks_too_far, most_steps, Lengths, ones, Point, RunOutput, origin, joined, point_after, outputs, all_coins_of, StepFits, output_of, lengths_of, AgreeBack, with_coin, flags-are-coins, coins-few, coins-are, ones-append, flipped_output, AreTrue, pivot_at, LooksWithin, PropagationState, frame_at, DiffersBack, ArePropagatedOver, coins_from, PropagatesToOthers, Checkpoint, IsCheckpoint, Replay, between, flips_since, KeepsPivots, Segment, IsAsAt, DiffersFrom, IsAlike, HasRepeated, MayGoOver, HasPropagated, HasStringsAgain, with_folded, flipped-empty, true-front, true-rest}
 use Rattle.std.proofs.Common.{IfSome}
 use Rattle.std.proofs.Math.Seq.{drop-drop}
-use Rattle.stab_recording.proofs.AgainOverLemmas.{first-steps, first-point, later-point, part-is, ones-part, given-again, agrees-again}
+use Rattle.stab_recording.proofs.AgainOverLemmas.{first-steps, first-point, later-point, part-is, ones-part, same-given, agrees-again}
 use Rattle.stab_recording.proofs.CutLemmas.{ones-take}
-use Rattle.stab_recording.proofs.RunCopyLemmas.{lengths-within}
+use Rattle.stab_recording.proofs.RunCheckpointLemmas.{lengths-within}
 use Rattle.stab_recording.proofs.RecordedReplayLemmas.{near-enough, has_pivots-fixed}
 use Rattle.stab_recording.proofs.SegmentLemmas.{conjugated-from}
 use Rattle.stab_recording.proofs.ConjugatedLemmas.{all-coins, comes-over}
-use Rattle.stab_recording.proofs.FramedPivotLemmas.{has_pivots-conjugated}
-use Rattle.stab_recording.proofs.RunCopyLemmas.{copy-before}
+use Rattle.stab_recording.proofs.PropagatedPivotLemmas.{has_pivots-conjugated}
+use Rattle.stab_recording.proofs.RunCheckpointLemmas.{checkpoint-before}
 
 -- of bits with others after them
 
 ones-drop : (k : ℕ) (bits : List Bool) → ones (drop k bits) ≤ ones bits
 ones-drop k bits = omega (arith, ones-take k bits)
 
-ones-behind : (c d : ℕ) (bits more : List Bool) → c ≤ d → ones (drop d (bits ++ more)) ≤ ones (drop c bits) + ones more
-ones-behind zero d bits more le = omega (arith, ones-drop d (bits ++ more), ones-append bits more)
-ones-behind (suc c) zero bits more le = absurd (omega (arith, le))
-ones-behind (suc c) (suc d) [] more le = omega (arith, ones-drop (suc d) more)
-ones-behind (suc c) (suc d) (bit ∷ bits) more le = ones-behind c d bits more (omega (arith, le))
+ones-following : (c d : ℕ) (bits more : List Bool) → c ≤ d → ones (drop d (bits ++ more)) ≤ ones (drop c bits) + ones more
+ones-following zero d bits more le = omega (arith, ones-drop d (bits ++ more), ones-append bits more)
+ones-following (suc c) zero bits more le = absurd (omega (arith, le))
+ones-following (suc c) (suc d) [] more le = omega (arith, ones-drop (suc d) more)
+ones-following (suc c) (suc d) (bit ∷ bits) more le = ones-following c d bits more (omega (arith, le))
 
--- a replay that gave all up to its step, and two copies before it, from which the same steps come as from there
+-- a replay that gave all up to its step, and two checkpoints before it, from which the same steps come as from there
 
 pub record IsPartAgain (n : ℕ) (coins : ℕ → Bool) (ys : List Step) (r : Replay) (c d : Checkpoint) : Type 0 where
   pub within : r.step ≤ length ys
@@ -30,25 +30,25 @@ pub record IsPartAgain (n : ℕ) (coins : ℕ → Bool) (ys : List Step) (r : Re
   pub fits : All (StepFits n) ys
   pub output : output_of r.outputs ≡ outputs n coins (take r.step ys) origin
   pub has_pivots : KeepsPivots n coins (take r.step ys) r.pivots.strings r.outputs.free.items r.pivots.window
-  pub copy : IsCheckpoint n coins ys c
+  pub checkpoint : IsCheckpoint n coins ys c
   pub later : IsCheckpoint n coins ys d
   pub order : c.step ≤ d.step
   pub before : d.step ≤ r.step
   pub same_steps : take (d.step - c.step) (drop c.step ys) ≡ take (d.step - c.step) (drop r.step ys)
 
--- it came to where its run gave this part, with this state, and is from the second copy on as it was from the first
+-- it came to where its run gave this part, with this state, and is from the second checkpoint on as it was from the first
 
 pub record Comes (n : ℕ) (coins : ℕ → Bool) (ys : List Step) (r s : Replay) (c d : Checkpoint) (state : TableauState) (frame : Option PropagationState) : Type 0 where
   pub rest : s ≡ with_folded r s
   pub step : s.step ≡ r.step + (d.step - c.step)
-  pub counted : s.applied + s.framed ≡ (r.applied + r.framed) + (d.step - c.step)
+  pub counted : s.applied + s.by_frame ≡ (r.applied + r.by_frame) + (d.step - c.step)
   pub output : output_of s.outputs
       ≡ joined (output_of r.outputs) (outputs n coins (take (d.step - c.step) (drop c.step ys)) (point_after n coins (take r.step ys) origin))
   pub qubits : state.qubits ≡ n
   pub group : SameGroup n (stabilises state) (member (point_after n coins (take s.step ys) origin).trace)
   pub has_pivots : KeepsPivots n coins (take r.step ys ++ take (d.step - c.step) (drop c.step ys)) s.pivots.strings s.outputs.free.items r.pivots.window
   pub alike : IsAlike n coins ys (with_folded r s) frame d
-  pub laid : s.laid.items ≡ r.laid.items ++ record { step = s.step; lengths = lengths_of (output_of s.outputs); tableau = state } ∷ []
+  pub saved : s.saved.items ≡ r.saved.items ++ record { step = s.step; lengths = lengths_of (output_of s.outputs); tableau = state } ∷ []
 
 module _ (n : ℕ) (coins : ℕ → Bool) (ys : List Step) (r : Replay) (number : ℕ) (c d : Checkpoint) (k : IsPartAgain n coins ys r c d) where
   abbrev pub span : Segment
@@ -67,7 +67,7 @@ module _ (n : ℕ) (coins : ℕ → Bool) (ys : List Step) (r : Replay) (number 
   now = point_after n coins (take r.step ys) origin
 
   coin_here : c.lengths.free ≡ then.coin
-  coin_here = ap (λ (l : Lengths). l.free) k.copy.lengths ∙ flags-are-coins n coins (take c.step ys)
+  coin_here = ap (λ (l : Lengths). l.free) k.checkpoint.lengths ∙ flags-are-coins n coins (take c.step ys)
 
   coin_now : length r.outputs.free.items ≡ now.coin
   coin_now = ap (λ (o : RunOutput). length o.free) k.output ∙ flags-are-coins n coins (take r.step ys)
@@ -84,10 +84,10 @@ module _ (n : ℕ) (coins : ℕ → Bool) (ys : List Step) (r : Replay) (number 
 
   shorter : (c.lengths.free ≤ length r.outputs.free.items) × (c.lengths.records ≤ length r.outputs.records.items)
   shorter =
-      lengths-within n coins (take r.step ys) (output_of r.outputs) c (copy-before n coins ys r.step c k.copy (omega (arith, k.order, k.before)) k.within) k.output
+      lengths-within n coins (take r.step ys) (output_of r.outputs) c (checkpoint-before n coins ys r.step c k.checkpoint (omega (arith, k.order, k.before)) k.within) k.output
 
-  shorter_behind : (d.lengths.free ≤ length r.outputs.free.items) × (d.lengths.records ≤ length r.outputs.records.items)
-  shorter_behind = lengths-within n coins (take r.step ys) (output_of r.outputs) d (copy-before n coins ys r.step d k.later k.before k.within) k.output
+  shorter_after : (d.lengths.free ≤ length r.outputs.free.items) × (d.lengths.records ≤ length r.outputs.records.items)
+  shorter_after = lengths-within n coins (take r.step ys) (output_of r.outputs) d (checkpoint-before n coins ys r.step d k.later k.before k.within) k.output
 
   near_part : All (LooksWithin window) part
   near_part =
@@ -104,7 +104,7 @@ module _ (n : ℕ) (coins : ℕ → Bool) (ys : List Step) (r : Replay) (number 
 
   part_given : between c.lengths d.lengths (output_of r.outputs) ≡ outputs n coins part then
   part_given =
-      (λ i. between (k.copy.lengths i) (k.later.lengths i) (k.output i))
+      (λ i. between (k.checkpoint.lengths i) (k.later.lengths i) (k.output i))
       ∙ part-is n coins ys c.step d.step r.step window k.order k.before k.same_steps
 
   first_end : point_after n coins (take d.step ys) origin ≡ point_after n coins part then
@@ -112,7 +112,7 @@ module _ (n : ℕ) (coins : ℕ → Bool) (ys : List Step) (r : Replay) (number 
 
   -- it gave the same again
 
-  module _ (s : Replay) (rest : s ≡ record r { outputs = s.outputs; step = s.step; framed = s.framed; laid = s.laid }) (exact : IsAsAt n coins ys r c) (gave : HasCopied span r s d) where
+  module _ (s : Replay) (rest : s ≡ record r { outputs = s.outputs; step = s.step; by_frame = s.by_frame; saved = s.saved }) (exact : IsAsAt n coins ys r c) (gave : HasRepeated span r s d) where
     abbrev again : RunOutput
     again = between c.lengths d.lengths (output_of r.outputs)
 
@@ -130,8 +130,8 @@ module _ (n : ℕ) (coins : ℕ → Bool) (ys : List Step) (r : Replay) (number 
     flags : s.outputs.free.items ≡ r.outputs.free.items ++ again.free
     flags = ap (λ (o : RunOutput). o.free) gave.output
 
-    pub copied-comes : Comes n coins ys r s c d d.tableau None
-    copied-comes = record {
+    pub repeated-comes : Comes n coins ys r s c d d.tableau None
+    repeated-comes = record {
       rest =
           rest
           ∙ (λ i. record r {
@@ -140,14 +140,14 @@ module _ (n : ℕ) (coins : ℕ → Bool) (ys : List Step) (r : Replay) (number 
             cursor = (sym rest i).cursor;
             step = s.step;
             applied = (sym rest i).applied;
-            framed = s.framed;
-            laid = s.laid;
+            by_frame = s.by_frame;
+            saved = s.saved;
           });
       step = gave.step;
-      counted = let framed = gave.framed in omega (arith, framed, ap (λ (x : Replay). x.applied) rest);
+      counted = let by_frame = gave.by_frame in omega (arith, by_frame, ap (λ (x : Replay). x.applied) rest);
       output =
           gave.output
-          ∙ ap (joined (output_of r.outputs)) (part_given ∙ sym (given-again n coins ys c.step d.step r.step window k.order k.before k.same_steps near fixed exact.agree));
+          ∙ ap (joined (output_of r.outputs)) (part_given ∙ sym (same-given n coins ys c.step d.step r.step window k.order k.before k.same_steps near fixed exact.agree));
       qubits = k.later.qubits;
       group = λ q size. k.later.group q size ∙ agree.group q size;
       has_pivots =
@@ -160,11 +160,11 @@ module _ (n : ℕ) (coins : ℕ → Bool) (ys : List Step) (r : Replay) (number 
               exact.fixed,
               no_coin,
               ap (λ bits. ones (drop d.lengths.free bits)) flags,
-              ones-behind c.lengths.free d.lengths.free r.outputs.free.items again.free (omega (arith, last)),
+              ones-following c.lengths.free d.lengths.free r.outputs.free.items again.free (omega (arith, last)),
             );
         agree = agree;
       };
-      laid = gave.laid;
+      saved = gave.saved;
     }
 
   -- it gave that flipped by a frame
@@ -173,7 +173,7 @@ module _ (n : ℕ) (coins : ℕ → Bool) (ys : List Step) (r : Replay) (number 
     part_left : part ≡ take (d.step - c.step) r.cursor.left
     part_left = k.same_steps ∙ ap (take (d.step - c.step)) (sym stands.left)
 
-    pub go-over : slice_get r.laid.items (number + 1) ≡ Some d → MayGoOver n ys r w span
+    pub go-over : slice_get r.saved.items (number + 1) ≡ Some d → MayGoOver n ys r w span
     go-over there = record {
       free = shorter.0;
       size = stands.size;
@@ -199,7 +199,7 @@ module _ (n : ℕ) (coins : ℕ → Bool) (ys : List Step) (r : Replay) (number 
       last = last ∙ (λ i. sym stands.coin i + all_coins_of (part_left i));
     }
 
-    module _ (s : Replay) (v : PropagationState) (rest : s ≡ with_folded r s) (gave : HasFramed coins span r s w v d) where
+    module _ (s : Replay) (v : PropagationState) (rest : s ≡ with_folded r s) (gave : HasPropagated coins span r s w v d) where
       abbrev strings : ℕ → Option (List Letter)
       strings = pivot_at r.pivots.strings.strings r.outputs.free.items
 
@@ -240,7 +240,7 @@ module _ (n : ℕ) (coins : ℕ → Bool) (ys : List Step) (r : Replay) (number 
 
       over : (outputs n coins part now ≡ flipped_output (outputs n coins part then) (flips_since w v))
           × DiffersBack n window (frame_at stands.base v) (point_after n coins part then) (point_after n coins part now)
-          × AreFramedOver n coins part then now
+          × ArePropagatedOver n coins part then now
           × (v.coin ≡ w.coin + all_coins_of part)
       over =
           comes-over n window stands.base 0 (length r.outputs.free.items - c.lengths.free) coins strings r.outputs.free.items bits part then now w v fits near (omega (arith, walk_here)) from_now stands.differs
@@ -255,7 +255,7 @@ module _ (n : ℕ) (coins : ℕ → Bool) (ys : List Step) (r : Replay) (number 
       group : IsConjugated n v.letters (member (point_after n coins (take d.step ys) origin).trace) (member (point_after n coins (take s.step ys) origin).trace)
       group =
           conjugated-from n v.letters (member (point_after n coins (take d.step ys) origin).trace) (member differs.seen.trace) (member (point_after n coins (take s.step ys) origin).trace)
-          differs.agree.group differs.framed.group
+          differs.agree.group differs.by_frame.group
 
       -- the strings
 
@@ -289,11 +289,11 @@ module _ (n : ℕ) (coins : ℕ → Bool) (ys : List Step) (r : Replay) (number 
 
       placed : ones (take d.lengths.free r.outputs.free.items) ≡ ones (take v.coin s.outputs.free.items)
       placed =
-          ap ones (sym (take-append-le d.lengths.free r.outputs.free.items (drop c.lengths.free (take d.lengths.free r.outputs.free.items)) shorter_behind.0))
+          ap ones (sym (take-append-le d.lengths.free r.outputs.free.items (drop c.lengths.free (take d.lengths.free r.outputs.free.items)) shorter_after.0))
           ∙ (λ i. ones (take (sym walked_to i) (sym new_flags i)))
 
-      pub framed-comes : Comes n coins ys r s c d gave.state (Some v)
-      framed-comes = record {
+      pub by_frame-comes : Comes n coins ys r s c d gave.state (Some v)
+      by_frame-comes = record {
         rest = rest;
         step = gave.step;
         counted = gave.counted;
@@ -322,5 +322,5 @@ module _ (n : ℕ) (coins : ℕ → Bool) (ys : List Step) (r : Replay) (number 
               ∙ drop-drop (d.step - c.step) r.step ys
               ∙ ap (λ i. drop i ys) (sym gave.step);
         };
-        laid = gave.laid;
+        saved = gave.saved;
       }

@@ -1,22 +1,22 @@
--- Starts of frames: the frame by which a run differs from a copy of a run, and the two points that it distinguishes.
-use Rattle.stab_recording.proofs.Names.{◌≡◌, ℕ, zero, suc, ◌+◌, ◌-◌, ◌≤◌, refl, sym, ◌∙◌, ap, subst, Bool, false, inl, inr, List, [], ◌∷◌, ◌++◌, All, length, take, drop, get_or, replicate, arith, length-append, length-drop, length-take-le, take-append-drop, take-take, take_at, drop_at, All-take, I, ◌⊕◌, Signed, with_sign, strings_anticommute, string_product, string_product-blank, member, IsStabiliserGroup, TableauState, stabilises, IsConjugated, Step, Lengths, looked_up, ones, Point, RunOutput, nothing, origin, point_after, outputs, StepFits, program_state, AgreeBack, with_coin, flags-are-coins, records-are-records, looked_up-near, flipped, PointsDifferBy, PropagationState, frame_at, DiffersBack, group-origin, length-flipped, flipped-apart, Checkpoint, IsRunFromStart, IsCheckpoint, AreCompared, IsFrameFrom}
-use Rattle.stab_recording.proofs.RunCopyLemmas.{copy-before, lengths-within, records-at}
+-- Starts of frames: the frame by which a run differs from a checkpoint of a run, and the two points that differ by it.
+use Rattle.stab_recording.proofs.Names.{◌≡◌, ℕ, zero, suc, ◌+◌, ◌-◌, ◌≤◌, refl, sym, ◌∙◌, ap, subst, Bool, false, inl, inr, List, [], ◌∷◌, ◌++◌, All, length, take, drop, get_or, replicate, arith, length-append, length-drop, length-take-le, take-append-drop, take-take, take_at, drop_at, All-take, I, ◌⊕◌, Signed, with_sign, strings_anticommute, string_product, string_product-blank, member, IsStabiliserGroup, TableauState, stabilises, IsConjugated, Step, Lengths, looked_up, ones, Point, RunOutput, nothing, origin, point_after, outputs, StepFits, program_state, AgreeBack, with_coin, flags-are-coins, records-are-records, looked_up-near, flipped, PointsDifferBy, PropagationState, frame_at, DiffersBack, group-origin, length-flipped, flipped-differing, Checkpoint, IsRunFromStart, IsCheckpoint, AreCompared, IsFrameFrom}
+use Rattle.stab_recording.proofs.RunCheckpointLemmas.{checkpoint-before, lengths-within, records-at}
 
 -- if two lists are the same at first, nothing differs
 
 same-bit : (a b : Bool) → a ≡ b → false ≡ (b ⊕ a)
 same-bit a b e = grind arith
 
-apart-behind : (base : ℕ) (bits others : List Bool) → length others ≡ length bits → base ≤ length bits → take base bits ≡ take base others
+differing-after : (base : ℕ) (bits others : List Bool) → length others ≡ length bits → base ≤ length bits → take base bits ≡ take base others
     → replicate base false ++ flipped (drop base bits) (drop base others) ≡ flipped bits others
-apart-behind zero bits others size le same = refl
-apart-behind (suc base) [] others size le same = absurd (omega arith)
-apart-behind (suc base) (a ∷ bits) [] size le same = absurd (omega (arith, size))
-apart-behind (suc base) (a ∷ bits) (b ∷ others) size le same =
+differing-after zero bits others size le same = refl
+differing-after (suc base) [] others size le same = absurd (omega arith)
+differing-after (suc base) (a ∷ bits) [] size le same = absurd (omega (arith, size))
+differing-after (suc base) (a ∷ bits) (b ∷ others) size le same =
     λ i. same-bit a b (ap (λ l. get_or l 0 false) same) i
-    ∷ apart-behind base bits others (omega (arith, size)) (omega arith) (ap (drop 1) same) i
+    ∷ differing-after base bits others (omega (arith, size)) (omega arith) (ap (drop 1) same) i
 
--- the frame found from a copy
+-- the frame found from a checkpoint
 pub frame-found : (t : TableauState) (o old : RunOutput) (base window n m : ℕ) (c : Checkpoint) (string : Signed) (bits others : List Bool) (v u w : PropagationState) → n ≡ t.qubits
     → c.tableau.qubits ≡ t.qubits → length string.letters ≡ t.qubits → IsConjugated c.tableau.qubits string.letters (stabilises c.tableau) (stabilises t)
     → AreCompared o base window c m
@@ -50,7 +50,7 @@ frame-found t o old base window n m c string bits others v u w qubits alike long
     coin : w.coin ≡ c.lengths.free
     coin = ap (λ (x : PropagationState). x.coin) flips ∙ ap (λ (x : PropagationState). x.coin) times ∙ ap (λ (x : PropagationState). x.coin) begun
 
--- the frame from a copy begins at a point that has the newest records of the copy's run, and the other one's numbers
+-- the frame from a checkpoint begins at a point that has the newest records of the checkpoint's run, and the other one's numbers
 module _ (n : ℕ) (coins : ℕ → Bool) (xs ys : List Step) (k : ℕ) (c : Checkpoint) (t : TableauState) (o old : RunOutput) (base window : ℕ) (w : PropagationState)
     (qubits : t.qubits ≡ n) (is : IsCheckpoint n coins xs c) (kept : old ≡ outputs n coins xs origin) (run : IsRunFromStart n coins (take k ys) (program_state t o))
     (within : base ≤ length o.records) (same : take base o.records ≡ take base old.records) (fits : All (StepFits n) xs)
@@ -61,7 +61,7 @@ module _ (n : ℕ) (coins : ℕ → Bool) (xs ys : List Step) (k : ℕ) (c : Che
   abbrev pub there : Point
   there = point_after n coins (take k ys) origin
 
-  -- the records of the copy's run there
+  -- the records of the checkpoint's run there
   abbrev olds : List Bool
   olds = take c.lengths.records old.records
 
@@ -93,8 +93,8 @@ module _ (n : ℕ) (coins : ℕ → Bool) (xs ys : List Step) (k : ℕ) (c : Che
       ∙ ap length (sym (records-are-records n coins (take c.step xs)))
       ∙ sym (ap (λ (l : Lengths). l.records) is.lengths)
 
-  pub copy_coin : c.lengths.free ≡ here.coin
-  copy_coin = ap (λ (l : Lengths). l.free) is.lengths ∙ flags-are-coins n coins (take c.step xs)
+  pub checkpoint_coin : c.lengths.free ≡ here.coin
+  checkpoint_coin = ap (λ (l : Lengths). l.free) is.lengths ∙ flags-are-coins n coins (take c.step xs)
 
   few : AreCompared o base window c from.compared → (from.compared ≤ length o.records) × (from.compared ≤ c.lengths.records)
   few (inl alike) = (omega (arith, alike.2), omega (arith, alike.1, alike.2))
@@ -121,7 +121,7 @@ module _ (n : ℕ) (coins : ℕ → Bool) (xs ys : List Step) (k : ℕ) (c : Che
   -- where both have as many records and the same number of the next coin
   pub seen-same : (length o.free ≡ c.lengths.free) × (length o.records ≡ c.lengths.records) × (from.compared + base ≡ length o.records) → seen_at.records ≡ here.records
   seen-same alike =
-      (λ i. take (counted i) o.records ++ drop (behind i) olds)
+      (λ i. take (counted i) o.records ++ drop (following i) olds)
       ∙ (λ i. (same ∙ take-short base c.lengths.records old.records (omega (arith, alike.1, within))) i ++ drop base olds)
       ∙ take-append-drop base olds
       ∙ olds_are
@@ -129,8 +129,8 @@ module _ (n : ℕ) (coins : ℕ → Bool) (xs ys : List Step) (k : ℕ) (c : Che
       counted : count ≡ base
       counted = omega (arith, alike.2)
 
-      behind : c.lengths.records - from.compared ≡ base
-      behind = omega (arith, alike.1, alike.2)
+      following : c.lengths.records - from.compared ≡ base
+      following = omega (arith, alike.1, alike.2)
 
   as-far : AreCompared o base window c from.compared → (j : ℕ) → j ≤ window → looked_up here.records j ≡ looked_up seen_at.records j
   as-far (inl alike) j le = ap (λ l. looked_up l j) (sym (seen-same alike))
@@ -143,7 +143,7 @@ module _ (n : ℕ) (coins : ℕ → Bool) (xs ys : List Step) (k : ℕ) (c : Che
   flips_are =
       ap (λ (q : RunOutput). replicate count false ++ q.records) from.flips
       ∙ (λ i. replicate count false ++ flipped (sym (drop_at (take count o.records) recent count front-long) i) (drop count (own i)))
-      ∙ apart-behind count seen_at.records there.records seen-long
+      ∙ differing-after count seen_at.records there.records seen-long
       (omega (arith, length-append (take count o.records) recent, front-long))
       (take_at (take count o.records) recent count front-long ∙ ap (take count) own)
 
@@ -162,29 +162,29 @@ module _ (n : ℕ) (coins : ℕ → Bool) (xs ys : List Step) (k : ℕ) (c : Che
         ∙ is.group (with_sign (strings_anticommute w.letters p.letters) p) size;
     coin = refl;
     count = ap length flips_are ∙ length-flipped seen_at.records there.records;
-    records = sym (flipped-apart seen_at.records there.records seen-long) ∙ ap (flipped seen_at.records) (sym flips_are);
+    records = sym (flipped-differing seen_at.records there.records seen-long) ∙ ap (flipped seen_at.records) (sym flips_are);
   }
 
--- the frame from a copy of the same run
+-- the frame from a checkpoint of the same run
 pub frame-again : (n : ℕ) (coins : ℕ → Bool) (ys : List Step) (k : ℕ) (c : Checkpoint) (t : TableauState) (o : RunOutput) (window : ℕ) (w : PropagationState)
     → t.qubits ≡ n → IsCheckpoint n coins ys c → c.step ≤ k → k ≤ length ys → IsRunFromStart n coins (take k ys) (program_state t o) → All (StepFits n) ys
     → (from : IsFrameFrom t o o c.lengths.records window c w)
     → DiffersBack n window (frame_at (length o.records - from.compared) w) (point_after n coins (take c.step ys) origin) (point_after n coins (take k ys) origin)
 frame-again n coins ys k c t o window w qubits is before within run fits from = record {
-  seen = seen_at n coins (take k ys) ys k c t o o c.lengths.records window w qubits copy run.output run shorter refl fit from;
-  group = seen-group n coins (take k ys) ys k c t o o c.lengths.records window w qubits copy run.output run shorter refl fit from;
+  seen = seen_at n coins (take k ys) ys k c t o o c.lengths.records window w qubits checkpoint run.output run shorter refl fit from;
+  group = seen-group n coins (take k ys) ys k c t o o c.lengths.records window w qubits checkpoint run.output run shorter refl fit from;
   agree =
-      subst (λ zs. AgreeBack n window (with_coin (point_after n coins (take k ys) origin).coin (point_after n coins zs origin)) (seen_at n coins (take k ys) ys k c t o o c.lengths.records window w qubits copy run.output run shorter refl fit from))
+      subst (λ zs. AgreeBack n window (with_coin (point_after n coins (take k ys) origin).coin (point_after n coins zs origin)) (seen_at n coins (take k ys) ys k c t o o c.lengths.records window w qubits checkpoint run.output run shorter refl fit from))
       (take-take c.step k ys before)
-      (seen-agrees n coins (take k ys) ys k c t o o c.lengths.records window w qubits copy run.output run shorter refl fit from);
-  framed = seen-differs n coins (take k ys) ys k c t o o c.lengths.records window w qubits copy run.output run shorter refl fit from;
+      (seen-agrees n coins (take k ys) ys k c t o o c.lengths.records window w qubits checkpoint run.output run shorter refl fit from);
+  by_frame = seen-differs n coins (take k ys) ys k c t o o c.lengths.records window w qubits checkpoint run.output run shorter refl fit from;
 }
   where
-    copy : IsCheckpoint n coins (take k ys) c
-    copy = copy-before n coins ys k c is before within
+    checkpoint : IsCheckpoint n coins (take k ys) c
+    checkpoint = checkpoint-before n coins ys k c is before within
 
     shorter : c.lengths.records ≤ length o.records
-    shorter = (lengths-within n coins (take k ys) o c copy run.output).1
+    shorter = (lengths-within n coins (take k ys) o c checkpoint run.output).1
 
     fit : All (StepFits n) (take k ys)
     fit = All-take (StepFits n) k ys fits

@@ -115,8 +115,8 @@ some-found f c t p b read string e = (
       (subst (λ q. stabilises c (with_sign b q) ≡ true) string (subst (λ s. stabilises s (with_sign b p) ≡ true) read e)),
 )
 
--- a stabiliser that letters turn is none of the state that they make
-pub conjugated-apart : (n : ℕ) (f : List Letter) (c t : TableauState) → c.qubits ≡ n → FramesSome f c → IsConjugated c.qubits f (stabilises c) (stabilises t)
+-- a stabiliser that letters negate is none of the state that they make
+pub conjugated-differs : (n : ℕ) (f : List Letter) (c t : TableauState) → c.qubits ≡ n → FramesSome f c → IsConjugated c.qubits f (stabilises c) (stabilises t)
     → (p : Signed) × (length p.letters ≡ n) × (stabilises c p ≡ true) × (stabilises t p ≡ false)
-conjugated-apart n f c t same some conjugated =
+conjugated-differs n f c t same some conjugated =
     (some.0, some.1 ∙ same, some.2, conjugated some.0 some.1 ∙ ap (λ b. stabilises c (with_sign b some.0)) some.4 ∙ some.3)

@@ -6,7 +6,7 @@ pub mod CutLemmas
 pub mod MeetingLemmas
 pub mod FlippedLemmas
 pub mod PivotLemmas
-pub mod RunCopyLemmas
+pub mod RunCheckpointLemmas
 pub mod FrameStartLemmas
 pub mod ConjugatedLemmas
 mod ShotLemmas
@@ -15,7 +15,7 @@ pub mod AgainLemmas
 mod TogetherLemmas
 pub mod PointLemmas
 pub mod ReplayLemmas
-mod LaidLemmas
+mod SavedLemmas
 pub mod SeenLemmas
 pub mod SegmentLemmas
 mod CursorPlaceLemmas
@@ -23,10 +23,11 @@ mod MovedLemmas
 mod PropagatedWayLemmas
 mod QuietLemmas
 mod LetterStateLemmas
-pub mod LeadingLemmas
+pub mod RestPropagatedLemmas
 pub mod OldRunLemmas
+mod FollowedLemmas
 pub mod AgainOverLemmas
-mod FramedPivotLemmas
+mod PropagatedPivotLemmas
 mod FoldedPartLemmas
 mod FoldedOverLemmas
 mod FoldedReplayLemmas

@@ -1,29 +1,22 @@
--- Replays apart: if a replay's next coin has another number than the old run's, or its records are others, the two agree at no later
--- old copy.
-use Rattle.stab_recording.proofs.Names.{◌≡◌, ◌≢◌, ℕ, suc, zero, ◌+◌, ◌-◌, ◌<◌, ◌≤◌, refl, sym, ◌∙◌, ap, subst, Bool, ◌⊎◌, inl, inr, List, [], ◌∷◌, ◌++◌, Option, Some, None, length, take, drop, slice_get, arith, IfSome, cases_lt, length-append, length-drop, drop-drop, take_at, Step, Lengths, Checkpoint, IsCheckpoint, Point, RunOutput, origin, point_after, outputs, all_coins_of, PivotsState, flags-are-coins, records-are-records, records-gathered, front-output, records-made, coins-are, Plan, Replay, IsAtStep, Ascending, Misses, IsOnWay, step_among_new, IsOldRun, IsBeside, IsApartFrom}
+-- Replays that differ: if a replay's next coin has another number than the old run's, or its records are others, the two agree at no later
+-- old checkpoint.
+use Rattle.stab_recording.proofs.Names.{◌≡◌, ◌≢◌, ℕ, suc, zero, ◌+◌, ◌-◌, ◌<◌, ◌≤◌, refl, sym, ◌∙◌, ap, subst, Bool, ◌⊎◌, inl, inr, List, [], ◌∷◌, ◌++◌, Option, Some, None, length, take, drop, slice_get, arith, IfSome, cases_lt, length-append, length-drop, drop-drop, take_at, Step, Lengths, Checkpoint, IsCheckpoint, Point, RunOutput, origin, point_after, outputs, all_coins_of, PivotsState, flags-are-coins, records-are-records, records-gathered, records-made, coins-are, Plan, Replay, IsAtStep, Ascending, Misses, IsOnWay, step_among_new, IsOldRun, IsBeside, HasOtherCoins}
 use Rattle.std.specs.Prelude.{IsSomeAnd}
 use Rattle.stab_recording.proofs.CursorPlaceLemmas.{at-number}
 use Rattle.stab_recording.proofs.PointLemmas.{old_later, new_later}
+use Rattle.stab_recording.proofs.RunCheckpointLemmas.{records-at}
 
 -- steps after those that differ
-steps-behind : (xs ys : List Step) (old_end new_end : ℕ) → drop old_end xs ≡ drop new_end ys → (first : ℕ) → old_end ≤ first → drop first xs ≡ drop (new_end + (first - old_end)) ys
-steps-behind xs ys old_end new_end same first le =
+steps-following : (xs ys : List Step) (old_end new_end : ℕ) → drop old_end xs ≡ drop new_end ys → (first : ℕ) → old_end ≤ first → drop first xs ≡ drop (new_end + (first - old_end)) ys
+steps-following xs ys old_end new_end same first le =
     ap (λ k. drop k xs) (omega (arith, le))
     ∙ sym (drop-drop (first - old_end) old_end xs)
     ∙ ap (drop (first - old_end)) same
     ∙ drop-drop (first - old_end) new_end ys
 
--- the number of the next coin at a copy
-copy-coin : (n : ℕ) (coins : ℕ → Bool) (xs : List Step) (c : Checkpoint) → IsCheckpoint n coins xs c → c.lengths.free ≡ (point_after n coins (take c.step xs) origin).coin
-copy-coin n coins xs c is = ap (λ (l : Lengths). l.free) is.lengths ∙ flags-are-coins n coins (take c.step xs)
-
--- and the records there
-copy-records : (n : ℕ) (coins : ℕ → Bool) (xs : List Step) (o : RunOutput) (c : Checkpoint) → IsCheckpoint n coins xs c → o ≡ outputs n coins xs origin
-    → take c.lengths.records o.records ≡ (point_after n coins (take c.step xs) origin).records
-copy-records n coins xs o c is same =
-    (λ i. take (ap (λ (l : Lengths). l.records) is.lengths i) (same i).records)
-    ∙ ap (λ (x : RunOutput). x.records) (front-output n coins xs c.step)
-    ∙ records-are-records n coins (take c.step xs)
+-- the number of the next coin at a checkpoint
+checkpoint-coin : (n : ℕ) (coins : ℕ → Bool) (xs : List Step) (c : Checkpoint) → IsCheckpoint n coins xs c → c.lengths.free ≡ (point_after n coins (take c.step xs) origin).coin
+checkpoint-coin n coins xs c is = ap (λ (l : Lengths). l.free) is.lengths ∙ flags-are-coins n coins (take c.step xs)
 
 -- lists whose ends are as long have the same fronts
 same-fronts : (a b x y : List Bool) → a ++ x ≡ b ++ y → length x ≡ length y → a ≡ b
@@ -36,10 +29,10 @@ same-fronts a b x y same ends =
 more-coins : (n : ℕ) (coins : ℕ → Bool) (xs : List Step) (a b : Point) → a ≡ point_after n coins xs b → a.coin ≡ b.coin + all_coins_of xs
 more-coins n coins xs a b same = ap (λ (q : Point). q.coin) same ∙ coins-are n coins xs b
 
-module _ (n : ℕ) (coins : ℕ → Bool) (p : Plan) (ys : List Step) (copies : List Checkpoint) (o : RunOutput) (s : PivotsState) (old : IsOldRun n coins p ys copies o s)
-    (few : length ys ≤ 1048576) (b c : Checkpoint) (from : IsCheckpoint n coins old.steps b) (to : IsCheckpoint n coins old.steps c) (behind : p.old_end ≤ b.step)
+module _ (n : ℕ) (coins : ℕ → Bool) (p : Plan) (ys : List Step) (checkpoints : List Checkpoint) (o : RunOutput) (s : PivotsState) (old : IsOldRun n coins p ys checkpoints o s)
+    (few : length ys ≤ 1048576) (b c : Checkpoint) (from : IsCheckpoint n coins old.steps b) (to : IsCheckpoint n coins old.steps c) (following : p.old_end ≤ b.step)
     (order : b.step ≤ c.step) (r : Replay) (at : IsAtStep n coins ys r) (place : step_among_new p b ≡ r.step) where
-  -- where the replay is, and where it comes to the later copy
+  -- where the replay is, and where it comes to the later checkpoint
   here : p.new_end + (b.step - p.old_end) ≡ r.step
   here =
       let within = at.within in
@@ -50,18 +43,18 @@ module _ (n : ℕ) (coins : ℕ → Bool) (p : Plan) (ys : List Step) (copies : 
       let end = old.new_within in
       let old_end = old.old_within in
       let within = to.within in
-      omega (arith, here, few, end, old_end, within, behind, order, length-drop p.old_end old.steps, length-drop p.new_end ys, ap length old.behind)
+      omega (arith, here, few, end, old_end, within, following, order, length-drop p.old_end old.steps, length-drop p.new_end ys, ap length old.following)
 
   same-steps : drop b.step old.steps ≡ drop r.step ys
-  same-steps = steps-behind old.steps ys p.old_end p.new_end old.behind b.step behind ∙ ap (λ k. drop k ys) here
+  same-steps = steps-following old.steps ys p.old_end p.new_end old.following b.step following ∙ ap (λ k. drop k ys) here
 
   old-coin : c.lengths.free ≡ b.lengths.free + all_coins_of (take (c.step - b.step) (drop b.step old.steps))
   old-coin =
-      copy-coin n coins old.steps c to
+      checkpoint-coin n coins old.steps c to
       ∙ ap (λ k. (point_after n coins (take k old.steps) origin).coin) (omega (arith, order))
       ∙ more-coins n coins (take (c.step - b.step) (drop b.step old.steps)) _ (point_after n coins (take b.step old.steps) origin)
       (old_later n coins old.steps ys b.step r.step same-steps (c.step - b.step))
-      ∙ ap (λ k. k + all_coins_of (take (c.step - b.step) (drop b.step old.steps))) (sym (copy-coin n coins old.steps b from))
+      ∙ ap (λ k. k + all_coins_of (take (c.step - b.step) (drop b.step old.steps))) (sym (checkpoint-coin n coins old.steps b from))
 
   new-coin : (point_after n coins (take (step_among_new p c) ys) origin).coin ≡ length r.outputs.free.items + all_coins_of (take (c.step - b.step) (drop b.step old.steps))
   new-coin =
@@ -72,8 +65,8 @@ module _ (n : ℕ) (coins : ℕ → Bool) (p : Plan) (ys : List Step) (copies : 
       (sym (ap (λ (x : RunOutput). length x.free) at.run.output ∙ flags-are-coins n coins (take r.step ys)))
 
   misses-moved : b.lengths.free ≢ length r.outputs.free.items → (records : List Bool) → Misses n coins p ys records c
-  misses-moved apart records xs is kept agree =
-      apart (omega (arith, old-coin, new-coin, copy-coin n coins xs c is, agree.coin))
+  misses-moved distinct records xs is kept agree =
+      distinct (omega (arith, old-coin, new-coin, checkpoint-coin n coins xs c is, agree.coin))
 
   -- what both make from the one place to the other
   abbrev between-them : List Step
@@ -87,7 +80,7 @@ module _ (n : ℕ) (coins : ℕ → Bool) (p : Plan) (ys : List Step) (copies : 
 
   old-there : take c.lengths.records o.records ≡ old-point.records ++ (outputs n coins between-them old-point).records
   old-there =
-      copy-records n coins old.steps o c to old.output
+      records-at n coins old.steps o c to old.output
       ∙ ap (λ k. (point_after n coins (take k old.steps) origin).records) (omega (arith, order))
       ∙ ap (λ (q : Point). q.records) (old_later n coins old.steps ys b.step r.step same-steps (c.step - b.step))
       ∙ records-gathered n coins between-them old-point
@@ -99,19 +92,19 @@ module _ (n : ℕ) (coins : ℕ → Bool) (p : Plan) (ys : List Step) (copies : 
       ∙ records-gathered n coins between-them new-point
 
   misses-others : take b.lengths.records o.records ≢ r.outputs.records.items → Misses n coins p ys o.records c
-  misses-others apart xs is kept agree =
-      apart
-      (copy-records n coins old.steps o b from old.output
+  misses-others distinct xs is kept agree =
+      distinct
+      (records-at n coins old.steps o b from old.output
       ∙ same-fronts old-point.records new-point.records (outputs n coins between-them old-point).records (outputs n coins between-them new-point).records
       (sym old-there ∙ kept ∙ records-are-records n coins (take c.step xs) ∙ agree.records ∙ new-there)
       (records-made n coins between-them old-point ∙ sym (records-made n coins between-them new-point))
       ∙ sym (ap (λ (x : RunOutput). x.records) at.run.output ∙ records-are-records n coins (take r.step ys)))
 
   pub misses-later : (b.lengths.free ≢ length r.outputs.free.items) ⊎ (take b.lengths.records o.records ≢ r.outputs.records.items) → Misses n coins p ys o.records c
-  misses-later (inl apart) = misses-moved apart o.records
-  misses-later (inr apart) = misses-others apart
+  misses-later (inl distinct) = misses-moved distinct o.records
+  misses-later (inr distinct) = misses-others distinct
 
--- copies after the next one are no earlier
+-- checkpoints after the next one are no earlier
 pub ascending-from : (p : Plan) (step next later : ℕ) (cs : List Checkpoint) → Ascending p step (drop next cs) → next ≤ later → Ascending p step (drop later cs)
 ascending-from p step zero zero cs h le = h
 ascending-from p step zero (suc later) [] h le = h
@@ -124,11 +117,11 @@ ascending-from p step (suc next) zero cs h le = absurd (omega (arith, le))
 ascending-from p step (suc next) (suc later) [] h le = h
 ascending-from p step (suc next) (suc later) (c ∷ cs) h le = ascending-from p step next later cs h (omega (arith, le))
 
--- a replay on its way may pass copies that it misses
-pub way-past : (n : ℕ) (coins : ℕ → Bool) (begin : ℕ) (p : Plan) (ys : List Step) (copies : List Checkpoint) (old : List Bool) (next later : ℕ) (r : Replay)
-    → IsOnWay n coins begin p ys copies old next r → next ≤ later → later ≤ length copies
-    → ((number : ℕ) → next ≤ number → number < later → IfSome (slice_get copies number) (Misses n coins p ys old)) → IsOnWay n coins begin p ys copies old later r
-way-past n coins begin p ys copies old next later r way le within missed =
+-- a replay on its way may pass checkpoints that it misses
+pub way-past : (n : ℕ) (coins : ℕ → Bool) (begin : ℕ) (p : Plan) (ys : List Step) (checkpoints : List Checkpoint) (old : List Bool) (next later : ℕ) (r : Replay)
+    → IsOnWay n coins begin p ys checkpoints old next r → next ≤ later → later ≤ length checkpoints
+    → ((number : ℕ) → next ≤ number → number < later → IfSome (slice_get checkpoints number) (Misses n coins p ys old)) → IsOnWay n coins begin p ys checkpoints old later r
+way-past n coins begin p ys checkpoints old next later r way le within missed =
     let stop = way.stop in
     record {
       stop = record {
@@ -136,7 +129,7 @@ way-past n coins begin p ys copies old next later r way le within missed =
         counted = stop.counted;
         order = let first = stop.order in omega (arith, first, le);
         within = within;
-        ascending = ascending-from p r.step next later copies stop.ascending le;
+        ascending = ascending-from p r.step next later checkpoints stop.ascending le;
         base = stop.base;
         same = stop.same;
         missed = λ number from before.
@@ -148,18 +141,18 @@ way-past n coins begin p ys copies old next later r way le within missed =
       last = way.last;
     }
 
--- if it is at the place of an old copy and differs from it, later old copies of the list are missed
-pub all-missed : (n : ℕ) (coins : ℕ → Bool) (p : Plan) (ys : List Step) (copies : List Checkpoint) (o : RunOutput) (s : PivotsState) (r : Replay) → IsBeside n coins p ys copies o s r
-    → length ys ≤ 1048576 → (last : ℕ) (b : Checkpoint) → slice_get copies last ≡ Some b → IsSomeAnd (slice_get copies last) (IsApartFrom p r o) → (number : ℕ)
-    → IfSome (slice_get copies number) (λ c. b.step ≤ c.step) → IfSome (slice_get copies number) (Misses n coins p ys o.records)
-all-missed n coins p ys copies o s r beside few last b from apart number behind =
-    later (slice_get copies number) refl behind
+-- if it is at the place of an old checkpoint and differs from it, later old checkpoints of the list are missed
+pub all-missed : (n : ℕ) (coins : ℕ → Bool) (p : Plan) (ys : List Step) (checkpoints : List Checkpoint) (o : RunOutput) (s : PivotsState) (r : Replay) → IsBeside n coins p ys checkpoints o s r
+    → length ys ≤ 1048576 → (last : ℕ) (b : Checkpoint) → slice_get checkpoints last ≡ Some b → IsSomeAnd (slice_get checkpoints last) (HasOtherCoins p r o) → (number : ℕ)
+    → IfSome (slice_get checkpoints number) (λ c. b.step ≤ c.step) → IfSome (slice_get checkpoints number) (Misses n coins p ys o.records)
+all-missed n coins p ys checkpoints o s r beside few last b from distinct number following =
+    later (slice_get checkpoints number) refl following
   where
-    held : IsApartFrom p r o b
-    held = subst (λ m. IsSomeAnd m (IsApartFrom p r o)) from apart
+    held : HasOtherCoins p r o b
+    held = subst (λ m. IsSomeAnd m (HasOtherCoins p r o)) from distinct
 
-    later : (found : Option Checkpoint) → slice_get copies number ≡ found → IfSome found (λ c. b.step ≤ c.step) → IfSome found (Misses n coins p ys o.records)
-    later None to behind = tt
-    later (Some c) to behind =
-        misses-later n coins p ys copies o s beside.old few b c (at-number (IsCheckpoint n coins beside.old.steps) copies last b from beside.old.are_copies)
-        (at-number (IsCheckpoint n coins beside.old.steps) copies number c to beside.old.are_copies) held.behind behind r beside.at_step held.place held.apart
+    later : (found : Option Checkpoint) → slice_get checkpoints number ≡ found → IfSome found (λ c. b.step ≤ c.step) → IfSome found (Misses n coins p ys o.records)
+    later None to following = tt
+    later (Some c) to following =
+        misses-later n coins p ys checkpoints o s beside.old few b c (at-number (IsCheckpoint n coins beside.old.steps) checkpoints last b from beside.old.are_checkpoints)
+        (at-number (IsCheckpoint n coins beside.old.steps) checkpoints number c to beside.old.are_checkpoints) held.following following r beside.at_step held.place held.differs

@@ -22,19 +22,19 @@ pub use Rattle.stab_items.specs.Steps.{Step, rounds, looks_too_far, one, two, co
 pub use Rattle.stab_edits.specs.Views.{circuit_items}
 pub use Rattle.stab_edits.specs.declared.circuit.repeats.Repeat.{Repeat}
 pub use Rattle.stab_frames.proofs.AgainLemmas.{come-conjugated, gone-over-seen, true-conjugated-at, true-conjugated}
-pub use Rattle.stab_frames.proofs.FlipLemmas.{flipped-empty, length-flipped, flipped-apart}
-pub use Rattle.stab_frames.proofs.FramedCopyLemmas.{conjugated-next, conjugated-none, conjugated-all}
-pub use Rattle.stab_frames.proofs.FramedLemmas.{conjugated-pauli}
+pub use Rattle.stab_frames.proofs.FlipLemmas.{flipped-empty, length-flipped, flipped-differing}
+pub use Rattle.stab_frames.proofs.PropagatedRepeatLemmas.{conjugated-next, conjugated-none, conjugated-all}
+pub use Rattle.stab_frames.proofs.PropagatedPointLemmas.{conjugated-pauli}
 pub use Rattle.stab_frames.proofs.FrontLemmas.{group-origin}
 pub use Rattle.stab_frames.proofs.OtherCoinLemmas.{propagation-others}
 pub use Rattle.stab_frames.proofs.OverLemmas.{enough-append}
-pub use Rattle.stab_frames.proofs.PivotAtLemmas.{get-append, get-behind, pivot-equal, pivot-past}
+pub use Rattle.stab_frames.proofs.PivotAtLemmas.{get-append, get-following, pivot-equal, pivot-past}
 pub use Rattle.stab_frames.proofs.PropagatedLemmas.{over-append}
 pub use Rattle.stab_frames.proofs.PropagationLemmas.{mixed-set}
 pub use Rattle.stab_frames.proofs.StillLemmas.{still-base}
 pub use Rattle.stab_frames.proofs.StillPropagationLemmas.{ones-within}
 pub use Rattle.stab_frames.proofs.TrueLemmas.{true-front, true-rest, true-append, true-same, true-none}
-pub use Rattle.stab_frames.specs.AgainLaws.{DiffersBack, AreFramedOver}
+pub use Rattle.stab_frames.specs.AgainLaws.{DiffersBack, ArePropagatedOver}
 pub use Rattle.stab_frames.specs.Ends.{MayHaveCoin}
 pub use Rattle.stab_frames.specs.Flips.{flipped_output, flipped, flipped_additions}
 pub use Rattle.stab_frames.specs.FrameSteps.{frame_over, flips_over, frame_after, flipped_by, letters_by, letters_after, flips_given}
@@ -87,31 +87,31 @@ pub use Rattle.stab_tableau.specs.Rules.{is_free_by}
 pub use Rattle.stab_tableau.specs.Tableaus.{TableauState, stabilises}
 pub use Rattle.stab_tableau.specs.Traces.{member}
 pub use Rattle.stab_recording.specs.Checkpoints.{IsCheckpoint, checkpoint_steps, IsRunFromStart}
-pub use Rattle.stab_recording.specs.FramedReplays.{IsOldRun, HaveSameFuture}
-pub use Rattle.stab_recording.specs.FramesFrom.{flips_since, AreCompared, IsFrameFrom, flips_behind}
-pub use Rattle.stab_recording.specs.LaidCheckpoints.{laid, all_laid, moved, moved_copy, moved_lengths}
+pub use Rattle.stab_recording.specs.PropagatedReplays.{IsOldRun, HaveSameFuture}
+pub use Rattle.stab_recording.specs.FramesFrom.{flips_since, AreCompared, IsFrameFrom, flips_after}
+pub use Rattle.stab_recording.specs.SavedCheckpoints.{saved, all_saved, moved, moved_checkpoint, moved_lengths}
 pub use Rattle.stab_recording.specs.Meets.{Meets}
 pub use Rattle.stab_recording.specs.Parts.{between}
 pub use Rattle.stab_recording.specs.PivotLists.{KeepsPivots, IsSpliced}
-pub use Rattle.stab_recording.specs.Replays.{MeetsAt, Misses, EndsSoon, step_among_new, IsReplay, Ascending, IsEnd, IsFramed, IsAtStep, IsAtStop, IsOnWay, spacing_of, StopsAt, BeginsAt, IsPlacedAt, copy_of}
-pub use Rattle.stab_recording.specs.RestFrames.{AreInOrder, AreFramedCheckpoints, IsRestFrame, Ending, AreEnoughBy, IsFramedBehind, Stabilise, FramesSome, IsLastApart}
+pub use Rattle.stab_recording.specs.Replays.{MeetsAt, Misses, EndsSoon, step_among_new, IsReplay, Ascending, IsEnd, IsPropagated, IsAtStep, IsAtStop, IsOnWay, spacing_of, StopsAt, BeginsAt, IsPlacedAt, checkpoint_of}
+pub use Rattle.stab_recording.specs.RestFrames.{AreInOrder, ArePropagatedCheckpoints, IsRestFrame, Ending, AreEnoughBy, IsPropagatedAfter, Stabilise, FramesSome, IsLastDiffering}
 pub use Rattle.stab_recording.specs.Samplers.{SamplerState}
 pub use Rattle.stab_recording.specs.Spacing.{Near, last_of}
 pub use Rattle.stab_recording.specs.declared.checkpoint.Checkpoint.{Checkpoint}
 pub use Rattle.stab_recording.specs.declared.checkpoint.Meeting.{Meeting}
-pub use Rattle.stab_recording.specs.declared.recurrence.Earlier.{Earlier}
+pub use Rattle.stab_recording.specs.declared.recurrence.Recurrence.{Recurrence}
 pub use Rattle.stab_recording.specs.declared.loop_folding.Segment.{Segment}
 pub use Rattle.stab_recording.specs.declared.replay.Arrival.{Arrival}
-pub use Rattle.stab_recording.specs.declared.replay.Arrival.TheVariants.{Between, Behind, Met}
+pub use Rattle.stab_recording.specs.declared.replay.Arrival.TheVariants.{Between, After, Met}
 pub use Rattle.stab_recording.specs.declared.replay.End.TheVariants.{Last, Joined}
 pub use Rattle.stab_recording.specs.declared.replay.Plan.{Plan}
 pub use Rattle.stab_recording.specs.declared.replay.Replay.{Replay}
 pub use Rattle.stab_recording.specs.declared.rest_frame.RestFrame.{RestFrame}
 pub use Rattle.stab_recording.specs.declared.whole_run.Shot.{Shot}
-pub use Rattle.stab_recording.specs.inner.Advanced.{behind_rounds}
+pub use Rattle.stab_recording.specs.inner.Advanced.{after_rounds}
 pub use Rattle.stab_recording.specs.inner.Arrivals.{IsArrival}
-pub use Rattle.stab_recording.specs.inner.FoldedReplays.{IsRoundsBehind, IsAlike, MayComeAgain, IsFolding, IsSegment, HasCopied, MayGoOver, HasFramed, HasStringsAgain, with_folded, IsAsAt, DiffersFrom, IsOfOwn, StandsAs, IsFound, IsEndIn, HasGone}
-pub use Rattle.stab_recording.specs.inner.RestFrameStates.{last_state, with_state, with_cursor, IsBeside, IsApartFrom}
+pub use Rattle.stab_recording.specs.inner.FoldedReplays.{IsRoundsAfter, IsAlike, MayRecur, IsFolding, IsSegment, HasRepeated, MayGoOver, HasPropagated, HasStringsAgain, with_folded, IsAsAt, DiffersFrom, IsOfOwn, StandsAs, IsFound, IsEndIn, HasGone}
+pub use Rattle.stab_recording.specs.inner.RestFrameStates.{last_state, with_state, with_cursor, IsBeside, HasOtherCoins}
 pub use Rattle.stab_recording.specs.inner.Shots.{IsShotOf}
 pub use Rattle.stab_recording.specs.inner.Runs.{plan_of_run, IsOwnRun}
 pub use Rattle.stab_frames.specs.inner.Draws.{AsksFree, outcome_of, differing}

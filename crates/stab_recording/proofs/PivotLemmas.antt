@@ -1,5 +1,5 @@
 -- Pivots: what is recorded of a coin if strings and flags are cut, or others are put after them, and strings of a run that are recorded again.
-use Rattle.stab_recording.proofs.Names.{◌≡◌, ℕ, suc, ◌+◌, ◌<◌, ◌≤◌, refl, sym, ◌∙◌, ap, subst, Bool, true, false, ◌⊎◌, inl, inr, List, [], ◌∷◌, ◌++◌, length, take, drop, slice_get, get_or, Option, None, arith, IfSome, if◌then◌else◌, cases_lt, length-append, length-take, length-drop, get_or-take, get_or_append_left, take-append-le, get_or-append-add, get_or-drop, take-take, take-append-add, Letter, Step, one, two, controlled, collapse, product, detector, observable, ones, Point, origin, coins_of, all_coins_of, next_point, point_after, outputs, ones-append, with_coin, flags-are-coins, coins-are, PivotsState, IsNumbered, IsTrueAt, AreTrue, pivot_at, kept_with, AreFramedOver, true-conjugated-at, true-append, true-same, true-none, ones-split, get-append, get-behind, pivot-equal, pivot-past}
+use Rattle.stab_recording.proofs.Names.{◌≡◌, ℕ, suc, ◌+◌, ◌<◌, ◌≤◌, refl, sym, ◌∙◌, ap, subst, Bool, true, false, ◌⊎◌, inl, inr, List, [], ◌∷◌, ◌++◌, length, take, drop, slice_get, get_or, Option, None, arith, IfSome, if◌then◌else◌, cases_lt, length-append, length-take, length-drop, get_or-take, get_or_append_left, take-append-le, get_or-append-add, get_or-drop, take-take, take-append-add, Letter, Step, one, two, controlled, collapse, product, detector, observable, ones, Point, origin, coins_of, all_coins_of, next_point, point_after, outputs, ones-append, with_coin, flags-are-coins, coins-are, PivotsState, IsNumbered, IsTrueAt, AreTrue, pivot_at, kept_with, ArePropagatedOver, true-conjugated-at, true-append, true-same, true-none, ones-split, get-append, get-following, pivot-equal, pivot-past}
 use Rattle.stab_recording.proofs.BitLemmas.{counted}
 use Rattle.stab_recording.proofs.CutLemmas.{get-take, get-beyond, get-drop, ones-take}
 
@@ -90,7 +90,7 @@ module _ (s : PivotsState) (flags : List Bool) (numbered : IsNumbered s flags) (
             | inr e ↦ inr (
                 e
                 ∙ ap (λ k. slice_get (s.strings ++ drop (ones (take c free)) strings) (k + ones (take u (drop c free)))) (omega (arith, numbered, all))
-                ∙ get-behind s.strings (drop (ones (take c free)) strings) (ones (take u (drop c free)))
+                ∙ get-following s.strings (drop (ones (take c free)) strings) (ones (take u (drop c free)))
                 ∙ get-drop (ones (take c free)) (ones (take u (drop c free))) strings
                 )
           ]
@@ -102,7 +102,7 @@ none-or-both o p q (inr e) (inr f) = inr (e ∙ f)
 
 -- pivots of what steps measure at one point are true at another, by their places after the number of the next coin
 true-shifted : (n : ℕ) (coins : ℕ → Bool) (strings others : ℕ → Option (List Letter)) (xs : List Step) (a b : Point)
-    → ((j : ℕ) → j < all_coins_of xs → IsNoneOr (others (b.coin + j)) (strings (a.coin + j))) → AreFramedOver n coins xs a b
+    → ((j : ℕ) → j < all_coins_of xs → IsNoneOr (others (b.coin + j)) (strings (a.coin + j))) → ArePropagatedOver n coins xs a b
     → AreTrue n coins strings xs a → AreTrue n coins others xs b
 true-shifted n coins strings others [] a b pivots conjugated is = tt
 true-shifted n coins strings others (x ∷ xs) a b pivots conjugated is = (
@@ -164,7 +164,7 @@ module _ (n : ℕ) (coins : ℕ → Bool) (xs part : List Step) (s u : PivotsSta
       (pivot-front s.strings flags (ones (take d flags)) d (c + j) (omega (arith, lt, last))))
 
   pub true-again : AreTrue n coins (pivot_at s.strings flags) xs origin → AreTrue n coins (pivot_at s.strings flags) part a
-      → AreFramedOver n coins part a (point_after n coins xs origin) → AreTrue n coins (pivot_at u.strings (flags ++ drop c (take d flags))) (xs ++ part) origin
+      → ArePropagatedOver n coins part a (point_after n coins xs origin) → AreTrue n coins (pivot_at u.strings (flags ++ drop c (take d flags))) (xs ++ part) origin
   true-again are_true true_then conjugated =
       subst (λ l. AreTrue n coins (pivot_at l (flags ++ drop c (take d flags))) (xs ++ part) origin) (sym (ap (λ (t : PivotsState). t.strings) new))
       (true-append n coins (pivot_at (take s.most (s.strings ++ others)) (flags ++ drop c (take d flags))) xs part origin

@@ -1,5 +1,5 @@
--- Points: runs that go on from states on the way, copies of these, and meetings, at which two runs come to points of one future.
-use Rattle.stab_recording.proofs.Names.{◌≡◌, ℕ, ◌+◌, ◌-◌, ◌^◌, ◌<◌, ◌≤◌, refl, sym, ◌∙◌, ap, subst, Bool, ◌⊎◌, inl, inr, List, ◌++◌, length, take, drop, arith, length-append, length-take-le, length-drop, take-append-drop, take-take, take_all, take-add, member, SameGroup, TableauState, stabilises, Step, Lengths, Checkpoint, Meeting, Point, RunOutput, origin, joined, point_after, outputs, looked_up, ones, AgreeAt, MayHaveCoin, ProgramState, IsAt, IsRun, program_state, lengths_of, front_of, rest_of, AgreeBack, with_coin, IsRunFromStart, IsCheckpoint, moved, moved_lengths, moved_copy, Meets, HaveSameFuture, after-append, outputs-append, same-future, flags-are-coins, records-are-records, cut, front-output, rest-output, HasAtMost, outputs-short}
+-- Points: runs that go on from states on the way, checkpoints of these, and meetings, at which two runs come to points of one future.
+use Rattle.stab_recording.proofs.Names.{◌≡◌, ℕ, ◌+◌, ◌-◌, ◌^◌, ◌<◌, ◌≤◌, refl, sym, ◌∙◌, ap, subst, Bool, ◌⊎◌, inl, inr, List, ◌++◌, length, take, drop, arith, length-append, length-take-le, length-drop, take-append-drop, take-take, take_all, take-add, member, SameGroup, TableauState, stabilises, Step, Lengths, Checkpoint, Meeting, Point, RunOutput, origin, joined, point_after, outputs, looked_up, ones, AgreeAt, MayHaveCoin, ProgramState, IsAt, IsRun, program_state, lengths_of, front_of, rest_of, AgreeBack, with_coin, IsRunFromStart, IsCheckpoint, moved, moved_lengths, moved_checkpoint, Meets, HaveSameFuture, after-append, outputs-append, same-future, flags-are-coins, records-are-records, cut, front-output, rest-output, HasAtMost, outputs-short}
 use Rattle.stab_recording.proofs.MeetingLemmas.{looked-last}
 
 -- a run that goes on from a state of a run from the start
@@ -36,7 +36,7 @@ moved-joined k a b o few short = λ i. record {
   additions = moved-length a.additions b.additions o.additions (let s = short.additions in omega arith) i;
 }
 
--- a copy before the first step that differs is one of both runs
+-- a checkpoint before the first step that differs is one of both runs
 
 pub take-same : {X : Type 0} (i m : ℕ) (xs ys : List X) → i ≤ m → take m xs ≡ take m ys → take i xs ≡ take i ys
 take-same i m xs ys le same = sym (take-take i m xs le) ∙ ap (take i) same ∙ take-take i m ys le
@@ -50,7 +50,7 @@ checkpoint-before n coins xs ys first c same before within h = record {
   lengths = h.lengths ∙ ap (λ zs. lengths_of (outputs n coins zs origin)) (take-same c.step first xs ys before same);
 }
 
--- a run that begins at a copy
+-- a run that begins at a checkpoint
 pub begun-from-start : (n : ℕ) (coins : ℕ → Bool) (xs ys : List Step) (c : Checkpoint) (t : TableauState) (o : RunOutput) → IsCheckpoint n coins ys c → take c.step xs ≡ take c.step ys
     → t ≡ c.tableau → o ≡ front_of c.lengths (outputs n coins xs origin) → IsRunFromStart n coins (take c.step ys) (program_state t o)
 begun-from-start n coins xs ys c t o h same tableau front = record {
@@ -65,7 +65,7 @@ begun-from-start n coins xs ys c t o h same tableau front = record {
     lengths : c.lengths ≡ lengths_of (outputs n coins (take c.step xs) origin)
     lengths = h.lengths ∙ ap (λ zs. lengths_of (outputs n coins zs origin)) (sym same)
 
--- if the next coin has the same number at a copy, or none decides after it, so it is at the point of the copy
+-- if the next coin has the same number at a checkpoint, or none decides after it, so it is at the point of the checkpoint
 pub may-have-coin : (n : ℕ) (coins : ℕ → Bool) (xs : List Step) (c : Checkpoint) (free : List Bool) (coin : ℕ) → IsCheckpoint n coins xs c → free ≡ (outputs n coins xs origin).free
     → (coin ≡ c.lengths.free) ⊎ (ones (drop c.lengths.free free) ≡ 0) → MayHaveCoin n coins (drop c.step xs) (point_after n coins (take c.step xs) origin) coin
 may-have-coin n coins xs c free coin h flags (inl same) =
@@ -77,7 +77,7 @@ may-have-coin n coins xs c free coin h flags (inr none) =
     ∙ (λ i. drop (sym (ap (λ (l : Lengths). l.free) h.lengths) i) (sym flags i)))
     ∙ none)
 
--- a copy of one run that the other meets is at a point of the same future
+-- a checkpoint of one run that the other meets is at a point of the same future
 pub meets-agree : (n window : ℕ) (coins : ℕ → Bool) (xs zs : List Step) (c : Checkpoint) (t : TableauState) (o : RunOutput) (records free : List Bool)
     → IsCheckpoint n coins xs c → records ≡ (outputs n coins xs origin).records → free ≡ (outputs n coins xs origin).free → IsRunFromStart n coins zs (program_state t o)
     → Meets n window t o records free c
@@ -168,11 +168,11 @@ module _ (n : ℕ) (coins : ℕ → Bool) (xs ys : List Step) (i k : ℕ) (same 
         ∙ ap (λ zs. outputs n coins zs (point_after n coins (take i xs) origin)) whole
         ∙ sym (rest-output n coins xs i))
 
-    -- a copy of the one from there on, moved, is a copy of the other
+    -- a checkpoint of the one from there on, moved, is a checkpoint of the other
     pub checkpoint-moved : (s : Meeting) (c : Checkpoint) → s.old_step ≡ i → s.new_step ≡ k → s.old_lengths ≡ lengths_of (outputs n coins (take i xs) origin)
         → s.new_lengths ≡ lengths_of (outputs n coins (take k ys) origin) → i ≤ c.step → k ≤ length ys → length ys < 2 ^ 64
-        → IsCheckpoint n coins xs c → IsCheckpoint n coins ys (moved_copy s c)
-    checkpoint-moved s c old new old_lengths new_lengths behind within few h = record {
+        → IsCheckpoint n coins xs c → IsCheckpoint n coins ys (moved_checkpoint s c)
+    checkpoint-moved s c old new old_lengths new_lengths following within few h = record {
       within = omega (arith, place, inside);
       qubits = h.qubits;
       group =

@@ -1,29 +1,19 @@
 -- Pivots kept: those of the random outcomes of a run, cut and put together as runs are.
-use Rattle.stab_recording.proofs.Names.{◌≡◌, ℕ, zero, suc, ◌+◌, ◌-◌, ◌≤◌, min, refl, sym, ◌∙◌, ap, subst, Bool, true, false, inl, inr, List, [], ◌∷◌, ◌++◌, length, take, drop, All, slice_get, get_or, nat_lt, None, arith, if◌then◌else◌, list_any, or_from, leb_tells, length-append, length-drop, length-take, take-length, take-append-drop, get_or-append-add, All-head, All-tail, All-append, All-drop, All-take, All-nil, All-weaker, Letter, Step, makes, lookbacks, looks_too_far, ones, RunOutput, origin, all_coins_of, point_after, outputs, ProgramState, IsAt, ones-append, flags-are-coins, front-output, rest-output, or-left, or-right, coins-are, most_strings, PivotsState, IsNumbered, AreTrue, KeepsTrue, pivot_at, front_kept, cut_to, LooksWithin, MayHaveCoin, KeepsPivots, IsSpliced, AreFramedOver, true-conjugated, true-append, true-front, true-rest, true-none}
+use Rattle.stab_recording.proofs.Names.{◌≡◌, ℕ, zero, suc, ◌+◌, ◌-◌, ◌≤◌, min, refl, sym, ◌∙◌, ap, subst, Bool, true, false, inl, inr, List, [], ◌∷◌, ◌++◌, length, take, drop, All, get_or, nat_lt, arith, if◌then◌else◌, list_any, or_from, leb_tells, length-append, length-drop, length-take, take-length, take-append-drop, get_or-append-add, All-head, All-tail, All-append, All-drop, All-take, All-nil, Letter, Step, makes, lookbacks, looks_too_far, ones, RunOutput, origin, all_coins_of, point_after, outputs, ProgramState, IsAt, ones-append, flags-are-coins, front-output, rest-output, coins-are, most_strings, PivotsState, IsNumbered, AreTrue, KeepsTrue, pivot_at, front_kept, cut_to, LooksWithin, MayHaveCoin, KeepsPivots, IsSpliced, ArePropagatedOver, true-conjugated, true-append, true-front, true-rest, true-none}
 use Rattle.std.proofs.Common.{nat_le}
 use Rattle.std.specs.Prelude.{max}
 use Rattle.stab_recording.proofs.CutLemmas.{ones-take}
 use Rattle.stab_recording.proofs.PivotLemmas.{IsNoneOr, true-changed, pivot-front, pivot-left, pivot-beyond, true-left}
+use Rattle.stab_items.proofs.LookLemmas.{near-more, within-more}
+use Rattle.stab_frames.proofs.FreeLemmas.{pivot-none}
 
 -- how far back steps look
-
-below-more : (m r k : ℕ) → m ≤ r → nat_lt m k ≡ false → nat_lt r k ≡ false
-below-more m r k le e = grind arith
-
-any-more : (m r : ℕ) (ks : List ℕ) → m ≤ r → list_any (nat_lt m) ks ≡ false → list_any (nat_lt r) ks ≡ false
-any-more m r [] le e = refl
-any-more m r (k ∷ ks) le e =
-    or_from (nat_lt r k) (list_any (nat_lt r) ks) (below-more m r k le (or-left (nat_lt m k) (list_any (nat_lt m) ks) e))
-    (any-more m r ks le (or-right (nat_lt m k) (list_any (nat_lt m) ks) e))
-
-pub within-more : (m r : ℕ) (xs : List Step) → m ≤ r → All (LooksWithin m) xs → All (LooksWithin r) xs
-within-more m r xs le all = All-weaker (LooksWithin m) (LooksWithin r) (λ x near. any-more m r (lookbacks x) le near) xs all
 
 pub near-enough : (m r : ℕ) (xs : List Step) → m ≤ r → All (LooksWithin m) xs → looks_too_far r xs ≡ false
 near-enough m r [] le all = refl
 near-enough m r (x ∷ xs) le all =
     or_from (list_any (nat_lt r) (lookbacks x)) (looks_too_far (r + makes x) xs)
-    (any-more m r (lookbacks x) le (All-head (LooksWithin m) x xs all))
+    (near-more m r le (lookbacks x) (All-head (LooksWithin m) x xs all))
     (near-enough m (r + makes x) xs (omega arith) (All-tail (LooksWithin m) x xs all))
 
 -- where others are put after them
@@ -124,9 +114,6 @@ none-one (true ∷ bits) t none = absurd (omega (arith, none))
 none-one (false ∷ bits) zero none = refl
 none-one (false ∷ bits) (suc t) none = none-one bits t none
 
-pub without_pivots : (strings : List (List Letter)) (free : List Bool) (t : ℕ) → get_or free t false ≡ false → pivot_at strings free t ≡ None
-without_pivots strings free t off = ap (λ b. if b then slice_get strings (ones (take t free)) else None) off
-
 -- a run that goes on by steps which no coin decides records no more pivots
 pub has_pivots-fixed : (n : ℕ) (coins : ℕ → Bool) (xs zs : List Step) (s : PivotsState) (flags more : List Bool) (window : ℕ) → KeepsPivots n coins xs s flags window
     → flags ≡ (outputs n coins xs origin).free → ones more ≡ 0 → All (LooksWithin window) zs → KeepsPivots n coins (xs ++ zs) s (flags ++ more) window
@@ -141,7 +128,7 @@ has_pivots-fixed n coins xs zs s flags more window has_pivots is none near = rec
 -- decides after
 pub has_pivots-spliced : (n : ℕ) (coins : ℕ → Bool) (xs ys : List Step) (i k : ℕ) → drop i xs ≡ drop k ys
     → MayHaveCoin n coins (drop i xs) (point_after n coins (take i xs) origin) (point_after n coins (take k ys) origin).coin
-    → AreFramedOver n coins (drop i xs) (point_after n coins (take i xs) origin) (point_after n coins (take k ys) origin)
+    → ArePropagatedOver n coins (drop i xs) (point_after n coins (take i xs) origin) (point_after n coins (take k ys) origin)
     → (s t u : PivotsState) (free flags all : List Bool) (c old_window window : ℕ)
     → KeepsPivots n coins xs s free old_window → free ≡ (outputs n coins xs origin).free
     → KeepsPivots n coins (take k ys) t flags window → flags ≡ (outputs n coins (take k ys) origin).free → old_window ≤ window
@@ -158,7 +145,7 @@ has_pivots-spliced n coins xs ys i k same coin conjugated s t u free flags all c
       (λ m le lt. subst (λ x. x) (λ j. IsNoneOr (pivot_at (sym spliced.strings j) (sym is j) m) (pivot_at t.strings flags m))
       (pivot-left t flags has_pivots.numbered (drop (ones (take c free)) s.strings) (drop c free) m (omega (arith, lt, coins-are n coins (take k ys) origin, count))))
       has_pivots.are_true)
-      (subst (λ zs. AreTrue n coins (pivot_at u.strings all) zs (point_after n coins (take k ys) origin)) same (true_behind coin)));
+      (subst (λ zs. AreTrue n coins (pivot_at u.strings all) zs (point_after n coins (take k ys) origin)) same (true_after coin)));
   near =
       subst (All (LooksWithin window)) (take-append-drop k ys)
       (All-append (LooksWithin window) (take k ys) (drop k ys) has_pivots.near
@@ -173,19 +160,19 @@ has_pivots-spliced n coins xs ys i k same coin conjugated s t u free flags all c
         (λ j. drop ((at ∙ sym (flags-are-coins n coins (take i xs))) j) (old_flags j))
         ∙ ap (λ (o : RunOutput). o.free) (rest-output n coins xs i)
 
-    true_behind : MayHaveCoin n coins (drop i xs) (point_after n coins (take i xs) origin) (point_after n coins (take k ys) origin).coin
+    true_after : MayHaveCoin n coins (drop i xs) (point_after n coins (take i xs) origin) (point_after n coins (take k ys) origin).coin
         → AreTrue n coins (pivot_at u.strings all) (drop i xs) (point_after n coins (take k ys) origin)
-    true_behind (inr none) =
+    true_after (inr none) =
         true-none n coins (pivot_at u.strings all) (drop i xs) (point_after n coins (take k ys) origin)
         (λ m le. ap (λ bits. pivot_at u.strings bits m) is
-        ∙ without_pivots u.strings (flags ++ drop c free) m (off m (omega (arith, le, count))))
+        ∙ pivot-none u.strings (flags ++ drop c free) m (off m (omega (arith, le, count))))
       where
         off : (m : ℕ) → length flags ≤ m → get_or (flags ++ drop c free) m false ≡ false
         off m le =
             ap (λ k. get_or (flags ++ drop c free) k false) {x = m} {y = length flags + (m - length flags)} (omega (arith, le))
             ∙ get_or-append-add flags (drop c free) (m - length flags) false
             ∙ none-one (drop c free) (m - length flags) (ap ones rest ∙ none)
-    true_behind (inl same_coin) =
+    true_after (inl same_coin) =
         true-changed n coins (pivot_at s.strings free) (pivot_at u.strings all) (drop i xs) (point_after n coins (take k ys) origin)
         (λ m le lt. subst (λ x. x) (λ j. IsNoneOr (pivot_at (sym spliced.strings j) (sym is j) m) (pivot_at s.strings free m))
         (pivot-right t flags has_pivots.numbered s.strings free c (count ∙ sym same_coin ∙ sym at) m (omega (arith, le, same_coin, at))))

@@ -1,5 +1,5 @@
--- Replays: a run that goes on from a copy of an earlier one, what it asks of coins, and where it meets another copy.
-use Rattle.stab_recording.proofs.Names.{◌≡◌, ◌≢◌, ℕ, zero, suc, ◌+◌, ◌-◌, ◌<◌, ◌≤◌, refl, sym, ◌∙◌, ap, subst, Bool, ◌⊎◌, inl, inr, List, [], ◌∷◌, ◌++◌, All, IsSomeAnd, Option, None, Some, slice_get, length, take, drop, arith, option_map, length-take, take-append-drop, take_at, take-take, drop-drop, map-append, All-push, cases_lt, IfSome_then, take-add, TableauState, Step, Lengths, Checkpoint, Replay, Plan, Between, RunOutput, origin, all_coins_of, point_after, outputs, AgreeAt, ProgramState, IsAt, IsRun, program_state, output_of, Near, last_of, lengths_of, IsRunFromStart, IsCheckpoint, checkpoint_steps, KeepsTrue, LooksWithin, KeepsPivots, IsAtStep, Ascending, MeetsAt, IsPlacedAt, Misses, EndsSoon, step_among_new, spacing_of, copy_of, IsAtStop, IsOnWay, StopsAt, IsArrival, Meets, flags-are-coins, records-are-records, coins-append}
+-- Replays: a run that goes on from a checkpoint of an earlier one, what it asks of coins, and where it meets another checkpoint.
+use Rattle.stab_recording.proofs.Names.{◌≡◌, ◌≢◌, ℕ, zero, suc, ◌+◌, ◌-◌, ◌<◌, ◌≤◌, refl, sym, ◌∙◌, ap, subst, Bool, ◌⊎◌, inl, inr, List, [], ◌∷◌, ◌++◌, All, IsSomeAnd, Option, None, Some, slice_get, length, take, drop, arith, option_map, length-take, take-append-drop, take_at, take-take, drop-drop, map-append, All-push, cases_lt, IfSome_then, take-add, TableauState, Step, Lengths, Checkpoint, Replay, Plan, Between, RunOutput, origin, all_coins_of, point_after, outputs, AgreeAt, ProgramState, IsAt, IsRun, program_state, output_of, Near, last_of, lengths_of, IsRunFromStart, IsCheckpoint, checkpoint_steps, KeepsTrue, LooksWithin, KeepsPivots, IsAtStep, Ascending, MeetsAt, IsPlacedAt, Misses, EndsSoon, step_among_new, spacing_of, checkpoint_of, IsAtStop, IsOnWay, StopsAt, IsArrival, Meets, flags-are-coins, records-are-records, coins-append}
 use Rattle.std.proofs.Common.{IfSome}
 use Rattle.stab_recording.proofs.RecordedReplayLemmas.{has_pivots-on}
 use Rattle.stab_recording.proofs.PointLemmas.{resumed, shows-from-start}
@@ -8,12 +8,12 @@ use Rattle.stab_recording.proofs.PointLemmas.{resumed, shows-from-start}
 pub coins-cut : (i j : ℕ) (ys xs : List Step) → i ≤ j → xs ≡ drop i ys
     → all_coins_of (take (j - i) xs) + all_coins_of (drop j ys) ≡ all_coins_of (drop i ys)
 coins-cut i j ys xs le left =
-    (λ k. all_coins_of (take (j - i) (left k)) + all_coins_of (behind k))
+    (λ k. all_coins_of (take (j - i) (left k)) + all_coins_of (following k))
     ∙ sym (coins-append (take (j - i) (drop i ys)) (drop (j - i) (drop i ys)))
     ∙ ap all_coins_of (take-append-drop (j - i) (drop i ys))
   where
-    behind : drop j ys ≡ drop (j - i) (drop i ys)
-    behind = ap (λ k. drop k ys) (omega arith) ∙ sym (drop-drop (j - i) i ys)
+    following : drop j ys ≡ drop (j - i) (drop i ys)
+    following = ap (λ k. drop k ys) (omega arith) ∙ sym (drop-drop (j - i) i ys)
 
 -- a run on from a step
 
@@ -65,10 +65,10 @@ run-on n coins ys old new h order within qubits string all left run scratch size
     further : old.step + (new.step - old.step) ≡ new.step
     further = omega arith
 
--- copies laid on the way
+-- checkpoints saved on the way
 
-copy-laid : (n : ℕ) (coins : ℕ → Bool) (ys : List Step) (r : Replay) → IsAtStep n coins ys r → IsCheckpoint n coins ys (copy_of r)
-copy-laid n coins ys r h = record {
+checkpoint-saved : (n : ℕ) (coins : ℕ → Bool) (ys : List Step) (r : Replay) → IsAtStep n coins ys r → IsCheckpoint n coins ys (checkpoint_of r)
+checkpoint-saved n coins ys r h = record {
   within = h.within;
   qubits = h.qubits;
   group = h.run.group;
@@ -87,7 +87,7 @@ near-more : (K a e : ℕ) (xs : List ℕ) → Near K (a ∷ xs ++ e ∷ []) → 
 near-more K a e [] h = (h.0, h.1, (omega arith, omega arith, tt))
 near-more K a e (b ∷ xs) h = (h.0, h.1, near-more K b e xs h.2)
 
--- if a run agrees with an old one at a copy, it meets that copy
+-- if a run agrees with an old one at a checkpoint, it meets that checkpoint
 
 agree-meets : (n window : ℕ) (coins : ℕ → Bool) (xs zs : List Step) (c : Checkpoint) (t : TableauState) (o : RunOutput) (records free : List Bool) → IsRunFromStart n coins zs (program_state t o)
     → IsCheckpoint n coins xs c → take c.lengths.records records ≡ (outputs n coins (take c.step xs) origin).records
@@ -110,22 +110,22 @@ agree-meets n window coins xs zs c t o records free run h kept agree = record {
 
 -- a replay on its way
 
--- where the next copy is
+-- where the next checkpoint is
 
 pub ascending-end : (p : Plan) (step : ℕ) (cs : List Checkpoint) → Ascending p step cs → step ≤ p.total
 ascending-end p step [] h = h
 ascending-end p step (c ∷ cs) h = let le = ascending-end p (step_among_new p c) cs h.1 in omega arith
 
--- a replay at a step is not after the place of the next copy
-next-behind : (p : Plan) (step k : ℕ) (cs : List Checkpoint) → Ascending p step (drop k cs) → IfSome (option_map (step_among_new p) (slice_get cs k)) (λ q. step ≤ q)
-next-behind p step zero [] h = tt
-next-behind p step (suc k) [] h = tt
-next-behind p step zero (c ∷ cs) h = h.0
-next-behind p step (suc k) (c ∷ cs) h = next-behind p step k cs h
+-- a replay at a step is not after the place of the next checkpoint
+next-following : (p : Plan) (step k : ℕ) (cs : List Checkpoint) → Ascending p step (drop k cs) → IfSome (option_map (step_among_new p) (slice_get cs k)) (λ q. step ≤ q)
+next-following p step zero [] h = tt
+next-following p step (suc k) [] h = tt
+next-following p step zero (c ∷ cs) h = h.0
+next-following p step (suc k) (c ∷ cs) h = next-following p step k cs h
 
-pub place-behind : (p : Plan) (step k : ℕ) (cs : List Checkpoint) (place : Option ℕ) → place ≡ option_map (step_among_new p) (slice_get cs k) → Ascending p step (drop k cs)
+pub place-following : (p : Plan) (step k : ℕ) (cs : List Checkpoint) (place : Option ℕ) → place ≡ option_map (step_among_new p) (slice_get cs k) → Ascending p step (drop k cs)
     → IfSome place (λ q. step ≤ q)
-place-behind p step k cs place e h = subst (λ o. IfSome o (λ q. step ≤ q)) (sym e) (next-behind p step k cs h)
+place-following p step k cs place e h = subst (λ o. IfSome o (λ q. step ≤ q)) (sym e) (next-following p step k cs h)
 
 -- and may stop there at the latest
 pub ascending-stop : (p : Plan) (step stop k : ℕ) (cs : List Checkpoint) → Ascending p step (drop k cs) → stop ≤ p.total
@@ -150,8 +150,8 @@ all-later p step (suc next) zero cs h le = absurd (omega arith)
 all-later p step (suc next) (suc k) [] h le = tt
 all-later p step (suc next) (suc k) (c ∷ cs) h le = all-later p step next k cs h (omega arith)
 
--- after the place of the next copy the one after it comes next
-later-within : (copies : List Checkpoint) (k : ℕ) (P : Checkpoint → Type 0) → IsSomeAnd (slice_get copies k) P → k < length copies
+-- after the place of the next checkpoint the one after it comes next
+later-within : (checkpoints : List Checkpoint) (k : ℕ) (P : Checkpoint → Type 0) → IsSomeAnd (slice_get checkpoints k) P → k < length checkpoints
 later-within [] k P h = absurd h
 later-within (c ∷ cs) zero P h = omega arith
 later-within (c ∷ cs) (suc k) P h = let le = later-within cs k P h in omega arith
@@ -168,29 +168,29 @@ if-some : {X : Type 0} (o : Option X) (P : X → Type 0) → IsSomeAnd o P → I
 if-some None P h = tt
 if-some (Some x) P h = h
 
-module _ (n : ℕ) (coins : ℕ → Bool) (begin : ℕ) (p : Plan) (ys : List Step) (copies : List Checkpoint) (old : List Bool) where
+module _ (n : ℕ) (coins : ℕ → Bool) (begin : ℕ) (p : Plan) (ys : List Step) (checkpoints : List Checkpoint) (old : List Bool) where
   -- at the next stop
-  pub on-stop : (others : ℕ → Bool) (next stop : ℕ) (place : Option ℕ) (r s : Replay) → IsOnWay n coins begin p ys copies old next r → others ≡ coins
-      → IsAtStep r.tableau.qubits others r.cursor.all s → s.laid.items ≡ r.laid.items
-      → r.outputs.records.items ≡ take (length r.outputs.records.items) s.outputs.records.items → (s.applied + s.framed) + r.step ≡ (r.applied + r.framed) + stop → s.step ≡ stop
-      → r.step ≤ stop → stop ≤ p.total → stop ≤ r.step + p.stride → place ≡ option_map (step_among_new p) (slice_get copies next) → IfSome place (λ q. stop ≤ q)
-      → IsAtStop n coins begin p ys copies old next s
-  on-stop others next stop place r s h same_coins at laid records counted step order within near place_is before = record {
+  pub on-stop : (others : ℕ → Bool) (next stop : ℕ) (place : Option ℕ) (r s : Replay) → IsOnWay n coins begin p ys checkpoints old next r → others ≡ coins
+      → IsAtStep r.tableau.qubits others r.cursor.all s → s.saved.items ≡ r.saved.items
+      → r.outputs.records.items ≡ take (length r.outputs.records.items) s.outputs.records.items → (s.applied + s.by_frame) + r.step ≡ (r.applied + r.by_frame) + stop → s.step ≡ stop
+      → r.step ≤ stop → stop ≤ p.total → stop ≤ r.step + p.stride → place ≡ option_map (step_among_new p) (slice_get checkpoints next) → IfSome place (λ q. stop ≤ q)
+      → IsAtStop n coins begin p ys checkpoints old next s
+  on-stop others next stop place r s h same_coins at saved records counted step order within near place_is before = record {
     replay = record {
       at_step =
           subst (λ m. IsAtStep m coins ys s) was.qubits
           (subst (λ xs. IsAtStep r.tableau.qubits coins xs s) was.all (subst (λ c. IsAtStep r.tableau.qubits c r.cursor.all s) same_coins at));
-      checkpoints = subst (All (IsCheckpoint n coins ys)) (sym laid) h.stop.replay.checkpoints;
+      checkpoints = subst (All (IsCheckpoint n coins ys)) (sym saved) h.stop.replay.checkpoints;
       near =
-          subst (λ cs. Near p.stride (begin ∷ checkpoint_steps cs ++ s.step ∷ [])) (sym laid)
-          (near-end p.stride begin s.step r.step (checkpoint_steps r.laid.items) h.stop.replay.near (let e = h.last in omega arith) (let e = h.last in omega arith));
+          subst (λ cs. Near p.stride (begin ∷ checkpoint_steps cs ++ s.step ∷ [])) (sym saved)
+          (near-end p.stride begin s.step r.step (checkpoint_steps r.saved.items) h.stop.replay.near (let e = h.last in omega arith) (let e = h.last in omega arith));
     };
     counted = let e = h.stop.counted in omega arith;
     order = h.stop.order;
     within = h.stop.within;
     ascending =
-        subst (λ k. Ascending p k (drop next copies)) (sym step)
-        (ascending-stop p r.step stop next copies h.stop.ascending within (subst (λ o. IfSome o (λ q. stop ≤ q)) place_is before));
+        subst (λ k. Ascending p k (drop next checkpoints)) (sym step)
+        (ascending-stop p r.step stop next checkpoints h.stop.ascending within (subst (λ o. IfSome o (λ q. stop ≤ q)) place_is before));
     base = let e = h.stop.base in omega (arith, ap length records, length-take (length r.outputs.records.items) s.outputs.records.items);
     same =
         sym (take-take p.base (length r.outputs.records.items) s.outputs.records.items h.stop.base)
@@ -202,55 +202,55 @@ module _ (n : ℕ) (coins : ℕ → Bool) (begin : ℕ) (p : Plan) (ys : List St
       was : IsAtStep n coins ys r
       was = h.stop.replay.at_step
 
-  -- if it does not meet a copy at its place, the runs do not agree there
+  -- if it does not meet a checkpoint at its place, the runs do not agree there
   misses : (r : Replay) (free : List Bool) (c : Checkpoint) → IsAtStep n coins ys r → step_among_new p c ≡ r.step → (MeetsAt n p r old free c → ⊥) → Misses n coins p ys old c
-  misses r free c h place apart xs is_copy kept agree =
-      apart (
+  misses r free c h place distinct xs is_checkpoint kept agree =
+      distinct (
         place,
-        agree-meets n p.window coins xs (take r.step ys) c r.tableau (output_of r.outputs) old free h.run is_copy kept
+        agree-meets n p.window coins xs (take r.step ys) c r.tableau (output_of r.outputs) old free h.run is_checkpoint kept
             (subst (λ k. AgreeAt n (point_after n coins (take c.step xs) origin) (point_after n coins (take k ys) origin)) place agree),
       )
 
   missed : (r : Replay) (free : List Bool) (o : Option Checkpoint) → IsAtStep n coins ys r → IfSome o (λ c. step_among_new p c ≡ r.step)
       → IfSome o (λ c. MeetsAt n p r old free c → ⊥) → IfSome o (Misses n coins p ys old)
-  missed r free None h place apart = tt
-  missed r free (Some c) h place apart = misses r free c h place apart
+  missed r free None h place distinct = tt
+  missed r free (Some c) h place distinct = misses r free c h place distinct
 
   -- so that one was missed as those before it were
-  all-missed : (next : ℕ) (r : Replay) → IsAtStop n coins begin p ys copies old next r → IfSome (slice_get copies next) (Misses n coins p ys old)
-      → (number : ℕ) → p.next ≤ number → number < next + 1 → IfSome (slice_get copies number) (Misses n coins p ys old)
-  all-missed next r h apart number from before =
+  all-missed : (next : ℕ) (r : Replay) → IsAtStop n coins begin p ys checkpoints old next r → IfSome (slice_get checkpoints next) (Misses n coins p ys old)
+      → (number : ℕ) → p.next ≤ number → number < next + 1 → IfSome (slice_get checkpoints number) (Misses n coins p ys old)
+  all-missed next r h distinct number from before =
       elim (cases_lt number next) [
         | inl lt ↦ h.missed number from lt
-        | inr le ↦ subst (λ k. IfSome (slice_get copies k) (Misses n coins p ys old)) (omega (arith, le, before)) apart
+        | inr le ↦ subst (λ k. IfSome (slice_get checkpoints k) (Misses n coins p ys old)) (omega (arith, le, before)) distinct
       ]
 
-  -- and wherever it ends, it missed each copy that is before its step
-  pub ends-soon : (next : ℕ) (r : Replay) → IsAtStop n coins begin p ys copies old next r → EndsSoon n coins p ys copies old r.step
+  -- and wherever it ends, it missed each checkpoint that is before its step
+  pub ends-soon : (next : ℕ) (r : Replay) → IsAtStop n coins begin p ys checkpoints old next r → EndsSoon n coins p ys checkpoints old r.step
   ends-soon next r h number from =
       elim (cases_lt number next) [
-        | inl lt ↦ IfSome_then (slice_get copies number) (h.missed number from lt) (λ c missed before. missed)
-        | inr le ↦ IfSome_then (slice_get copies number) (all-later p r.step next number copies h.ascending le) (λ c later before. absurd (omega (arith, later, before)))
+        | inl lt ↦ IfSome_then (slice_get checkpoints number) (h.missed number from lt) (λ c missed before. missed)
+        | inr le ↦ IfSome_then (slice_get checkpoints number) (all-later p r.step next number checkpoints h.ascending le) (λ c later before. absurd (omega (arith, later, before)))
       ]
 
-  -- before it the replay goes on, if it passed a copy with the one after it next
-  pub past : (next : ℕ) (r : Replay) → IsAtStop n coins begin p ys copies old next r → IsPlacedAt p copies next r.step
-      → IfSome (slice_get copies next) (Misses n coins p ys old) → IsAtStop n coins begin p ys copies old (next + 1) r
-  past next r h placed apart = record {
+  -- before it the replay goes on, if it passed a checkpoint with the one after it next
+  pub past : (next : ℕ) (r : Replay) → IsAtStop n coins begin p ys checkpoints old next r → IsPlacedAt p checkpoints next r.step
+      → IfSome (slice_get checkpoints next) (Misses n coins p ys old) → IsAtStop n coins begin p ys checkpoints old (next + 1) r
+  past next r h placed distinct = record {
     replay = h.replay;
     counted = h.counted;
     order = let le = h.order in omega arith;
-    within = let le = later-within copies next (λ c. step_among_new p c ≡ r.step) placed in omega arith;
-    ascending = later-ascending p r.step next copies h.ascending placed;
+    within = let le = later-within checkpoints next (λ c. step_among_new p c ≡ r.step) placed in omega arith;
+    ascending = later-ascending p r.step next checkpoints h.ascending placed;
     base = h.base;
     same = h.same;
-    missed = all-missed next r h apart;
+    missed = all-missed next r h distinct;
   }
 
-  -- with a copy laid at its step
-  pub with-laid : (next : ℕ) (r s : Replay) → IsAtStop n coins begin p ys copies old next r → s.laid.items ≡ r.laid.items ++ copy_of r ∷ []
-      → IsOnWay n coins begin p ys copies old next (record r { laid = s.laid })
-  with-laid next r s h laid = record {
+  -- with a checkpoint saved at its step
+  pub with-saved : (next : ℕ) (r s : Replay) → IsAtStop n coins begin p ys checkpoints old next r → s.saved.items ≡ r.saved.items ++ checkpoint_of r ∷ []
+      → IsOnWay n coins begin p ys checkpoints old next (record r { saved = s.saved })
+  with-saved next r s h saved = record {
     stop = record {
       replay = record {
         at_step = record {
@@ -264,11 +264,11 @@ module _ (n : ℕ) (coins : ℕ → Bool) (begin : ℕ) (p : Plan) (ys : List St
           has_pivots = h.replay.at_step.has_pivots;
         };
         checkpoints =
-            subst (All (IsCheckpoint n coins ys)) (sym laid)
-            (All-push (IsCheckpoint n coins ys) r.laid.items (copy_of r) h.replay.checkpoints (copy-laid n coins ys r h.replay.at_step));
+            subst (All (IsCheckpoint n coins ys)) (sym saved)
+            (All-push (IsCheckpoint n coins ys) r.saved.items (checkpoint_of r) h.replay.checkpoints (checkpoint-saved n coins ys r h.replay.at_step));
         near =
             subst (λ ks. Near p.stride (begin ∷ ks ++ r.step ∷ [])) (sym steps)
-            (near-more p.stride begin r.step (checkpoint_steps r.laid.items) h.replay.near);
+            (near-more p.stride begin r.step (checkpoint_steps r.saved.items) h.replay.near);
       };
       counted = h.counted;
       order = h.order;
@@ -278,60 +278,60 @@ module _ (n : ℕ) (coins : ℕ → Bool) (begin : ℕ) (p : Plan) (ys : List St
       same = h.same;
       missed = h.missed;
     };
-    last = ap (last_of begin) steps ∙ last-more begin r.step (checkpoint_steps r.laid.items);
+    last = ap (last_of begin) steps ∙ last-more begin r.step (checkpoint_steps r.saved.items);
   }
     where
-      steps : checkpoint_steps s.laid.items ≡ checkpoint_steps r.laid.items ++ r.step ∷ []
-      steps = ap checkpoint_steps laid ∙ map-append (λ (c : Checkpoint). c.step) r.laid.items (copy_of r ∷ [])
+      steps : checkpoint_steps s.saved.items ≡ checkpoint_steps r.saved.items ++ r.step ∷ []
+      steps = ap checkpoint_steps saved ∙ map-append (λ (c : Checkpoint). c.step) r.saved.items (checkpoint_of r ∷ [])
 
-  pub on-further : (free : List Bool) (next later : ℕ) (r s : Replay) → IsAtStop n coins begin p ys copies old next r → IsArrival n p r copies old free next (Between later)
-      → s ≡ record r { laid = s.laid } → s.laid.items ≡ r.laid.items ++ copy_of r ∷ [] → IsOnWay n coins begin p ys copies old later s
-  on-further free next later r s h arrival unchanged laid = subst (IsOnWay n coins begin p ys copies old later) (sym unchanged) (with-laid later r s there laid)
+  pub on-further : (free : List Bool) (next later : ℕ) (r s : Replay) → IsAtStop n coins begin p ys checkpoints old next r → IsArrival n p r checkpoints old free next (Between later)
+      → s ≡ record r { saved = s.saved } → s.saved.items ≡ r.saved.items ++ checkpoint_of r ∷ [] → IsOnWay n coins begin p ys checkpoints old later s
+  on-further free next later r s h arrival unchanged saved = subst (IsOnWay n coins begin p ys checkpoints old later) (sym unchanged) (with-saved later r s there saved)
     where
-      there : IsAtStop n coins begin p ys copies old later r
+      there : IsAtStop n coins begin p ys checkpoints old later r
       there =
           elim arrival.2 [
-            | inl same ↦ subst (λ k. IsAtStop n coins begin p ys copies old k r) (sym same.0) h
-            | inr placed ↦ subst (λ k. IsAtStop n coins begin p ys copies old k r) (sym placed.0)
+            | inl same ↦ subst (λ k. IsAtStop n coins begin p ys checkpoints old k r) (sym same.0) h
+            | inr placed ↦ subst (λ k. IsAtStop n coins begin p ys checkpoints old k r) (sym placed.0)
                 (past next r h placed.1
-                (missed r free (slice_get copies next) h.replay.at_step (if-some (slice_get copies next) (λ c. step_among_new p c ≡ r.step) placed.1) arrival.1))
+                (missed r free (slice_get checkpoints next) h.replay.at_step (if-some (slice_get checkpoints next) (λ c. step_among_new p c ≡ r.step) placed.1) arrival.1))
           ]
 
--- if it goes on it went a spacing, or passed the copy
+-- if it goes on it went a spacing, or passed the checkpoint
 
-not-there : (p : Plan) (copies : List Checkpoint) (next step : ℕ) → step ≢ p.total → (IsPlacedAt p copies next step → ⊥) → (step ≡ p.total) ⊎ IsPlacedAt p copies next step → ⊥
-not-there p copies next step further unplaced at =
+not-there : (p : Plan) (checkpoints : List Checkpoint) (next step : ℕ) → step ≢ p.total → (IsPlacedAt p checkpoints next step → ⊥) → (step ≡ p.total) ⊎ IsPlacedAt p checkpoints next step → ⊥
+not-there p checkpoints next step further unplaced at =
     elim at [
       | inl e ↦ further e
       | inr e ↦ unplaced e
     ]
 
-pub went-on : (n : ℕ) (p : Plan) (copies : List Checkpoint) (old free : List Bool) (next later from : ℕ) (r : Replay) → StopsAt p copies next from r.step
-    → IsArrival n p r copies old free next (Between later) → ((later ≡ next) × (from + spacing_of p.stride ≤ r.step)) ⊎ ((later ≡ next + 1) × (next < length copies))
-went-on n p copies old free next later from r stops arrival =
+pub went-on : (n : ℕ) (p : Plan) (checkpoints : List Checkpoint) (old free : List Bool) (next later from : ℕ) (r : Replay) → StopsAt p checkpoints next from r.step
+    → IsArrival n p r checkpoints old free next (Between later) → ((later ≡ next) × (from + spacing_of p.stride ≤ r.step)) ⊎ ((later ≡ next + 1) × (next < length checkpoints))
+went-on n p checkpoints old free next later from r stops arrival =
     elim arrival.2 [
       | inl same ↦
           elim stops [
             | inl far ↦ inl (same.0, far)
-            | inr at ↦ absurd (not-there p copies next r.step arrival.0 same.1 at)
+            | inr at ↦ absurd (not-there p checkpoints next r.step arrival.0 same.1 at)
           ]
-      | inr placed ↦ inr (placed.0, later-within copies next (λ c. step_among_new p c ≡ r.step) placed.1)
+      | inr placed ↦ inr (placed.0, later-within checkpoints next (λ c. step_among_new p c ≡ r.step) placed.1)
     ]
 
--- and fewer steps or fewer copies are left
-pub fewer-left : (n : ℕ) (p : Plan) (copies : List Checkpoint) (old free : List Bool) (first next later from : ℕ) (r : Replay) → 1 ≤ p.stride → from ≤ r.step → r.step ≤ p.total
-    → first ≤ next → next ≤ length copies → StopsAt p copies next from r.step → IsArrival n p r copies old free next (Between later)
-    → (p.total - r.step) + (length copies - later) < (p.total - from) + (length copies - first)
-fewer-left n p copies old free first next later from r stride further within order among stops arrival =
-    elim (went-on n p copies old free next later from r stops arrival) [
+-- and fewer steps or fewer checkpoints are left
+pub fewer-left : (n : ℕ) (p : Plan) (checkpoints : List Checkpoint) (old free : List Bool) (first next later from : ℕ) (r : Replay) → 1 ≤ p.stride → from ≤ r.step → r.step ≤ p.total
+    → first ≤ next → next ≤ length checkpoints → StopsAt p checkpoints next from r.step → IsArrival n p r checkpoints old free next (Between later)
+    → (p.total - r.step) + (length checkpoints - later) < (p.total - from) + (length checkpoints - first)
+fewer-left n p checkpoints old free first next later from r stride further within order among stops arrival =
+    elim (went-on n p checkpoints old free next later from r stops arrival) [
       | inl far ↦ let same = far.0 in let more = far.1 in omega (arith, same, more, stride, within, order, among)
       | inr passed ↦ let one = passed.0 in let lt = passed.1 in omega (arith, one, lt, further, within, order)
     ]
 
 -- however it went on
 
-pub went-so : {n m : ℕ} {coins others : ℕ → Bool} {ys zs : List Step} (begin : ℕ) (p : Plan) (copies : List Checkpoint) (old : List Bool) (next later : ℕ) (r s : Replay) → m ≡ n → others ≡ coins
-    → zs ≡ ys → (IsOnWay m others begin p zs copies old next r → IsAtStop m others begin p zs copies old later s) → IsOnWay n coins begin p ys copies old next r
-    → IsAtStop n coins begin p ys copies old later s
-went-so begin p copies old next later r s qubits coins all =
-    subst (λ t. t) (λ i. IsOnWay (qubits i) (coins i) begin p (all i) copies old next r → IsAtStop (qubits i) (coins i) begin p (all i) copies old later s)
+pub went-so : {n m : ℕ} {coins others : ℕ → Bool} {ys zs : List Step} (begin : ℕ) (p : Plan) (checkpoints : List Checkpoint) (old : List Bool) (next later : ℕ) (r s : Replay) → m ≡ n → others ≡ coins
+    → zs ≡ ys → (IsOnWay m others begin p zs checkpoints old next r → IsAtStop m others begin p zs checkpoints old later s) → IsOnWay n coins begin p ys checkpoints old next r
+    → IsAtStop n coins begin p ys checkpoints old later s
+went-so begin p checkpoints old next later r s qubits coins all =
+    subst (λ t. t) (λ i. IsOnWay (qubits i) (coins i) begin p (all i) checkpoints old next r → IsAtStop (qubits i) (coins i) begin p (all i) checkpoints old later s)

@@ -1,8 +1,8 @@
--- Runs: replays with no older run go on, give rounds again, and forget copies.
-use Rattle.stab_recording.proofs.Names.{◌≡◌, ℕ, zero, suc, ◌+◌, ◌*◌, ◌<◌, ◌≤◌, refl, sym, ◌∙◌, ap, subst, Bool, List, [], ◌∷◌, ◌++◌, All, length, take, get_or, arith, All-take, take_all, Step, origin, outputs, output_of, KeepsPivots, most_steps, Repeat, IsRepeat, AreRepeats, StepFits, Checkpoint, IsCheckpoint, checkpoint_steps, Near, Replay, IsAtStep, copy_of, MayComeAgain, IsOnWay, plan_of_run, IsOwnRun}
-use Rattle.stab_recording.proofs.ReplayLemmas.{with-laid}
+-- Runs: replays with no older run go on, repeat rounds, and forget checkpoints.
+use Rattle.stab_recording.proofs.Names.{◌≡◌, ℕ, zero, suc, ◌+◌, ◌*◌, ◌≤◌, refl, sym, ◌∙◌, ap, subst, Bool, List, [], ◌∷◌, ◌++◌, All, length, take, arith, All-take, take_all, Step, origin, outputs, output_of, KeepsPivots, most_steps, Repeat, IsRepeat, StepFits, Checkpoint, IsCheckpoint, checkpoint_steps, Near, Replay, IsAtStep, checkpoint_of, MayRecur, IsOnWay, plan_of_run, IsOwnRun}
+use Rattle.stab_recording.proofs.ReplayLemmas.{with-saved}
 
--- copies may lie as far apart as there are steps
+-- checkpoints may lie as far from each other as there are steps
 
 near-on : (K a d e : ℕ) (xs : List ℕ) → Near K (a ∷ xs ++ d ∷ []) → d ≤ e → e ≤ K → Near K (a ∷ xs ++ e ∷ [])
 near-on K a d e [] h le most = (let first = h.0 in omega (arith, first, le), omega (arith, most), tt)
@@ -19,15 +19,15 @@ near-front K a e (suc k) (c ∷ cs) h most = (h.0, h.1, near-front K c.step e k 
 
 module _ (n : ℕ) (coins : ℕ → Bool) (ys : List Step) where
   -- some steps further
-  pub own-on : (r s : Replay) → IsOwnRun n coins ys r → IsAtStep n coins ys s → s.laid.items ≡ r.laid.items → (s.applied + s.framed) + r.step ≡ (r.applied + r.framed) + s.step
+  pub own-on : (r s : Replay) → IsOwnRun n coins ys r → IsAtStep n coins ys s → s.saved.items ≡ r.saved.items → (s.applied + s.by_frame) + r.step ≡ (r.applied + r.by_frame) + s.step
       → r.step ≤ s.step → IsOwnRun n coins ys s
-  own-on r s own at laid counted order = record {
+  own-on r s own at saved counted order = record {
     replay = record {
       at_step = at;
-      checkpoints = subst (All (IsCheckpoint n coins ys)) (sym laid) own.replay.checkpoints;
+      checkpoints = subst (All (IsCheckpoint n coins ys)) (sym saved) own.replay.checkpoints;
       near =
-          subst (λ cs. Near (length ys) (0 ∷ checkpoint_steps cs ++ s.step ∷ [])) (sym laid)
-          (near-on (length ys) 0 r.step s.step (checkpoint_steps r.laid.items) own.replay.near order at.within);
+          subst (λ cs. Near (length ys) (0 ∷ checkpoint_steps cs ++ s.step ∷ [])) (sym saved)
+          (near-on (length ys) 0 r.step s.step (checkpoint_steps r.saved.items) own.replay.near order at.within);
     };
     counted = let before = own.counted in omega (arith, before, counted);
     order = omega arith;
@@ -38,9 +38,9 @@ module _ (n : ℕ) (coins : ℕ → Bool) (ys : List Step) where
     missed = own.missed;
   }
 
-  -- with fewer copies
-  pub own-front : (k : ℕ) (r s : Replay) → IsOwnRun n coins ys r → s ≡ record r { laid = s.laid } → s.laid.items ≡ take k r.laid.items → IsOwnRun n coins ys s
-  own-front k r s own same laid =
+  -- with fewer checkpoints
+  pub own-front : (k : ℕ) (r s : Replay) → IsOwnRun n coins ys r → s ≡ record r { saved = s.saved } → s.saved.items ≡ take k r.saved.items → IsOwnRun n coins ys s
+  own-front k r s own same saved =
       subst (IsOwnRun n coins ys) (sym same)
       (record {
         replay = record {
@@ -54,10 +54,10 @@ module _ (n : ℕ) (coins : ℕ → Bool) (ys : List Step) where
             scratch = own.replay.at_step.scratch;
             has_pivots = own.replay.at_step.has_pivots;
           };
-          checkpoints = subst (All (IsCheckpoint n coins ys)) (sym laid) (All-take (IsCheckpoint n coins ys) k r.laid.items own.replay.checkpoints);
+          checkpoints = subst (All (IsCheckpoint n coins ys)) (sym saved) (All-take (IsCheckpoint n coins ys) k r.saved.items own.replay.checkpoints);
           near =
-              subst (λ cs. Near (length ys) (0 ∷ checkpoint_steps cs ++ r.step ∷ [])) (sym laid)
-              (near-front (length ys) 0 r.step k r.laid.items own.replay.near own.replay.at_step.within);
+              subst (λ cs. Near (length ys) (0 ∷ checkpoint_steps cs ++ r.step ∷ [])) (sym saved)
+              (near-front (length ys) 0 r.step k r.saved.items own.replay.near own.replay.at_step.within);
         };
         counted = own.counted;
         order = own.order;
@@ -68,12 +68,12 @@ module _ (n : ℕ) (coins : ℕ → Bool) (ys : List Step) where
         missed = own.missed;
       })
 
-  -- with a copy laid it may go on in a block by what it gave there
-  pub own-may : (block : Repeat) (end : ℕ) (r s : Replay) → IsOwnRun n coins ys r → s ≡ record r { laid = s.laid } → s.laid.items ≡ r.laid.items ++ copy_of r ∷ []
+  -- with a checkpoint saved it may go on in a block by what it gave there
+  pub own-may : (block : Repeat) (end : ℕ) (r s : Replay) → IsOwnRun n coins ys r → s ≡ record r { saved = s.saved } → s.saved.items ≡ r.saved.items ++ checkpoint_of r ∷ []
       → IsRepeat ys block → end ≤ block.first + block.rounds * block.length → length ys ≤ most_steps → All (StepFits n) ys
-      → MayComeAgain n coins 0 (plan_of_run (length ys)) ys [] [] 0 block end s
-  own-may block end r s own same laid is_repeat in_block few fits = record {
-    way = subst (IsOnWay n coins 0 (plan_of_run (length ys)) ys [] [] 0) (sym same) (with-laid n coins 0 (plan_of_run (length ys)) ys [] [] 0 r s own laid);
+      → MayRecur n coins 0 (plan_of_run (length ys)) ys [] [] 0 block end s
+  own-may block end r s own same saved is_repeat in_block few fits = record {
+    way = subst (IsOnWay n coins 0 (plan_of_run (length ys)) ys [] [] 0) (sym same) (with-saved n coins 0 (plan_of_run (length ys)) ys [] [] 0 r s own saved);
     is_repeat = is_repeat;
     is_end = record {
       in_block = in_block;
@@ -99,9 +99,3 @@ own-pivots n coins ys r own end =
 -- by a replay's own names and by others
 pub own-named : {m n : ℕ} {others coins : ℕ → Bool} {zs ys : List Step} (r : Replay) → m ≡ n → others ≡ coins → zs ≡ ys → IsOwnRun m others zs r → IsOwnRun n coins ys r
 own-named r qubits coins all = subst (λ x. x) (λ i. IsOwnRun (qubits i) (coins i) (all i) r)
-
--- each of some repeats
-pub repeat-of : (from : ℕ) (ys : List Step) (rs : List Repeat) (i : ℕ) (d : Repeat) → i < length rs → AreRepeats from ys rs → IsRepeat ys (get_or rs i d)
-repeat-of from ys [] i d lt are = absurd (omega (arith, lt))
-repeat-of from ys (r ∷ rs) zero d lt are = are.1
-repeat-of from ys (r ∷ rs) (suc i) d lt are = repeat-of (r.first + r.rounds * r.length) ys rs i d (omega (arith, lt)) are.2

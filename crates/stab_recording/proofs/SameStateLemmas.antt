@@ -9,13 +9,13 @@ twice false = refl
 -- whether a string is a member, by the sign that was asked for
 
 module _ (v : Signed → Bool) (p s : Signed) (is : p ≡ s) (found : Option Bool)
-    (tells : (b : Bool) → (found ≡ Some b) ↔ (v (with_sign b p) ≡ true)) where
-  pub some-told : (b : Bool) → found ≡ Some b → not b ≡ v s
-  some-told false e = sym (ap v (sym is) ∙ (tells false).0 e)
-  some-told true e = sym (ap v (sym is) ∙ not-true (v p) (λ m. let f = (tells false).1 m in cc))
+    (determines : (b : Bool) → (found ≡ Some b) ↔ (v (with_sign b p) ≡ true)) where
+  pub some-determined : (b : Bool) → found ≡ Some b → not b ≡ v s
+  some-determined false e = sym (ap v (sym is) ∙ (determines false).0 e)
+  some-determined true e = sym (ap v (sym is) ∙ not-true (v p) (λ m. let f = (determines false).1 m in cc))
 
-  pub none-told : found ≡ None → false ≡ v s
-  none-told e = sym (ap v (sym is) ∙ not-true (v p) (λ m. let f = (tells false).1 m in cc))
+  pub none-determined : found ≡ None → false ≡ v s
+  none-determined e = sym (ap v (sym is) ∙ not-true (v p) (λ m. let f = (determines false).1 m in cc))
 
 -- a string by which two states differ, if one of its signs is a member
 
@@ -67,14 +67,14 @@ not-free v p free q e m = by_signs p.negative q.negative refl refl
         flipped (v (minus p)) (and-right _ _ free) (ap (λ s. v (record { negative = not s; letters = p.letters })) ea ∙ same false eb)
 
 -- if no sign of a string by which two states differ is a member, they are not the same
-apart-free : (t : TableauState) (p : Signed) (u : Signed → Bool) → IsStabiliserGroup t.qubits (stabilises t) → length p.letters ≡ t.qubits
+differing-free : (t : TableauState) (p : Signed) (u : Signed → Bool) → IsStabiliserGroup t.qubits (stabilises t) → length p.letters ≡ t.qubits
     → IsConjugated t.qubits p.letters u (stabilises t) → ((q : Signed) → length q.letters ≡ t.qubits → CommutesWithAll t q → IsGenerated t q)
     → is_free_by (stabilises t) p ≡ true → SameGroup t.qubits (stabilises t) u → ⊥
-apart-free t p u group size conjugated generated free same =
+differing-free t p u group size conjugated generated free same =
     let made = generated p size (commutes-same t.qubits p.letters u (stabilises t) group size conjugated same) in
     not-free (stabilises t) p free (chosen_product t p t.qubits) made.letters made.member
 
--- by the string that a copy gave, and the sign that the state was asked for
+-- by the string that a checkpoint gave, and the sign that the state was asked for
 
 module _ (t c : TableauState) (p : Signed) (group : IsStabiliserGroup t.qubits (stabilises t)) (size : length p.letters ≡ t.qubits)
     (same : c.qubits ≡ t.qubits) (conjugated : IsConjugated c.qubits p.letters (stabilises c) (stabilises t)) where
@@ -84,13 +84,13 @@ module _ (t c : TableauState) (p : Signed) (group : IsStabiliserGroup t.qubits (
   pub signs-same : (b : Bool) → stabilises t (with_sign b p) ≡ true → SameGroup t.qubits (stabilises t) (stabilises c)
   signs-same b m = same-conjugated t.qubits p.letters (stabilises c) (stabilises t) group size here (b ⊕ p.negative) m
 
-  pub signs-apart : ((q : Signed) → length q.letters ≡ t.qubits → CommutesWithAll t q → IsGenerated t q) → is_free_by (stabilises t) p ≡ true
+  pub signs-differ : ((q : Signed) → length q.letters ≡ t.qubits → CommutesWithAll t q → IsGenerated t q) → is_free_by (stabilises t) p ≡ true
       → SameGroup t.qubits (stabilises t) (stabilises c) → ⊥
-  signs-apart generated free = apart-free t p (stabilises c) group size here generated free
+  signs-differ generated free = differing-free t p (stabilises c) group size here generated free
 
 -- what follows from a string of one state alone
-pub apart-told : (n : ℕ) (u v : Signed → Bool) → SameGroup n u v → (p : Signed) × (length p.letters ≡ n) × (u p ≡ true) × (v p ≡ false) → ⊥
-apart-told n u v same told = not_both (v told.0) told.3 (sym (same told.0 told.1) ∙ told.2)
+pub differing-determined : (n : ℕ) (u v : Signed → Bool) → SameGroup n u v → (p : Signed) × (length p.letters ≡ n) × (u p ≡ true) × (v p ≡ false) → ⊥
+differing-determined n u v same determined = not_both (v determined.0) determined.3 (sym (same determined.0 determined.1) ∙ determined.2)
 
 -- a group that has the stabilisers of a state is the group of all that stabilises it
 
@@ -141,13 +141,13 @@ module _ (t u v w : TableauState) (same : u.qubits ≡ t.qubits) (still : v ≡ 
       → ((k : ℕ) → k < end → start ≤ k → (length (stabiliser_of t k).letters ≡ t.qubits) × (stabilises u (stabiliser_of t k) ≡ true))
       → ((k : ℕ) → k < start → 0 ≤ k → (length (stabiliser_of v k).letters ≡ v.qubits) × (stabilises w (stabiliser_of v k) ≡ true))
       → SameGroup t.qubits (stabilises t) (stabilises u)
-  shared-yes own group generated start end whole behind before =
+  shared-yes own group generated start end whole following before =
       same-shared t (stabilises u) own (subst (λ n. IsStabiliserGroup n (stabilises u)) same group) generated has
     where
       has : (k : ℕ) → k < t.qubits → (length (stabiliser_of t k).letters ≡ t.qubits) × (stabilises u (stabiliser_of t k) ≡ true)
       has k lt =
           elim (leb_tells start k) [
-            | inl le ↦ behind k (omega arith) le.1
+            | inl le ↦ following k (omega arith) le.1
             | inr more ↦ (
               subst (λ (t : TableauState). length (stabiliser_of t k).letters ≡ t.qubits) still (before k more.1 (omega arith)).0,
               sym (λ i. stabilises (other_still i) (stabiliser_of (still i) k)) ∙ (before k more.1 (omega arith)).1,
@@ -157,9 +157,9 @@ module _ (t u v w : TableauState) (same : u.qubits ≡ t.qubits) (still : v ≡ 
   pub shared-no : (b : Bool)
       → (b ≡ false → (p : Signed) × (length p.letters ≡ v.qubits) × (stabilises v p ≡ true) × (stabilises w p ≡ false))
       → SameGroup t.qubits (stabilises t) (stabilises u) → b ≡ true
-  shared-no true told group = refl
-  shared-no false told group =
-      absurd (apart-told v.qubits (stabilises v) (stabilises w) here (told refl))
+  shared-no true determined group = refl
+  shared-no false determined group =
+      absurd (differing-determined v.qubits (stabilises v) (stabilises w) here (determined refl))
     where
       here : SameGroup v.qubits (stabilises v) (stabilises w)
       here =

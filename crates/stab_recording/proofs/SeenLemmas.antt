@@ -1,72 +1,26 @@
 -- Seen frames: frames from points of an old run with other numbers of its records and coins.
-use Rattle.stab_recording.proofs.Names.{◌≡◌, ℕ, ◌+◌, ◌<◌, ◌≤◌, refl, sym, ◌∙◌, ap, Bool, true, false, ◌&&◌, inl, inr, List, [], ◌∷◌, ◌++◌, Option, None, arith, Letter, single, member, Step, one, two, controlled, collapse, product, detector, observable, records_of, looks_too_far, looked_up, ones, when, string_of, flip_of, Point, nothing, joined, given, coins_of, all_coins_of, next_point, point_after, outputs, AgreeBack, with_coin, same-future-back, fixed-future, ones-append, Frame, times_where, same_coins, flipped_by, letters_by, letters_after, flips_given, frame_after, frame_over, flips_over, IsEnoughAt, AreEnough, MayHaveCoin}
-
--- what steps make of a frame, with pivots that are the same at their coins
-
-module _ (n : ℕ) (strings others : ℕ → Option (List Letter)) (c d : ℕ) (f : Frame) where
-  letters-same : (x : Step) → (coins_of x ≡ 1 → strings c ≡ others d) → letters_after n (same_coins strings) x c f ≡ letters_after n (same_coins others) x d f
-  letters-same (one g q) e = refl
-  letters-same (two g q r) e = refl
-  letters-same (controlled l k q) e = refl
-  letters-same (collapse l q recorded inverted resets) e = λ i.
-      times_where (resets && flipped_by (e refl i) false (single n q l) f.letters) (single n q (flip_of l)).letters (letters_by (e refl i) false (single n q l) f.letters)
-  letters-same (product factors inverted) e = λ i. letters_by (e refl i) false (string_of n factors) f.letters
-  letters-same (detector ks) e = refl
-  letters-same (observable j ks) e = refl
-
-  given-same : (x : Step) → (coins_of x ≡ 1 → strings c ≡ others d) → flips_given n (same_coins strings) x c f ≡ flips_given n (same_coins others) x d f
-  given-same (one g q) e = refl
-  given-same (two g q r) e = refl
-  given-same (controlled l k q) e = refl
-  given-same (collapse l q recorded inverted resets) e = λ i. record nothing {
-    records = when recorded (flipped_by (e refl i) false (single n q l) f.letters);
-    free = false ∷ [];
-    outcomes = flipped_by (e refl i) false (single n q l) f.letters ∷ [];
-  }
-  given-same (product factors inverted) e = λ i. record nothing {
-    records = flipped_by (e refl i) false (string_of n factors) f.letters ∷ [];
-    free = false ∷ [];
-    outcomes = flipped_by (e refl i) false (string_of n factors) f.letters ∷ [];
-  }
-  given-same (detector ks) e = refl
-  given-same (observable j ks) e = refl
-
-  after-same : (x : Step) → (coins_of x ≡ 1 → strings c ≡ others d) → frame_after n (same_coins strings) x c f ≡ frame_after n (same_coins others) x d f
-  after-same x e = λ i. record { letters = letters-same x e i; flips = f.flips ++ (given-same x e i).records }
+use Rattle.stab_recording.proofs.Names.{◌≡◌, ℕ, ◌+◌, ◌<◌, ◌≤◌, refl, sym, ◌∙◌, ap, Bool, true, false, inl, inr, List, [], ◌∷◌, Option, None, arith, Letter, member, Step, one, two, controlled, collapse, product, detector, observable, records_of, looks_too_far, looked_up, ones, Point, given, all_coins_of, next_point, point_after, outputs, AgreeBack, with_coin, same-future-back, fixed-future, ones-append, Frame, same_coins, frame_after, frame_over, flips_over, IsEnoughAt, AreEnough, MayHaveCoin}
+use Rattle.stab_frames.proofs.TreatedLemmas.{IsTreatedAlike, over-treated, flips-treated}
+use Rattle.stab_frames.specs.FrameSteps.{flip_by, letters_for}
 
 -- pivots are the same for this many coins, from one of the one on, and from one of the other
 abbrev pub AreSameFor : (strings others : ℕ → Option (List Letter)) → (c d count : ℕ) → Type 0
 AreSameFor strings others c d count = (t : ℕ) → t < count → strings (c + t) ≡ others (d + t)
 
-same-first : (strings others : ℕ → Option (List Letter)) (c d count : ℕ) → 1 ≤ count → AreSameFor strings others c d count → strings c ≡ others d
-same-first strings others c d count some same =
-    ap strings {x = c} {y = c + 0} (omega arith) ∙ same 0 (omega (arith, some)) ∙ ap others {x = d + 0} {y = d} (omega arith)
-
-same-later : (strings others : ℕ → Option (List Letter)) (c d k count : ℕ) → AreSameFor strings others c d (k + count) → AreSameFor strings others (c + k) (d + k) count
-same-later strings others c d k count same t lt =
-    ap strings {x = (c + k) + t} {y = c + (k + t)} (omega arith) ∙ same (k + t) (omega (arith, lt)) ∙ ap others {x = d + (k + t)} {y = (d + k) + t} (omega arith)
-
 -- and for fewer
 pub same-fewer : (strings others : ℕ → Option (List Letter)) (c d count few : ℕ) → few ≤ count → AreSameFor strings others c d count → AreSameFor strings others c d few
 same-fewer strings others c d count few le same t lt = same t (omega (arith, lt, le))
 
+treated : (strings others : ℕ → Option (List Letter)) (c d : ℕ) → strings c ≡ others d → IsTreatedAlike (same_coins strings) (same_coins others) c d
+treated strings others c d e anticommuting = (ap (λ o. flip_by o false anticommuting) e, λ f. ap (λ o. letters_for o false anticommuting f) e)
+
 pub over-same : (n : ℕ) (strings others : ℕ → Option (List Letter)) (xs : List Step) (c d : ℕ) (f : Frame) → AreSameFor strings others c d (all_coins_of xs)
     → frame_over n (same_coins strings) xs c f ≡ frame_over n (same_coins others) xs d f
-over-same n strings others [] c d f same = refl
-over-same n strings others (x ∷ xs) c d f same =
-    over-same n strings others xs (c + coins_of x) (d + coins_of x) (frame_after n (same_coins strings) x c f) (same-later strings others c d (coins_of x) (all_coins_of xs) same)
-    ∙ ap (frame_over n (same_coins others) xs (d + coins_of x))
-    (after-same n strings others c d f x (λ e. same-first strings others c d (coins_of x + all_coins_of xs) (omega (arith, e)) same))
+over-same n strings others xs c d f same = over-treated n (same_coins strings) (same_coins others) xs c d f (λ t lt. treated strings others (c + t) (d + t) (same t lt))
 
 pub flips-same : (n : ℕ) (strings others : ℕ → Option (List Letter)) (xs : List Step) (c d : ℕ) (f : Frame) → AreSameFor strings others c d (all_coins_of xs)
     → flips_over n (same_coins strings) xs c f ≡ flips_over n (same_coins others) xs d f
-flips-same n strings others [] c d f same = refl
-flips-same n strings others (x ∷ xs) c d f same =
-    let here : coins_of x ≡ 1 → strings c ≡ others d = λ e. same-first strings others c d (coins_of x + all_coins_of xs) (omega (arith, e)) same in
-    (λ i. joined (given-same n strings others c d f x here i)
-    (flips-same n strings others xs (c + coins_of x) (d + coins_of x) (frame_after n (same_coins strings) x c f) (same-later strings others c d (coins_of x) (all_coins_of xs) same) i))
-    ∙ ap (λ g. joined (flips_given n (same_coins others) x d f) (flips_over n (same_coins others) xs (d + coins_of x) g))
-    (after-same n strings others c d f x here)
+flips-same n strings others xs c d f same = flips-treated n (same_coins strings) (same_coins others) xs c d f (λ t lt. treated strings others (c + t) (d + t) (same t lt))
 
 -- no pivot is needed if no coin decides
 
@@ -92,7 +46,7 @@ enough-fixed n coins (x ∷ xs) f a none =
       enough-fixed n coins xs (frame_after n (same_coins (λ t. None)) x a.coin f) (next_point n coins x a) (omega (arith, none, sum)),
     )
 
--- where the first of some steps lead from a point that was seen so
+-- where the first of some steps end from a point that was seen so
 
 pub seen-later : (n window : ℕ) (coins : ℕ → Bool) (xs : List Step) (a seen : Point) → looks_too_far window xs ≡ false → MayHaveCoin n coins xs a seen.coin
     → AgreeBack n window (with_coin seen.coin a) seen

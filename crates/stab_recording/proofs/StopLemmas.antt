@@ -6,7 +6,7 @@ use Rattle.stab_recording.specs.declared.propagate.Stop.TheVariants as stop
 pub propagation-whole : (n m steps most coin : ℕ) (strings : List (List Letter)) (free : List Bool) (xs : List Step) (new : PropagationState) (end : Stop)
     → IsStop n m steps (length (take most xs)) new end → (end ≡ Gone → false ≡ true) → (end ≡ NoString → IsMissing strings free coin)
     → ones (take coin free) ≤ length strings → take steps xs ≡ take most xs
-propagation-whole n m steps most coin strings free xs new stop.Behind is gone missing kept =
+propagation-whole n m steps most coin strings free xs new stop.After is gone missing kept =
     ap (λ k. take k xs) is ∙ ap (take (length (take most xs))) (sym (take-append-drop most xs)) ∙ take-append_seam (take most xs) (drop most xs)
 propagation-whole n m steps most coin strings free xs new Gone is gone missing kept = absurd (false-true (gone refl))
   where
@@ -18,7 +18,7 @@ propagation-whole n m steps most coin strings free xs new NoString is gone missi
 pub whole-left : (n m steps most coin : ℕ) (strings : List (List Letter)) (free : List Bool) (xs left : List Step) (new : PropagationState) (end : Stop)
     → IsStop n m steps (length (take most xs)) new end → (end ≡ Gone → false ≡ true) → (end ≡ NoString → IsMissing strings free coin)
     → ones (take coin free) ≤ length strings → (end ≢ NoString → left ≡ drop steps xs) → left ≡ drop most xs
-whole-left n m steps most coin strings free xs left new stop.Behind is gone missing kept rest =
+whole-left n m steps most coin strings free xs left new stop.After is gone missing kept rest =
     rest (λ e. cc)
     ∙ ap (λ k. drop k xs) is
     ∙ ap (drop (length (take most xs))) (sym (take-append-drop most xs))

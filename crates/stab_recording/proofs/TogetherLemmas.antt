@@ -16,13 +16,13 @@ module _ (steps : List Step) (r : Repeat) (is : IsRepeat steps r) where
   abbrev round : List Step
   round = round_of r steps
 
-  abbrev behind : List Step
-  behind = drop r.first steps
+  abbrev following : List Step
+  following = drop r.first steps
 
   -- the first rounds
-  front : (m : ℕ) → m ≤ r.rounds → take (m * r.length) behind ≡ rounds m round
+  front : (m : ℕ) → m ≤ r.rounds → take (m * r.length) following ≡ rounds m round
   front m le =
-      sym (take-take (m * r.length) (r.rounds * r.length) behind (mul-le-mul_right r.length le))
+      sym (take-take (m * r.length) (r.rounds * r.length) following (mul-le-mul_right r.length le))
       ∙ ap (take (m * r.length)) (is.again ∙ ap (λ n. rounds n round) {x = r.rounds} {y = m + (r.rounds - m)} (omega arith) ∙ rounds-append m (r.rounds - m) round)
       ∙ take_at (rounds m round) (rounds (r.rounds - m) round) (m * r.length) (length-rounds m round ∙ ap (λ n. m * n) (length-round steps r is))
 
@@ -32,7 +32,7 @@ module _ (steps : List Step) (r : Repeat) (is : IsRepeat steps r) where
     many = many;
     inside = omega (arith, is.inside, mul-le-mul_right r.length le, all);
     again =
-        ap (λ n. take n behind) all
+        ap (λ n. take n following) all
         ∙ front (k * t) le
         ∙ sym (rounds-rounds k t round)
         ∙ ap (rounds k) (sym one);
@@ -45,7 +45,7 @@ module _ (steps : List Step) (r : Repeat) (is : IsRepeat steps r) where
       all : k * (r.length * t) ≡ k * t * r.length
       all = omega arith
 
-      one : take (r.length * t) behind ≡ rounds t round
+      one : take (r.length * t) following ≡ rounds t round
       one =
-          ap (λ n. take n behind) {x = r.length * t} {y = t * r.length} (omega arith)
+          ap (λ n. take n following) {x = r.length * t} {y = t * r.length} (omega arith)
           ∙ front t few

@@ -1,4 +1,4 @@
--- Checkpoints: copies of the state on the way through a run, with how long its lists were there.
+-- Checkpoints: checkpoints of the state on the way through a run, with how long its lists were there.
 -- Source: this project's own.
 use Rattle.std.specs.Prelude.{◌≡◌, ℕ, ◌≤◌, Bool, List, length, take, map}
 use Rattle.stab_tableau.specs.Traces.{member}
@@ -15,13 +15,13 @@ pub record IsRunFromStart (n : ℕ) (coins : ℕ → Bool) (xs : List Step) (s :
   pub group : SameGroup n s.stabilised (member (point_after n coins xs origin).trace)
   pub output : s.output ≡ outputs n coins xs origin
 
--- a copy of the state before one of these steps, or after the last
+-- a checkpoint of the state before one of these steps, or after the last
 pub record IsCheckpoint (n : ℕ) (coins : ℕ → Bool) (xs : List Step) (c : Checkpoint) : Type 0 where
   pub within : c.step ≤ length xs
   pub qubits : c.tableau.qubits ≡ n
   pub group : SameGroup n (stabilises c.tableau) (member (point_after n coins (take c.step xs) origin).trace)
   pub lengths : c.lengths ≡ lengths_of (outputs n coins (take c.step xs) origin)
 
--- the steps that copies are kept before
+-- the steps that checkpoints are kept before
 abbrev pub checkpoint_steps : List Checkpoint → List ℕ
 checkpoint_steps = map (λ c. c.step)

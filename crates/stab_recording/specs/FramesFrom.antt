@@ -11,8 +11,8 @@ use Rattle.stab_frames.specs.Propagations.{PropagationState, IsPlaced}
 use Rattle.stab_recording.specs.declared.checkpoint.Checkpoint.{Checkpoint}
 
 -- what a frame flipped after this much of it, with an outcome for each flag: never a flag
-abbrev pub flips_behind : Lengths → PropagationState → RunOutput
-flips_behind l w = record {
+abbrev pub flips_after : Lengths → PropagationState → RunOutput
+flips_after l w = record {
   records = drop l.records w.flips.records;
   free = [];
   outcomes = drop l.free w.flips.outcomes;
@@ -22,7 +22,7 @@ flips_behind l w = record {
 
 -- and since it was an earlier one
 abbrev pub flips_since : PropagationState → PropagationState → RunOutput
-flips_since old new = flips_behind (record (lengths_of old.flips) { free = length old.flips.outcomes }) new
+flips_since old new = flips_after (record (lengths_of old.flips) { free = length old.flips.outcomes }) new
 
 -- this many of the newest records are compared where a frame begins: all after the first ones, which are the same, where both runs have as
 -- many records and the same number of the next coin; else those to which steps look back
@@ -31,7 +31,7 @@ AreCompared o base window c m =
     ((length o.free ≡ c.lengths.free) × (length o.records ≡ c.lengths.records) × (m + base ≡ length o.records))
     ⊎ ((m ≡ window) × (m ≤ length o.records) × (m ≤ c.lengths.records) × ((length o.free ≢ c.lengths.free) ⊎ (length o.records ≢ c.lengths.records)))
 
--- the frame by which a state with this output differs from a copy, whose run gave these
+-- the frame by which a state with this output differs from a checkpoint, whose run gave these
 pub record IsFrameFrom (t : TableauState) (o old : RunOutput) (base window : ℕ) (c : Checkpoint) (w : PropagationState) : Type 0 where
   pub size : length w.letters ≡ t.qubits
   pub conjugated : IsConjugated t.qubits w.letters (stabilises c.tableau) (stabilises t)

@@ -1,6 +1,6 @@
 pub mod Spacing
 pub mod Checkpoints
-pub mod LaidCheckpoints
+pub mod SavedCheckpoints
 pub mod Meets
 pub mod Parts
 pub mod FramesFrom
@@ -8,7 +8,8 @@ pub mod Samplers
 pub mod RunsWithPivots
 pub mod PivotLists
 pub mod RestFrames
-pub mod FramedReplays
+pub mod PropagatedReplays
 pub mod Replays
+pub mod FollowedRuns
 pub mod Stops
 pub mod inner

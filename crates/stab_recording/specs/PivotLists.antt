@@ -6,7 +6,7 @@ use Rattle.stab_run.specs.Points.{origin}
 use Rattle.stab_frames.specs.Pivots.{PivotsState, IsNumbered, AreTrue, pivot_at, kept_with}
 use Rattle.stab_items.specs.Steps.{LooksWithin}
 
--- strings that were kept of the run of these steps, which has these flags, exchange its free outcomes; and the steps look back to
+-- strings that were kept of the run of these steps, which has these flags, exchange its random outcomes; and the steps look back to
 -- no more records than the lookback window
 pub record KeepsPivots (n : ℕ) (coins : ℕ → Bool) (xs : List Step) (strings : PivotsState) (free : List Bool) (window : ℕ) : Type 0 where
   pub size : strings.qubits ≡ n

@@ -6,7 +6,7 @@ use Rattle.stab_recording.specs.declared.checkpoint.Checkpoint.{Checkpoint}
 use Rattle.stab_recording.specs.declared.replay.Replay.{Replay}
 use Rattle.stab_recording.specs.declared.replay.Plan.{Plan}
 use Rattle.stab_recording.specs.declared.replay.End.{End}
-use Rattle.stab_recording.specs.declared.replay.End.TheVariants.{Last, Joined, Framed}
+use Rattle.stab_recording.specs.declared.replay.End.TheVariants.{Last, Joined, Propagated}
 use Rattle.stab_recording.specs.declared.rest_frame.RestFrame.{RestFrame}
 use Rattle.stab_run.specs.Records.{ones}
 use Rattle.stab_run.specs.Points.{RunOutput, origin, point_after, outputs}
@@ -21,18 +21,18 @@ use Rattle.stab_run.specs.Cuts.{lengths_of}
 use Rattle.stab_recording.specs.Meets.{Meets}
 use Rattle.stab_recording.specs.Checkpoints.{IsRunFromStart, IsCheckpoint, checkpoint_steps}
 use Rattle.stab_recording.specs.PivotLists.{KeepsPivots}
-use Rattle.stab_recording.specs.LaidCheckpoints.{moved}
+use Rattle.stab_recording.specs.SavedCheckpoints.{moved}
 
--- where an old copy is among the new steps
+-- where an old checkpoint is among the new steps
 abbrev pub step_among_new : Plan → Checkpoint → ℕ
 step_among_new p c = moved p.old_end p.new_end c.step
 
--- at least so far apart a replay lays copies: less than a stride K, if it is 4 or more, so that steps can be put in between two
--- neighbours before these are more than a stride apart
+-- how many steps two checkpoints of a replay have between them at least: less than a stride K if K is 4 or more, so that steps can be put in
+-- between two neighbours before these are more than a stride from each other
 abbrev pub spacing_of : ℕ → ℕ
 spacing_of K = K - K / 4
 
--- where a replay may stop next: at the place of the old copy that may be met next where that is no more than a stride further, and else
+-- where a replay may stop next: at the place of the old checkpoint that may be met next where that is no more than a stride further, and else
 -- a spacing further, or after the last step if that comes first
 abbrev pub next_stop : Plan → ℕ → Option ℕ → ℕ
 next_stop p step None = min (step + spacing_of p.stride) p.total
@@ -49,89 +49,89 @@ pub record IsAtStep (n : ℕ) (coins : ℕ → Bool) (ys : List Step) (r : Repla
   pub scratch : length r.pivots.string.letters ≡ n
   pub has_pivots : KeepsPivots n coins (take r.step ys) r.pivots.strings r.outputs.free.items r.pivots.window
 
--- a replay that began at a step has come so far, and laid copies on its way
+-- a replay that began at a step has come so far, and saved checkpoints on its way
 pub record IsReplay (n : ℕ) (coins : ℕ → Bool) (K begin : ℕ) (ys : List Step) (r : Replay) : Type 0 where
   pub at_step : IsAtStep n coins ys r
-  pub checkpoints : All (IsCheckpoint n coins ys) r.laid.items
-  pub near : Near K (begin ∷ checkpoint_steps r.laid.items ++ r.step ∷ [])
+  pub checkpoints : All (IsCheckpoint n coins ys) r.saved.items
+  pub near : Near K (begin ∷ checkpoint_steps r.saved.items ++ r.step ∷ [])
 
--- the places of old copies, the first at or after a step, in order, and within the new steps
+-- the places of old checkpoints, the first at or after a step, in order, and within the new steps
 abbrev pub Ascending : Plan → ℕ → List Checkpoint → Type 0
 Ascending p step [] = step ≤ p.total
 Ascending p step (c ∷ more) = (step ≤ step_among_new p c) × Ascending p (step_among_new p c) more
 
--- an old copy is at this step among the new ones
+-- an old checkpoint is at this step among the new ones
 abbrev pub IsPlacedAt : Plan → List Checkpoint → ℕ → ℕ → Type 0
-IsPlacedAt p copies number step = IsSomeAnd (slice_get copies number) (λ c. step_among_new p c ≡ step)
+IsPlacedAt p checkpoints number step = IsSomeAnd (slice_get checkpoints number) (λ c. step_among_new p c ≡ step)
 
--- a copy of the state that a replay has come to
-abbrev pub copy_of : Replay → Checkpoint
-copy_of r = record { step = r.step; lengths = lengths_of (output_of r.outputs); tableau = r.tableau }
+-- a checkpoint of the state that a replay has come to
+abbrev pub checkpoint_of : Replay → Checkpoint
+checkpoint_of r = record { step = r.step; lengths = lengths_of (output_of r.outputs); tableau = r.tableau }
 
--- a replay is at the place of an old copy, and meets it
+-- a replay is at the place of an old checkpoint, and meets it
 abbrev pub MeetsAt : ℕ → Plan → Replay → (records free : List Bool) → Checkpoint → Type 0
 MeetsAt n p r records free c = (step_among_new p c ≡ r.step) × Meets n p.window r.tableau (output_of r.outputs) records free c
 
--- at the place of an old copy, after what was changed, a replay differs from an old run with this output by a frame, and the coins of that
+-- at the place of an old checkpoint, after what was changed, a replay differs from an old run with this output by a frame, and the coins of that
 -- run serve it from there on
 pub record BeginsAt (p : Plan) (r : Replay) (o : RunOutput) (w : PropagationState) (c : Checkpoint) : Type 0 where
-  pub behind : p.old_end ≤ c.step
+  pub following : p.old_end ≤ c.step
   pub place : step_among_new p c ≡ r.step
   pub coin : (length r.outputs.free.items ≡ c.lengths.free) ⊎ (ones (drop c.lengths.free o.free) ≡ 0)
   pub within : p.base ≤ length r.outputs.records.items
   pub same : take p.base r.outputs.records.items ≡ take p.base o.records
   pub frame : IsFrameFrom r.tableau (output_of r.outputs) o p.base p.window c w
 
--- such a frame propagated from there over the rest of the old run, past the copies from that one on
-pub record IsFramed (p : Plan) (r : Replay) (copies : List Checkpoint) (o : RunOutput) (s : PivotsState) (f : RestFrame) (c : Checkpoint) : Type 0 where
+-- such a frame propagated from there over the rest of the old run, past the checkpoints from that one on
+pub record IsPropagated (p : Plan) (r : Replay) (checkpoints : List Checkpoint) (o : RunOutput) (s : PivotsState) (f : RestFrame) (c : Checkpoint) : Type 0 where
   pub start : PropagationState
   pub begins : BeginsAt p r o start c
   pub compared : f.compared ≡ length start.flips.records
   pub size : length f.propagation.letters ≡ r.tableau.qubits
-  pub advanced : IsRestFrame r.tableau.qubits s.strings o.free p.window (drop r.step r.cursor.all) c.step (drop f.number copies) f.conjugated.items start f.propagation
+  pub advanced : IsRestFrame r.tableau.qubits s.strings o.free p.window (drop r.step r.cursor.all) c.step (drop f.number checkpoints) f.conjugated.items start f.propagation
 
--- how a replay ended: after the last step, or at the place of an old copy that it meets, or from which a frame propagated on
+-- how a replay ended: after the last step, or at the place of an old checkpoint that it meets, or from which a frame propagated on
 abbrev pub IsEnd : ℕ → Plan → Replay → List Checkpoint → RunOutput → PivotsState → End → Type 0
-IsEnd n p r copies o s Last = r.step ≡ p.total
-IsEnd n p r copies o s (Joined j) = (p.next ≤ j) × IsSomeAnd (slice_get copies j) (MeetsAt n p r o.records o.free)
-IsEnd n p r copies o s (Framed f) = (p.next ≤ f.number) × IsSomeAnd (slice_get copies f.number) (IsFramed p r copies o s f)
+IsEnd n p r checkpoints o s Last = r.step ≡ p.total
+IsEnd n p r checkpoints o s (Joined j) = (p.next ≤ j) × IsSomeAnd (slice_get checkpoints j) (MeetsAt n p r o.records o.free)
+IsEnd n p r checkpoints o s (Propagated f) = (p.next ≤ f.number) × IsSomeAnd (slice_get checkpoints f.number) (IsPropagated p r checkpoints o s f)
 
--- no old run with these records agrees with the new one at a copy
+-- no old run with these records agrees with the new one at a checkpoint
 abbrev pub Misses : ℕ → (ℕ → Bool) → Plan → List Step → List Bool → Checkpoint → Type 0
 Misses n coins p ys records c =
     (xs : List Step) → IsCheckpoint n coins xs c → take c.lengths.records records ≡ (outputs n coins (take c.step xs) origin).records
     → AgreeAt n (point_after n coins (take c.step xs) origin) (point_after n coins (take (step_among_new p c) ys) origin) → ⊥
 
--- each old copy that may be met, and is before the step where the replay ended, was missed
+-- each old checkpoint that may be met, and is before the step where the replay ended, was missed
 abbrev pub EndsSoon : ℕ → (ℕ → Bool) → Plan → List Step → List Checkpoint → List Bool → ℕ → Type 0
-EndsSoon n coins p ys copies records end =
-    (number : ℕ) → p.next ≤ number → IfSome (slice_get copies number) (λ c. step_among_new p c < end → Misses n coins p ys records c)
+EndsSoon n coins p ys checkpoints records end =
+    (number : ℕ) → p.next ≤ number → IfSome (slice_get checkpoints number) (λ c. step_among_new p c < end → Misses n coins p ys records c)
 
 -- a replay on its way
 
--- at a step where it stops, with this old copy to be met next: those before it were not met
-pub record IsAtStop (n : ℕ) (coins : ℕ → Bool) (begin : ℕ) (p : Plan) (ys : List Step) (copies : List Checkpoint) (old : List Bool) (next : ℕ) (r : Replay) : Type 0 where
+-- at a step where it stops, with this old checkpoint to be met next: those before it were not met
+pub record IsAtStop (n : ℕ) (coins : ℕ → Bool) (begin : ℕ) (p : Plan) (ys : List Step) (checkpoints : List Checkpoint) (old : List Bool) (next : ℕ) (r : Replay) : Type 0 where
   pub replay : IsReplay n coins p.stride begin ys r
-  pub counted : (r.applied + r.framed) + begin ≡ r.step
+  pub counted : (r.applied + r.by_frame) + begin ≡ r.step
   pub order : p.next ≤ next
-  pub within : next ≤ length copies
-  pub ascending : Ascending p r.step (drop next copies)
+  pub within : next ≤ length checkpoints
+  pub ascending : Ascending p r.step (drop next checkpoints)
   pub base : p.base ≤ length r.outputs.records.items
   pub same : take p.base r.outputs.records.items ≡ take p.base old
-  pub missed : (number : ℕ) → p.next ≤ number → number < next → IfSome (slice_get copies number) (Misses n coins p ys old)
+  pub missed : (number : ℕ) → p.next ≤ number → number < next → IfSome (slice_get checkpoints number) (Misses n coins p ys old)
 
--- and about to go on from there, with the last copy laid there
-pub record IsOnWay (n : ℕ) (coins : ℕ → Bool) (begin : ℕ) (p : Plan) (ys : List Step) (copies : List Checkpoint) (old : List Bool) (next : ℕ) (r : Replay) : Type 0 where
-  pub stop : IsAtStop n coins begin p ys copies old next r
-  pub last : last_of begin (checkpoint_steps r.laid.items) ≡ r.step
+-- and about to go on from there, with the last checkpoint saved there
+pub record IsOnWay (n : ℕ) (coins : ℕ → Bool) (begin : ℕ) (p : Plan) (ys : List Step) (checkpoints : List Checkpoint) (old : List Bool) (next : ℕ) (r : Replay) : Type 0 where
+  pub stop : IsAtStop n coins begin p ys checkpoints old next r
+  pub last : last_of begin (checkpoint_steps r.saved.items) ≡ r.step
 
--- where a replay that went on from a step stops: a spacing further or more, or after the last step, or at the place of the old copy
+-- where a replay that went on from a step stops: a spacing further or more, or after the last step, or at the place of the old checkpoint
 -- that may be met next
 abbrev pub StopsAt : Plan → List Checkpoint → ℕ → ℕ → ℕ → Type 0
-StopsAt p copies next from step = (from + spacing_of p.stride ≤ step) ⊎ ((step ≡ p.total) ⊎ IsPlacedAt p copies next step)
+StopsAt p checkpoints next from step = (from + spacing_of p.stride ≤ step) ⊎ ((step ≡ p.total) ⊎ IsPlacedAt p checkpoints next step)
 
--- how many of this many old copies a replay passed
+-- how many of this many old checkpoints a replay passed
 abbrev pub checkpoints_skipped : Plan → ℕ → End → ℕ
 checkpoints_skipped p count Last = count - p.next
 checkpoints_skipped p count (Joined j) = j - p.next
-checkpoints_skipped p count (Framed f) = f.number - p.next
+checkpoints_skipped p count (Propagated f) = f.number - p.next

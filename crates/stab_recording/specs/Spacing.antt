@@ -1,4 +1,4 @@
--- Spacing: at which steps copies of a run's state are kept.
+-- Spacing: at which steps checkpoints of a run's state are kept.
 -- Source: this project's own.
 use Rattle.std.specs.Prelude.{◌≡◌, ℕ, ◌+◌, ◌<◌, ◌≤◌, List, [], ◌∷◌, ◌++◌, Some, slice_get}
 
@@ -8,15 +8,15 @@ Near K [] = Unit {0}
 Near K (a ∷ []) = Unit {0}
 Near K (a ∷ b ∷ more) = (a ≤ b) × (b ≤ a + K) × Near K (b ∷ more)
 
--- of three in a row the outer two are more than K apart
+-- of three in a row the outer two are more than K from each other
 abbrev pub Sparse : ℕ → List ℕ → Type 0
 Sparse K [] = Unit {0}
 Sparse K (a ∷ []) = Unit {0}
 Sparse K (a ∷ b ∷ []) = Unit {0}
 Sparse K (a ∷ b ∷ c ∷ more) = (a + K < c) × Sparse K (b ∷ c ∷ more)
 
--- the first copy is that before step 0, neighbours are at most K steps apart, the last is at most K from the end, and of three in a
--- row the outer two are more than K apart
+-- the first checkpoint is that before step 0, neighbours are at most K steps from each other, the last is at most K from the end, and of three in a
+-- row the outer two are more than K from each other
 pub record IsSpaced (K end : ℕ) (steps : List ℕ) : Type 0 where
   pub first : slice_get steps 0 ≡ Some 0
   pub near : Near K (steps ++ end ∷ [])

@@ -1,10 +1,10 @@
 ghost use Rattle.std.specs.Prelude.{◌≡◌, ◌+◌, ◌<◌, ◌≤◌, All, IfSome, length, take, drop, map, reverse, slice_get, ◌++◌, vec_capacity};
-ghost use Rattle.stab_recording.specs.LaidCheckpoints.{laid, all_laid, moved, moved_lengths, moved_copy};
+ghost use Rattle.stab_recording.specs.SavedCheckpoints.{saved, all_saved, moved, moved_lengths, moved_checkpoint};
 
 use stab_run::Lengths;
 use stab_tableau::CompactTableau;
 
-/// A copy of the state before a step, and how long the lists were there.
+/// The state before a step, kept, and how long the lists were there.
 pub struct Checkpoint {
     pub step: usize,
     pub lengths: Lengths,
@@ -22,7 +22,7 @@ impl Drop for Checkpoint {
     }
 }
 
-/// Where a replay met a copy of the old run: from there on the old run moves to the place after the new one.
+/// Where a replay met a checkpoint of the old run: from there on the old run moves to the place after the new one.
 #[derive(Clone, Copy)]
 pub struct Meeting {
     pub old_step: usize,
@@ -53,7 +53,7 @@ fn lengths_moved(lengths: Lengths, old: Lengths, new: Lengths) -> Lengths
 impl Checkpoint {
     /// The checkpoint moved with the one at a meeting.
     fn moved(self, meeting: Meeting) -> Checkpoint
-        ensures value { result ≡ moved_copy meeting self }
+        ensures value { result ≡ moved_checkpoint meeting self }
     {
         let Checkpoint {
             step,
@@ -69,13 +69,13 @@ impl Checkpoint {
 }
 
 /// How many of the first checkpoints are before a step.
-pub fn count_before(copies: &[Checkpoint], step: usize) -> usize
-    ensures within { result ≤ length copies.now }
-    ensures before { All (λ c. c.step < step) (take result copies.now) }
-    ensures behind { IfSome (slice_get copies.now result) (λ c. step ≤ c.step) }
+pub fn count_before(checkpoints: &[Checkpoint], step: usize) -> usize
+    ensures within { result ≤ length checkpoints.now }
+    ensures before { All (λ c. c.step < step) (take result checkpoints.now) }
+    ensures following { IfSome (slice_get checkpoints.now result) (λ c. step ≤ c.step) }
 {
     let mut count = 0;
-    while count < copies.len() && copies[count].step < step {
+    while count < checkpoints.len() && checkpoints[count].step < step {
         count += 1;
     }
     count
@@ -83,46 +83,46 @@ pub fn count_before(copies: &[Checkpoint], step: usize) -> usize
 
 /// Puts a checkpoint after others, in place of the last if that is no longer needed. It takes no
 /// memory.
-fn lay(copies: &mut Vec<Checkpoint>, copy: Checkpoint, stride: usize)
-    requires room { length copies.old.items < vec_capacity copies.old }
-    ensures value { copies.new.items ≡ laid stride copy copies.old.items }
-    ensures capacity { vec_capacity copies.new ≡ vec_capacity copies.old }
+fn save(checkpoints: &mut Vec<Checkpoint>, checkpoint: Checkpoint, stride: usize)
+    requires room { length checkpoints.old.items < vec_capacity checkpoints.old }
+    ensures value { checkpoints.new.items ≡ saved stride checkpoint checkpoints.old.items }
+    ensures capacity { vec_capacity checkpoints.new ≡ vec_capacity checkpoints.old }
 {
-    let len = copies.len();
-    if len >= 2 && copy.step.saturating_sub(copies[len - 2].step) <= stride {
-        copies.truncate(len - 1);
+    let len = checkpoints.len();
+    if len >= 2 && checkpoint.step.saturating_sub(checkpoints[len - 2].step) <= stride {
+        checkpoints.truncate(len - 1);
     }
-    copies.push_reserved(copy);
+    checkpoints.push_reserved(checkpoint);
 }
 
 /// Puts checkpoints after others, the last of them first. It takes no memory.
-pub fn lay_all(copies: &mut Vec<Checkpoint>, others: &mut Vec<Checkpoint>, stride: usize)
-    requires room { length copies.old.items + length others.old.items ≤ vec_capacity copies.old }
-    ensures value { copies.new.items ≡ all_laid stride (reverse others.old.items) copies.old.items }
-    ensures capacity { vec_capacity copies.new ≡ vec_capacity copies.old }
-    ensures shorter { length copies.new.items ≤ length copies.old.items + length others.old.items }
+pub fn save_all(checkpoints: &mut Vec<Checkpoint>, others: &mut Vec<Checkpoint>, stride: usize)
+    requires room { length checkpoints.old.items + length others.old.items ≤ vec_capacity checkpoints.old }
+    ensures value { checkpoints.new.items ≡ all_saved stride (reverse others.old.items) checkpoints.old.items }
+    ensures capacity { vec_capacity checkpoints.new ≡ vec_capacity checkpoints.old }
+    ensures shorter { length checkpoints.new.items ≤ length checkpoints.old.items + length others.old.items }
 {
-    while let Some(copy) = others.pop() {
-        lay(copies, copy, stride);
+    while let Some(checkpoint) = others.pop() {
+        save(checkpoints, checkpoint, stride);
     }
 }
 
 /// Takes the checkpoints from this place on, the last first, and moves them with the one at a meeting. It
 /// takes no memory.
 pub fn take_moved(
-    copies: &mut Vec<Checkpoint>,
+    checkpoints: &mut Vec<Checkpoint>,
     place: usize,
     meeting: Meeting,
     taken: &mut Vec<Checkpoint>,
 )
-    requires room { length taken.old.items + length copies.old.items ≤ vec_capacity taken.old + place }
-    ensures left { copies.new.items ≡ take place copies.old.items }
-    ensures taken { taken.new.items ≡ taken.old.items ++ reverse (map (moved_copy meeting) (drop place copies.old.items)) }
-    ensures capacity { vec_capacity copies.new ≡ vec_capacity copies.old }
+    requires room { length taken.old.items + length checkpoints.old.items ≤ vec_capacity taken.old + place }
+    ensures left { checkpoints.new.items ≡ take place checkpoints.old.items }
+    ensures taken { taken.new.items ≡ taken.old.items ++ reverse (map (moved_checkpoint meeting) (drop place checkpoints.old.items)) }
+    ensures capacity { vec_capacity checkpoints.new ≡ vec_capacity checkpoints.old }
 {
-    while copies.len() > place {
-        if let Some(copy) = copies.pop() {
-            taken.push_reserved(copy.moved(meeting));
+    while checkpoints.len() > place {
+        if let Some(checkpoint) = checkpoints.pop() {
+            taken.push_reserved(checkpoint.moved(meeting));
         }
     }
 }

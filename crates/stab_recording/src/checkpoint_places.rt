@@ -5,16 +5,16 @@ ghost use Rattle.stab_edits.specs.Repeats.{AreRepeats, IsRepeat};
 use crate::replay::{Plan, Replay};
 use stab_edits::Repeat;
 
-/// Within this many checkpoints at most whole rounds are gone through.
-const MOST_COPIES: usize = 32;
+/// How many checkpoints the rounds of one period have at most.
+const MOST_CHECKPOINTS: usize = 32;
 
-/// At which places a replay keeps checkpoints in a block: so that they are alike in later rounds.
+/// At which steps of a block a replay keeps checkpoints, so that those of later rounds can be equal to them.
 #[derive(Clone, Copy)]
-pub(crate) struct Rhythm {
+pub(crate) struct StopSpacing {
     /// How many steps some whole rounds have.
     pub(crate) period: usize,
     /// How many checkpoints are kept on the way through them, at least 1.
-    copies: usize,
+    checkpoints: usize,
 }
 
 /// Where a replay stops next, at the earliest and at the latest.
@@ -53,17 +53,20 @@ pub fn end_of(block: Repeat) -> usize
 
 /// The fewest checkpoints on the way through whole rounds of this many steps, if each may be no less than some and no more than other
 /// steps after the one before it.
-fn rhythm_of(length: usize, least: usize, most: usize) -> Option<Rhythm>
+fn stop_spacing_of(length: usize, least: usize, most: usize) -> Option<StopSpacing>
     requires some { 0 < length }
-    ensures some { IfSome result (λ r. 0 < r.copies) }
+    ensures some { IfSome result (λ r. 0 < r.checkpoints) }
 {
-    for copies in 1..=MOST_COPIES {
-        let rounds = copies.saturating_mul(most) / length;
+    for checkpoints in 1..=MOST_CHECKPOINTS {
+        let rounds = checkpoints.saturating_mul(most) / length;
         let period = rounds.saturating_mul(length);
-        let part = period / copies;
-        let last = period.saturating_sub(part.saturating_mul(copies - 1));
+        let part = period / checkpoints;
+        let last = period.saturating_sub(part.saturating_mul(checkpoints - 1));
         if part >= least && last <= most {
-            return Some(Rhythm { period, copies });
+            return Some(StopSpacing {
+                period,
+                checkpoints,
+            });
         }
     }
     None
@@ -72,16 +75,17 @@ fn rhythm_of(length: usize, least: usize, most: usize) -> Option<Rhythm>
 impl Plan {
     ghost use Rattle.std.specs.Prelude.{◌<◌, ◌≤◌, IfSome};
 
-    /// At which places checkpoints are kept in a block so that they are alike in later rounds, if these are not too long for that.
-    pub(crate) fn rhythm(self, block: Repeat) -> Option<Rhythm>
+    /// At which steps of a block checkpoints are kept, so that those of later rounds can be equal to them, if its rounds are not
+    /// too long for that.
+    pub(crate) fn stop_spacing(self, block: Repeat) -> Option<StopSpacing>
         requires stride { 1 ≤ self.stride }
-        ensures some { IfSome result (λ r. 0 < r.copies) }
+        ensures some { IfSome result (λ r. 0 < r.checkpoints) }
     {
         if block.length == 0 {
             return None;
         }
         let most = self.stride - self.stride / 16;
-        rhythm_of(block.length, self.spacing(), most)
+        stop_spacing_of(block.length, self.spacing(), most)
     }
 }
 
@@ -89,22 +93,22 @@ impl<'a> Replay<'a> {
     ghost use Rattle.std.specs.Prelude.{◌≡◌, ◌⊎◌, ◌+◌, ◌<◌, ◌≤◌, Some, IfSome};
     ghost use Rattle.stab_recording.specs.Replays.{spacing_of};
 
-    /// Where the next checkpoint is placed well in a block: some whole rounds after another one, if there is one that lies so far back.
-    fn aim(&self, block: Repeat, rhythm: Rhythm) -> usize
-        requires some { 0 < rhythm.copies }
+    /// The best step for the next checkpoint of a block: some whole rounds after another one, if there is one that far back.
+    fn aim(&self, block: Repeat, stop_spacing: StopSpacing) -> usize
+        requires some { 0 < stop_spacing.checkpoints }
     {
-        let part = rhythm.period / rhythm.copies;
-        let Some(place) = self.laid.len().checked_sub(rhythm.copies) else {
+        let part = stop_spacing.period / stop_spacing.checkpoints;
+        let Some(place) = self.saved.len().checked_sub(stop_spacing.checkpoints) else {
             return self.step.saturating_add(part);
         };
-        let copy = &self.laid[place];
-        if copy.step < block.first {
+        let checkpoint = &self.saved[place];
+        if checkpoint.step < block.first {
             return self.step.saturating_add(part);
         }
-        copy.step.saturating_add(rhythm.period)
+        checkpoint.step.saturating_add(stop_spacing.period)
     }
 
-    /// The next place of a checkpoint, between two stops, that is well in the block of the step, if the step lies in one.
+    /// The best step for the next checkpoint, between two stops, if the replay is in a block.
     fn aim_between(
         &self,
         repeats: &[Repeat],
@@ -117,8 +121,8 @@ impl<'a> Replay<'a> {
         ensures within { IfSome result (λ aim. (stop ≤ aim) × (aim ≤ limit)) }
     {
         let block = block_at(repeats, self.step)?;
-        let rhythm = plan.rhythm(block)?;
-        let aim = self.aim(block, rhythm);
+        let stop_spacing = plan.stop_spacing(block)?;
+        let aim = self.aim(block, stop_spacing);
         if aim < stop || aim > limit {
             return None;
         }
@@ -129,7 +133,7 @@ impl<'a> Replay<'a> {
     pub(crate) fn stops(&self, repeats: &[Repeat], plan: Plan, place: Option<usize>) -> Stops
         requires stride { 1 ≤ plan.stride }
         requires within { self.now.step ≤ plan.total }
-        requires behind { IfSome place (λ p. self.now.step ≤ p) }
+        requires following { IfSome place (λ p. self.now.step ≤ p) }
         ensures order { self.now.step ≤ result.least }
         ensures further { result.least ≤ result.most }
         ensures within { result.most ≤ plan.total }

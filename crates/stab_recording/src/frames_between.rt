@@ -1,4 +1,4 @@
-//! The frame by which a run differs from a copy of its own, or of another run.
+//! The frame by which a run differs from a checkpoint of its own, or of another run.
 
 ghost use Rattle.std.specs.Prelude.{◌≡◌, ◌-◌, ◌≤◌, length, take, drop, IfOk, IfErr, IfSome};
 ghost use Rattle.stab_io.specs.declared.refusal.Refusal.TheVariants.{OutOfMemory};
@@ -13,32 +13,38 @@ use stab_run::Outputs;
 use stab_tableau::Tableau;
 use std::alloc::Global;
 
-/// How many of the newest records are compared before a frame begins at a checkpoint, in a run that gave this much; none if no frame can
-/// begin there. This many of its records are those of the checkpoint's run, whose steps look back no further than the lookback window.
-fn records_compared(outputs: &Outputs, copy: &Checkpoint, base: usize, window: u32) -> Option<usize>
+/// How many of the newest records are compared to say whether a frame can begin at a checkpoint, in a run that gave this much; none
+/// if it can't. This many of its records are those of the checkpoint's run, whose steps look back no further than the lookback
+/// window.
+fn records_compared(
+    outputs: &Outputs,
+    checkpoint: &Checkpoint,
+    base: usize,
+    window: u32,
+) -> Option<usize>
     requires within { base ≤ length outputs.now.records.items }
-    ensures compared { IfSome result (AreCompared (output_of outputs.now) base window copy.now) }
+    ensures compared { IfSome result (AreCompared (output_of outputs.now) base window checkpoint.now) }
 {
     let records = outputs.records.len();
-    if outputs.free.len() == copy.lengths.free && records == copy.lengths.records {
+    if outputs.free.len() == checkpoint.lengths.free && records == checkpoint.lengths.records {
         return Some(records - base);
     }
     let newest = window as usize;
-    if newest <= records && newest <= copy.lengths.records {
+    if newest <= records && newest <= checkpoint.lengths.records {
         Some(newest)
     } else {
         None
     }
 }
 
-/// Of the first elements of a list, as many as the one number, the last ones, as many as the other.
+/// The last elements, as many as `last`, of the first `first` elements of a list.
 fn last_of_first(bits: &[bool], first: usize, last: usize) -> &[bool]
     ensures value { result.now ≡ drop (first - last) (take first bits.now) }
 {
     between(bits, first.saturating_sub(last), first)
 }
 
-/// The frame by which a state, whose run gave this much, differs from a copy of a run, if the rows of both have the same letters.
+/// The frame by which a state, whose run gave this much, differs from a checkpoint of a run, if the rows of both have the same letters.
 /// This many records are those of that run, whose steps look back no further than the lookback window.
 ///
 /// Refusal `OutOfMemory` alone.
@@ -47,36 +53,36 @@ pub fn frame_between(
     tableau: &Tableau,
     string: &mut Pauli,
     outputs: &Outputs,
-    copy: &Checkpoint,
+    checkpoint: &Checkpoint,
     old: &Outputs,
     base: usize,
     window: u32,
 ) -> Result<Option<Propagation>, Refusal>
-    requires same_qubits { copy.now.tableau.qubits ≡ tableau.now.qubits }
+    requires same_qubits { checkpoint.now.tableau.qubits ≡ tableau.now.qubits }
     requires within { base ≤ length outputs.now.records.items }
     requires string { length string.old.letters ≡ tableau.now.qubits }
-    requires flags { copy.now.lengths.free ≤ length old.now.free.items }
-    requires records { copy.now.lengths.records ≤ length old.now.records.items }
+    requires flags { checkpoint.now.lengths.free ≤ length old.now.free.items }
+    requires records { checkpoint.now.lengths.records ≤ length old.now.records.items }
     ensures string { length string.new.letters ≡ length string.old.letters }
-    ensures propagation { IfOk result (λ found. IfSome found (IsFrameFrom tableau.now (output_of outputs.now) (output_of old.now) base window copy.now)) }
+    ensures propagation { IfOk result (λ found. IfSome found (IsFrameFrom tableau.now (output_of outputs.now) (output_of old.now) base window checkpoint.now)) }
     ensures err { IfErr result (λ r. r ≡ OutOfMemory) }
 {
-    let compared = match records_compared(outputs, copy, base, window) {
+    let compared = match records_compared(outputs, checkpoint, base, window) {
         Some(compared) => compared,
         None => return Ok(None),
     };
-    if !copy.tableau.frame_to(tableau, string) {
+    if !checkpoint.tableau.frame_to(tableau, string) {
         return Ok(None);
     }
     let mut propagation = Propagation::new(
         alloc,
         tableau.len(),
         old.free.as_slice(),
-        copy.lengths.free,
+        checkpoint.lengths.free,
     )?;
     propagation.multiply(string);
     propagation.flip_records(
-        last_of_first(old.records.as_slice(), copy.lengths.records, compared),
+        last_of_first(old.records.as_slice(), checkpoint.lengths.records, compared),
         last_of_first(outputs.records.as_slice(), outputs.records.len(), compared),
     )?;
     Ok(Some(propagation))

@@ -4,14 +4,15 @@
 //! `new_checkpoints`, `checkpoint_places`, `recurrence`, `loop_folding` and `runs` add calls to the replay of `replay`:
 //!
 //! - `recorded_steps`: steps that a run carries out, with pivots of its random outcomes.
-//! - `propagate`: steps on the way of a frame, until all are past, the frame is gone, or a string is missing.
+//! - `propagate`: steps on the way of a frame, until all are past, the frame is gone, or a pivot is missing.
 //! - `other_coins`: steps on its way from a run to one that has other coins there.
-//! - `checkpoint`: checkpoints, which are copies of the state before a step; when they are kept, and how they move.
+//! - `checkpoint`: checkpoints, which are states kept before a step; when they are kept, and how they move.
 //! - `meeting`: whether another run agrees with a checkpoint, or a run with one of its own again.
 //! - `repeated_output`: what a run gave, appended again.
 //! - `frames_between`: the frame by which a run differs from a checkpoint.
 //! - `propagated_output`: what a run gave, repeated as a frame changes it.
 //! - `states`, `rest_of_run`: states that a frame changes, and a frame over the rest of a run.
+//! - `old_run`: what is kept of the run before an edit.
 //! - `rest_frame`, `differing_checkpoints`, `new_checkpoints`, `checkpoint_places`, `recurrence`, `loop_folding`, `replay`: a run from a
 //!   checkpoint on, up to a checkpoint of an older run at which they agree, or from which a frame goes on; where its checkpoints are; and
 //!   loop folding: rounds of a block that come again in it, exactly or up to a frame.
@@ -44,6 +45,7 @@ mod frames_between;
 mod loop_folding;
 mod meeting;
 mod new_checkpoints;
+mod old_run;
 mod other_coins;
 mod propagate;
 mod propagated_output;
@@ -60,19 +62,20 @@ mod states;
 mod whole_run;
 mod with_pivots;
 
-pub use checkpoint::{Checkpoint, Meeting, count_before, lay_all, shifted, take_moved};
+pub use checkpoint::{Checkpoint, Meeting, count_before, save_all, shifted, take_moved};
 pub use frames_between::frame_between;
 pub use meeting::{are_fixed, comes_again, has_one, may_have_coin, meets};
+pub use old_run::OldRun;
 pub use other_coins::propagate_with_coins;
 pub use propagate::{Propagated, Stop, propagate_steps};
-pub use propagated_output::{append_framed, lengths_propagated, pivot_again};
+pub use propagated_output::{append_propagated, lengths_propagated, repeat_pivots};
 pub use recorded_steps::run_recording_pivots;
-pub use repeated_output::{give_again, part_between};
+pub use repeated_output::{part_between, repeat_outputs};
 pub use replay::{End, Plan, Replay};
 pub use rest_frame::RestFrame;
 pub use rest_of_run::propagate_rest;
 pub use round_grouping::{MOST_SINGLE, is_long, taken_together};
 pub use sampler::{Sampler, run_once};
-pub use states::{apply_frame, framed_checkpoint};
+pub use states::{apply_frame, propagated_checkpoint};
 pub use whole_run::Shot;
 pub use with_pivots::{RunWithPivots, run_with_pivots};

@@ -15,85 +15,90 @@ use stab_run::Outputs;
 use stab_tableau::{CompactTableau, Tableau};
 use std::alloc::Global;
 
-/// Whether a run that came to this state, and gave this, meets a copy of another one's state: from there on the other run goes on
-/// as this one would. That one gave this much in all, and its steps look back no further than the lookback window. What is cheap to compare
-/// comes first.
+/// Whether a run with this state and these outputs meets a checkpoint of another run: whether the other run goes on from there as
+/// this one would. The other run gave this much in all, and its steps look back no further than the lookback window. What is cheap
+/// to compare comes first.
 ///
-/// If rows have other letters the checkpoint is expanded into the spare tableau if there is one, and is then the spare itself; and
-/// the stabiliser of the state with the number that is given is asked first whether it distinguishes the states. If they
-/// differ, the number is then that of one that does.
+/// If rows have other letters the checkpoint is expanded into the spare tableau if there is one, and is then the spare itself. The
+/// stabiliser of the state with the given number is compared first; if the states differ, the number is then that of a stabiliser
+/// that shows it.
 ///
 /// Refusal `OutOfMemory` alone.
 pub fn meets(
     alloc: Global,
     tableau: &mut Tableau,
     outputs: &Outputs,
-    copy: &Checkpoint,
+    checkpoint: &Checkpoint,
     old: &Outputs,
     window: u32,
     spare: &mut Option<Tableau>,
-    telling: &mut usize,
+    determining: &mut usize,
 ) -> Result<bool, Refusal>
-    requires same_qubits { copy.now.tableau.qubits ≡ tableau.old.qubits }
+    requires same_qubits { checkpoint.now.tableau.qubits ≡ tableau.old.qubits }
     ensures unchanged { tableau.new ≡ tableau.old }
-    ensures value { IfOk result (λ meets. IsTrue meets ↔ Meets tableau.old.qubits window tableau.old (output_of outputs.now) old.now.records.items old.now.free.items copy.now) }
+    ensures value { IfOk result (λ meets. IsTrue meets ↔ Meets tableau.old.qubits window tableau.old (output_of outputs.now) old.now.records.items old.now.free.items checkpoint.now) }
     ensures err { IfErr result (λ r. r ≡ OutOfMemory) }
 {
-    let records = first(old.records.as_slice(), copy.lengths.records);
+    let records = first(old.records.as_slice(), checkpoint.lengths.records);
     if !end_alike(outputs.records.as_slice(), records, window as usize)
-        || !may_have_coin(copy, old.free.as_slice(), outputs.free.len())
+        || !may_have_coin(checkpoint, old.free.as_slice(), outputs.free.len())
     {
         return Ok(false);
     }
-    has_group_of(tableau, alloc, &copy.tableau, spare, telling)
+    has_group_of(tableau, alloc, &checkpoint.tableau, spare, determining)
 }
 
-/// Whether a run that came to this state, and gave this, is as it was at a copy of its own, as far back as its steps look. What
+/// Whether a run with this state and these outputs is as it was at one of its own checkpoints, as far back as its steps look. What
 /// is cheap to compare comes first. It takes no memory.
-pub fn comes_again(tableau: &Tableau, outputs: &Outputs, copy: &Checkpoint, window: u32) -> bool
-    ensures value { IsTrue result ↔ ComesAgain window tableau.now (output_of outputs.now) copy.now }
+pub fn comes_again(
+    tableau: &Tableau,
+    outputs: &Outputs,
+    checkpoint: &Checkpoint,
+    window: u32,
+) -> bool
+    ensures value { IsTrue result ↔ ComesAgain window tableau.now (output_of outputs.now) checkpoint.now }
 {
     let records = outputs.records.as_slice();
     end_alike(
         records,
-        first(records, copy.lengths.records),
+        first(records, checkpoint.lengths.records),
         window as usize,
-    ) && are_fixed(outputs.free.as_slice(), copy.lengths.free)
-        && copy.tableau.is_of(tableau)
+    ) && are_fixed(outputs.free.as_slice(), checkpoint.lengths.free)
+        && checkpoint.tableau.is_of(tableau)
 }
 
 /// Whether no coin decided, by the flags after this many.
 pub fn are_fixed(flags: &[bool], count: usize) -> bool
     ensures value { IsTrue result ↔ (ones (drop count flags.now) ≡ 0) }
 {
-    let (_, behind) = flags.split_at(count.min(flags.len()));
-    !has_one(behind)
+    let (_, following) = flags.split_at(count.min(flags.len()));
+    !has_one(following)
 }
 
 /// Whether the same strings stabilise a state and a checkpoint, which is expanded into the spare tableau if its rows have other
-/// letters. The stabiliser with the number that is given is asked first, and the number becomes that of one that distinguishes them.
+/// letters. The stabiliser with the given number is compared first, and the number becomes that of one that shows a difference.
 ///
 /// Refusal `OutOfMemory` alone.
 fn has_group_of(
     tableau: &mut Tableau,
     alloc: Global,
-    copy: &CompactTableau,
+    checkpoint: &CompactTableau,
     spare: &mut Option<Tableau>,
-    telling: &mut usize,
+    determining: &mut usize,
 ) -> Result<bool, Refusal>
-    requires same_qubits { copy.now.qubits ≡ tableau.old.qubits }
+    requires same_qubits { checkpoint.now.qubits ≡ tableau.old.qubits }
     ensures unchanged { tableau.new ≡ tableau.old }
-    ensures value { IfOk result (λ same. IsTrue same ↔ SameGroup tableau.old.qubits (stabilises tableau.old) (stabilises copy.now)) }
+    ensures value { IfOk result (λ same. IsTrue same ↔ SameGroup tableau.old.qubits (stabilises tableau.old) (stabilises checkpoint.now)) }
     ensures err { IfErr result (λ r. r ≡ OutOfMemory) }
 {
-    if copy.is_of(tableau) {
+    if checkpoint.is_of(tableau) {
         return Ok(true);
     }
-    if let Some(same) = same_by_signs(tableau, alloc, copy)? {
+    if let Some(same) = same_by_signs(tableau, alloc, checkpoint)? {
         return Ok(same);
     }
-    let mut other = copy.tableau(alloc, spare.take())?;
-    let same = same_by_stabilisers(tableau, alloc, &mut other, telling)?;
+    let mut other = checkpoint.tableau(alloc, spare.take())?;
+    let same = same_by_stabilisers(tableau, alloc, &mut other, determining)?;
     *spare = Some(other);
     Ok(same)
 }
@@ -105,15 +110,15 @@ fn has_group_of(
 fn same_by_signs(
     tableau: &mut Tableau,
     alloc: Global,
-    copy: &CompactTableau,
+    checkpoint: &CompactTableau,
 ) -> Result<Option<bool>, Refusal>
-    requires same_qubits { copy.now.qubits ≡ tableau.old.qubits }
+    requires same_qubits { checkpoint.now.qubits ≡ tableau.old.qubits }
     ensures unchanged { tableau.new ≡ tableau.old }
-    ensures value { IfOk result (λ found. IfSome found (λ same. IsTrue same ↔ SameGroup tableau.old.qubits (stabilises tableau.old) (stabilises copy.now))) }
+    ensures value { IfOk result (λ found. IfSome found (λ same. IsTrue same ↔ SameGroup tableau.old.qubits (stabilises tableau.old) (stabilises checkpoint.now))) }
     ensures err { IfErr result (λ r. r ≡ OutOfMemory) }
 {
     let mut frame = Pauli::identity(alloc, tableau.len())?;
-    if !copy.frame_to(tableau, &mut frame) {
+    if !checkpoint.frame_to(tableau, &mut frame) {
         return Ok(None);
     }
     tableau.stabilises_a_group();
@@ -132,7 +137,7 @@ fn same_by_stabilisers(
     tableau: &mut Tableau,
     alloc: Global,
     other: &mut Tableau,
-    telling: &mut usize,
+    determining: &mut usize,
 ) -> Result<bool, Refusal>
     requires same_qubits { other.old.qubits ≡ tableau.old.qubits }
     ensures unchanged { tableau.new ≡ tableau.old }
@@ -144,11 +149,11 @@ fn same_by_stabilisers(
     tableau.stabilisers_generate();
     other.stabilises_a_group();
     let end = tableau.len();
-    let start = end.min(*telling);
-    if !are_shared(tableau, alloc, other, start, end, telling)? {
+    let start = end.min(*determining);
+    if !are_shared(tableau, alloc, other, start, end, determining)? {
         return Ok(false);
     }
-    let same = are_shared(tableau, alloc, other, 0, start, telling)?;
+    let same = are_shared(tableau, alloc, other, 0, start, determining)?;
     Ok(same)
 }
 
@@ -162,7 +167,7 @@ fn are_shared(
     other: &mut Tableau,
     from: usize,
     end: usize,
-    telling: &mut usize,
+    determining: &mut usize,
 ) -> Result<bool, Refusal>
     requires within { end ≤ tableau.old.qubits }
     requires same_qubits { other.old.qubits ≡ tableau.old.qubits }
@@ -174,7 +179,7 @@ fn are_shared(
 {
     for k in from..end {
         if !is_shared(tableau, alloc, other, k)? {
-            *telling = k;
+            *determining = k;
             return Ok(false);
         }
     }
@@ -207,10 +212,10 @@ fn is_shared(
 }
 
 /// Whether the next coin may have this number at a checkpoint, in a run with these flags: it has it there, or no coin decides later.
-pub fn may_have_coin(copy: &Checkpoint, free: &[bool], coin: usize) -> bool
-    ensures value { IsTrue result ↔ ((coin ≡ copy.now.lengths.free) ⊎ (ones (drop copy.now.lengths.free free.now) ≡ 0)) }
+pub fn may_have_coin(checkpoint: &Checkpoint, free: &[bool], coin: usize) -> bool
+    ensures value { IsTrue result ↔ ((coin ≡ checkpoint.now.lengths.free) ⊎ (ones (drop checkpoint.now.lengths.free free.now) ≡ 0)) }
 {
-    coin == copy.lengths.free || are_fixed(free, copy.lengths.free)
+    coin == checkpoint.lengths.free || are_fixed(free, checkpoint.lengths.free)
 }
 
 /// The first bits of a list, this many.

@@ -4,7 +4,7 @@ ghost use Rattle.stab_items.specs.Steps.{most_steps};
 ghost use Rattle.stab_run.specs.Records.{ones};
 ghost use Rattle.stab_run.specs.Points.{all_coins_of};
 ghost use Rattle.stab_run.specs.ProgramStates.{StepFits};
-ghost use Rattle.stab_recording.specs.Replays.{IsAtStep, copy_of};
+ghost use Rattle.stab_recording.specs.Replays.{IsAtStep, checkpoint_of};
 ghost use Rattle.stab_recording.specs.inner.RestFrameStates.{with_state};
 
 use crate::checkpoint::Checkpoint;
@@ -14,17 +14,17 @@ use stab_run::Coins;
 use stab_tableau::CompactTableau;
 use std::alloc::Global;
 
-/// A checkpoint shares memory with one of this many before it: in codes a state comes again within them, or not at all.
+/// A checkpoint shares memory with one of this many before it: in error-correcting codes a state comes again within them, or never.
 const SHARED_AMONG: usize = 16;
 
-/// How many steps a replay takes together while it looks for a better place for a checkpoint.
+/// How many steps a replay carries out at a time while it looks for a better step for a checkpoint.
 const LOOKED_AT: usize = 32;
 
 impl Plan {
     ghost use Rattle.std.specs.Prelude.{◌≡◌, ◌+◌, ◌≤◌, IfSome};
 
-    /// How far beyond a stop a replay that comes from a step may keep its checkpoint: not past the place of an old checkpoint, and so that a
-    /// sixteenth of a stride is left for steps that are put in between.
+    /// The last step at which a replay that comes from a step may keep its checkpoint for a stop: at or before the next old
+    /// checkpoint, and so that a sixteenth of a stride is left for steps that are put in between.
     pub(crate) fn limit(self, from: usize, stop: usize, place: Option<usize>) -> usize
         requires within { stop ≤ self.total }
         requires near { stop ≤ from + self.stride }
@@ -57,8 +57,8 @@ impl<'a> Replay<'a> {
             .wrapping_add(self.outputs.detectors.len())
     }
 
-    /// Carries out the steps up to a stop, and goes on from there, up to a limit at most, until it comes to steps that measure or
-    /// make a detector: there a round of a code ends, its state follows from few letters, and comes again in later rounds.
+    /// Carries out the steps up to a stop, and then up to a limit at most, until steps measure or make a detector: there a round of
+    /// a code ends, and its state takes little memory and comes again in later rounds.
     ///
     /// Refusal `OutOfMemory` alone.
     pub(crate) fn run_past<C: Coins>(
@@ -77,7 +77,7 @@ impl<'a> Replay<'a> {
         requires few_applied { self.old.applied ≤ self.old.step }
         ensures all { self.new.cursor.all ≡ self.old.cursor.all }
         ensures qubits { self.new.tableau.qubits ≡ self.old.tableau.qubits }
-        ensures laid { self.new.laid.items ≡ self.old.laid.items }
+        ensures saved { self.new.saved.items ≡ self.old.saved.items }
         ensures same_coins { C.sequence coins.new ≡ C.sequence coins.old }
         ensures at_step { OnOk result (IsAtStep self.old.tableau.qubits (C.sequence coins.old) self.old.cursor.all self.new) }
         ensures order { self.old.step ≤ self.new.step }
@@ -86,7 +86,7 @@ impl<'a> Replay<'a> {
         ensures raised { self.old.pivots.window ≤ self.new.pivots.window }
         ensures records { OnOk result (self.old.outputs.records.items ≡ take (length self.old.outputs.records.items) self.new.outputs.records.items) }
         ensures counted { OnOk result (self.new.applied + self.old.step ≡ self.old.applied + self.new.step) }
-        ensures framed { self.new.framed ≡ self.old.framed }
+        ensures by_frame { self.new.by_frame ≡ self.old.by_frame }
         ensures asks { C.asks coins.new + self.old.step ≤ C.asks coins.old + self.new.step }
         ensures asks_free { OnOk result (C.asks coins.new + ones self.old.outputs.free.items ≤ C.asks coins.old + ones self.new.outputs.free.items) }
         ensures asked { C.asks coins.new + all_coins_of (drop self.new.step self.old.cursor.all) ≤ C.asks coins.old + all_coins_of (drop self.old.step self.old.cursor.all) }
@@ -104,7 +104,7 @@ impl<'a> Replay<'a> {
         }
     }
 
-    /// A copy of the state, in little memory. What it can share with the last checkpoints takes none of its own.
+    /// A checkpoint of the state, in little memory: what it can share with the last checkpoints is not stored anew.
     ///
     /// Refusal `OutOfMemory` alone.
     fn compact(&self, alloc: Global) -> Result<CompactTableau, Refusal>
@@ -112,29 +112,29 @@ impl<'a> Replay<'a> {
         ensures err { IfErr result (λ r. r ≡ OutOfMemory) }
     {
         let mut tableau = self.tableau.compact(alloc)?;
-        let first = self.laid.len().saturating_sub(SHARED_AMONG);
-        for place in first..self.laid.len() {
-            tableau.share(&self.laid[place].tableau);
+        let first = self.saved.len().saturating_sub(SHARED_AMONG);
+        for place in first..self.saved.len() {
+            tableau.share(&self.saved[place].tableau);
         }
         Ok(tableau)
     }
 
     /// Keeps a checkpoint.
-    pub(crate) fn lay(&mut self, alloc: Global) -> Result<(), Refusal>
-        ensures unchanged { self.new ≡ record self.old { laid = self.new.laid } }
-        ensures laid { OnOk result (self.new.laid.items ≡ self.old.laid.items ++ copy_of self.old ∷ []) }
+    pub(crate) fn save(&mut self, alloc: Global) -> Result<(), Refusal>
+        ensures unchanged { self.new ≡ record self.old { saved = self.new.saved } }
+        ensures saved { OnOk result (self.new.saved.items ≡ self.old.saved.items ++ checkpoint_of self.old ∷ []) }
         ensures err { IfErr result (λ r. r ≡ OutOfMemory) }
     {
-        let copy = Checkpoint {
+        let checkpoint = Checkpoint {
             step: self.step,
             lengths: self.outputs.lengths(),
             tableau: self.compact(alloc)?,
         };
-        self.laid.push(copy)?;
+        self.saved.push(checkpoint)?;
         Ok(())
     }
 
-    /// Writes the state of the last checkpoint kept into the tableau, if a checkpoint was passed.
+    /// Writes the state of the last saved checkpoint into the tableau, if the replay went past one by repeating rounds.
     ///
     /// Refusal `OutOfMemory` alone.
     pub(crate) fn catch_up(&mut self, alloc: Global, passed: bool) -> Result<(), Refusal>
@@ -145,8 +145,8 @@ impl<'a> Replay<'a> {
         if !passed {
             return Ok(());
         }
-        if let Some(copy) = self.laid.last() {
-            self.tableau = copy.tableau.tableau(alloc, None)?;
+        if let Some(checkpoint) = self.saved.last() {
+            self.tableau = checkpoint.tableau.tableau(alloc, None)?;
         }
         Ok(())
     }

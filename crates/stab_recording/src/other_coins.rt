@@ -42,7 +42,7 @@ impl Draw for OtherCoins<'_> {
 
 /// Propagates a frame over the steps that a cursor has left, up to this many, from a run that passed them to one with other coins,
 /// whose next coin has a number this much greater. The one run had these flags, these outcomes there,
-/// and strings of all its free outcomes so far are kept. It asks for the coin of each random outcome at most once, and for no other.
+/// and pivots of all its random outcomes so far are kept. It asks for the coin of each random outcome at most once, and for no other.
 pub fn propagate_with_coins<C: Coins>(
     propagation: &mut Propagation,
     strings: &Pivots,
@@ -78,7 +78,7 @@ pub fn propagate_with_coins<C: Coins>(
         draw: &draw,
     };
     // The caller has counted these steps: as carried out those whose coin is asked for.
-    let mut framed = 0;
+    let mut by_frame = 0;
     propagate(
         propagation,
         known,
@@ -87,7 +87,7 @@ pub fn propagate_with_coins<C: Coins>(
         most,
         0,
         false,
-        &mut framed,
+        &mut by_frame,
     )?;
     Ok(())
 }

@@ -1,4 +1,4 @@
-//! Steps on the way of a frame, until all are past, the frame is gone, or a string is missing.
+//! Steps on the way of a frame, until all are past, the frame is gone, or a pivot is missing.
 
 ghost use Rattle.std.specs.Prelude.{◌≡◌, ◌≢◌, ℕ, ◌+◌, ◌-◌, ◌^◌, ◌<◌, ◌≤◌, Bool, true, All, length, take, drop, OnOk, IfOk};
 ghost use Rattle.stab_items.specs.Steps.{Step};
@@ -22,10 +22,10 @@ use std::alloc::AllocError;
 #[derive(Clone, Copy, Debug, PartialEq, Eq)]
 pub enum Stop {
     /// It passed as many steps as were asked for, or there are no more.
-    Behind,
+    After,
     /// The frame is gone: what comes after is as it was.
     Gone,
-    /// It can't go on: the string of a free outcome wasn't kept, and the frame anticommutes with what is measured. No clause says that
+    /// It can't go on: the pivot of a random outcome wasn't kept, and the frame anticommutes with what is measured. No clause says that
     /// it stops for that reason alone.
     NoString,
 }
@@ -39,7 +39,7 @@ pub struct Propagated {
 
 /// Propagates a frame over the steps that a cursor has left, up to this many, to a run with these coins, none of the steps looking back
 /// further than `window` records. It ends if the frame is gone, if it may, and else goes on without one. The steps that it passes are
-/// counted, and all of an instruction in which a string is missing.
+/// counted, and all of an instruction in which a pivot is missing.
 pub fn propagate<D: Draw, C: Coins>(
     propagation: &mut Propagation,
     known: Known<D>,
@@ -48,15 +48,15 @@ pub fn propagate<D: Draw, C: Coins>(
     most: usize,
     window: u32,
     may_end: bool,
-    framed: &mut u64,
+    by_frame: &mut u64,
 ) -> Result<Propagated, AllocError>
     requires same_length { known.strings.now.qubits ≡ length propagation.old.letters }
     requires fits { All (StepFits (length propagation.old.letters)) cursor.old.left }
     requires placed { IsPlaced known.free.now propagation.old }
     requires few { D.ahead known.draw.now + (propagation.old.coin + length cursor.old.left) < 2 ^ 63 }
-    requires few_framed { framed.old + length cursor.old.left < 2 ^ 63 }
-    ensures most { framed.new ≤ framed.old + length (take most cursor.old.left) }
-    ensures counted { IfOk result (λ w. framed.old + w.steps ≤ framed.new) }
+    requires few_propagated { by_frame.old + length cursor.old.left < 2 ^ 63 }
+    ensures most { by_frame.new ≤ by_frame.old + length (take most cursor.old.left) }
+    ensures counted { IfOk result (λ w. by_frame.old + w.steps ≤ by_frame.new) }
     ensures all { cursor.new.all ≡ cursor.old.all }
     ensures length { length propagation.new.letters ≡ length propagation.old.letters }
     ensures same_coins { C.sequence coins.new ≡ C.sequence coins.old }
@@ -66,7 +66,7 @@ pub fn propagate<D: Draw, C: Coins>(
     ensures goes { IfOk result (λ w. GoesOver (length propagation.old.letters) known.entry.strings.now.strings known.entry.free.now (D.changes known.entry.draw.now (C.sequence coins.old)) (take w.steps cursor.old.left) propagation.old propagation.new) }
     ensures stop { IfOk result (λ w. IsStop (length propagation.old.letters) window w.steps (length (take most cursor.old.left)) propagation.new w.stop) }
     ensures gone { IfOk result (λ w. w.stop ≡ Gone → may_end ≡ true) }
-    ensures missing { IfOk result (λ w. w.stop ≡ NoString → IsMissing known.entry.strings.now.strings known.entry.free.now (propagation.old.coin + all_coins_of (take (framed.new - framed.old) cursor.old.left))) }
+    ensures missing { IfOk result (λ w. w.stop ≡ NoString → IsMissing known.entry.strings.now.strings known.entry.free.now (propagation.old.coin + all_coins_of (take (by_frame.new - by_frame.old) cursor.old.left))) }
 {
     let window = window as usize;
     let mut steps = 0;
@@ -79,11 +79,11 @@ pub fn propagate<D: Draw, C: Coins>(
         }
         let Some(next) = cursor.next_steps(most - steps) else {
             return Ok(Propagated {
-                stop: Stop::Behind,
+                stop: Stop::After,
                 steps,
             });
         };
-        let went = propagate_instruction(propagation, known, coins, next, framed)?;
+        let went = propagate_instruction(propagation, known, coins, next, by_frame)?;
         steps += went;
         if went < next.len() {
             return Ok(Propagated {
@@ -93,7 +93,7 @@ pub fn propagate<D: Draw, C: Coins>(
         }
     }
     Ok(Propagated {
-        stop: Stop::Behind,
+        stop: Stop::After,
         steps,
     })
 }
@@ -109,16 +109,16 @@ pub fn propagate_steps(
     most: usize,
     window: u32,
     may_end: bool,
-    framed: &mut u64,
+    by_frame: &mut u64,
 ) -> Result<Propagated, AllocError>
     requires same_length { strings.now.qubits ≡ length propagation.old.letters }
     requires fits { All (StepFits (length propagation.old.letters)) cursor.old.left }
     requires placed { IsPlaced free.now propagation.old }
     requires few { propagation.old.coin + length cursor.old.left < 2 ^ 63 }
-    requires few_framed { framed.old + length cursor.old.left < 2 ^ 63 }
-    ensures most { framed.new ≤ framed.old + length (take most cursor.old.left) }
-    ensures counted { IfOk result (λ w. framed.old + w.steps ≤ framed.new) }
-    ensures missing { IfOk result (λ w. w.stop ≡ NoString → IsMissing strings.now.strings free.now (propagation.old.coin + all_coins_of (take (framed.new - framed.old) cursor.old.left))) }
+    requires few_propagated { by_frame.old + length cursor.old.left < 2 ^ 63 }
+    ensures most { by_frame.new ≤ by_frame.old + length (take most cursor.old.left) }
+    ensures counted { IfOk result (λ w. by_frame.old + w.steps ≤ by_frame.new) }
+    ensures missing { IfOk result (λ w. w.stop ≡ NoString → IsMissing strings.now.strings free.now (propagation.old.coin + all_coins_of (take (by_frame.new - by_frame.old) cursor.old.left))) }
     ensures all { cursor.new.all ≡ cursor.old.all }
     ensures length { length propagation.new.letters ≡ length propagation.old.letters }
     ensures placed { OnOk result (IsPlaced free.now propagation.new) }
@@ -142,6 +142,6 @@ pub fn propagate_steps(
         most,
         window,
         may_end,
-        framed,
+        by_frame,
     )
 }

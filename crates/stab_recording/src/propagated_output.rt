@@ -5,7 +5,7 @@ ghost use Rattle.stab_run.specs.Points.{joined};
 ghost use Rattle.stab_run.specs.ProgramStates.{output_of};
 ghost use Rattle.stab_frames.specs.Flips.{flipped_output};
 ghost use Rattle.stab_io.specs.declared.refusal.Refusal.TheVariants.{OutOfMemory};
-ghost use Rattle.stab_recording.specs.FramesFrom.{flips_behind};
+ghost use Rattle.stab_recording.specs.FramesFrom.{flips_after};
 ghost use Rattle.stab_recording.specs.inner.FoldedReplays.{HasStringsAgain};
 
 use stab_frames::{Pivots, Propagation, append_flipped, append_flipped_additions, between};
@@ -29,13 +29,13 @@ pub fn lengths_propagated(propagation: &Propagation) -> Lengths
 }
 
 /// Appends what steps gave, flipped as a frame says that went over them and had passed this much before.
-pub fn append_framed(
+pub fn append_propagated(
     outputs: &mut Outputs,
     part: &Outputs,
     propagation: &Propagation,
     before: Lengths,
 ) -> Result<(), AllocError>
-    ensures value { OnOk result (output_of outputs.new ≡ joined (output_of outputs.old) (flipped_output (output_of part.now) (flips_behind before propagation.now))) }
+    ensures value { OnOk result (output_of outputs.new ≡ joined (output_of outputs.old) (flipped_output (output_of part.now) (flips_after before propagation.now))) }
 {
     append_flipped(
         &mut outputs.records,
@@ -80,7 +80,7 @@ pub fn append_framed(
 /// Puts strings after the others again, from the one with a number up to another's, unless no further ones are kept.
 ///
 /// Refusal `OutOfMemory` alone.
-pub fn pivot_again(strings: &mut Pivots, from: usize, to: usize) -> Result<(), Refusal>
+pub fn repeat_pivots(strings: &mut Pivots, from: usize, to: usize) -> Result<(), Refusal>
     ensures value { OnOk result (HasStringsAgain from to strings.old strings.new) }
     ensures most { strings.old.most ≤ strings.new.most }
     ensures err { IfErr result (λ r. r ≡ OutOfMemory) }

@@ -17,7 +17,7 @@ use stab_tableau::Tableau;
 use std::alloc::Global;
 
 /// Carries out the steps that a cursor has left, up to this many, and counts them. It records the
-/// strings of free outcomes and how far the steps look back. The string is for products to be written into.
+/// pivots of random outcomes and how far the steps look back. The string is for products to be written into.
 ///
 /// Refusal `OutOfMemory` alone.
 pub fn run_recording_pivots<C: Coins>(

@@ -1,9 +1,9 @@
-//! The checkpoints of a replay in a block that have the state that it has now, exactly or up to a frame.
+//! Recurrences: checkpoints of a replay at which its state was what it is now, exactly or up to a frame.
 
 ghost use Rattle.std.specs.Prelude.{◌≡◌, ◌+◌, ◌<◌, IsTrue, IfSome, All, length, IfOk, IfErr};
 ghost use Rattle.stab_io.specs.declared.refusal.Refusal.TheVariants.{OutOfMemory};
 ghost use Rattle.stab_run.specs.ProgramStates.{output_of};
-ghost use Rattle.stab_recording.specs.inner.FoldedReplays.{IsRoundsBehind, IsOfOwn, IsFound};
+ghost use Rattle.stab_recording.specs.inner.FoldedReplays.{IsRoundsAfter, IsOfOwn, IsFound};
 
 use crate::checkpoint::Checkpoint;
 use crate::frames_between::frame_between;
@@ -15,30 +15,30 @@ use stab_io::Refusal;
 use stab_pauli::Pauli;
 use std::alloc::Global;
 
-/// A replay looks for its state among this many checkpoints that it kept last.
+/// How many of its newest checkpoints a replay compares with its state.
 const LOOKED_BACK: usize = 64;
 
-/// A checkpoint, by its number, that has the state of the replay, up to the frame if there is one.
+/// The number of a checkpoint whose state is that of the replay now, or differs from it by the frame.
 #[derive(Drop)]
-pub struct Earlier {
+pub struct Recurrence {
     pub number: usize,
     pub frame: Option<Propagation>,
 }
 
 impl<'a> Replay<'a> {
     /// Whether the replay is in a block some whole rounds after a checkpoint.
-    fn is_rounds_behind(&self, block: Repeat, copy: &Checkpoint) -> bool
+    fn is_rounds_after(&self, block: Repeat, checkpoint: &Checkpoint) -> bool
         requires some { 0 < block.length }
-        ensures value { IsTrue result → IsRoundsBehind block self.now.step copy.now }
+        ensures value { IsTrue result → IsRoundsAfter block self.now.step checkpoint.now }
     {
-        if copy.step < block.first || copy.step >= self.step {
+        if checkpoint.step < block.first || checkpoint.step >= self.step {
             return false;
         }
-        let steps = self.step - copy.step;
+        let steps = self.step - checkpoint.step;
         steps / block.length * block.length == steps
     }
 
-    /// Compares the replay in a block with the checkpoint with a number, which has another one after it: exactly, or up to a frame.
+    /// Compares the state with a checkpoint of the block that is not the last one: exactly, or up to a frame.
     ///
     /// Refusal `OutOfMemory` alone.
     fn compare(
@@ -47,36 +47,36 @@ impl<'a> Replay<'a> {
         string: &mut Pauli,
         block: Repeat,
         number: usize,
-        framed: bool,
-    ) -> Result<Option<Earlier>, Refusal>
+        by_frame: bool,
+    ) -> Result<Option<Recurrence>, Refusal>
         requires some { 0 < block.length }
-        requires in_range { number + 1 < length self.now.laid.items }
+        requires in_range { number + 1 < length self.now.saved.items }
         requires string { length string.old.letters ≡ self.now.tableau.qubits }
-        requires own { All (IsOfOwn self.now.tableau.qubits (output_of self.now.outputs)) self.now.laid.items }
+        requires own { All (IsOfOwn self.now.tableau.qubits (output_of self.now.outputs)) self.now.saved.items }
         ensures string { length string.new.letters ≡ length string.old.letters }
         ensures found { IfOk result (λ found. IfSome found (IsFound block self.now)) }
         ensures err { IfErr result (λ r. r ≡ OutOfMemory) }
     {
-        let copy = &self.laid[number];
-        if !self.is_rounds_behind(block, copy) {
+        let checkpoint = &self.saved[number];
+        if !self.is_rounds_after(block, checkpoint) {
             return Ok(None);
         }
-        if !framed {
-            if comes_again(&self.tableau, &self.outputs, copy, self.pivots.window) {
-                return Ok(Some(Earlier {
+        if !by_frame {
+            if comes_again(&self.tableau, &self.outputs, checkpoint, self.pivots.window) {
+                return Ok(Some(Recurrence {
                     number,
                     frame: None,
                 }));
             }
             return Ok(None);
         }
-        let base = copy.lengths.records;
+        let base = checkpoint.lengths.records;
         let found = frame_between(
             alloc,
             &self.tableau,
             string,
             &self.outputs,
-            copy,
+            checkpoint,
             &self.outputs,
             base,
             self.pivots.window,
@@ -84,35 +84,35 @@ impl<'a> Replay<'a> {
         let Some(propagation) = found else {
             return Ok(None);
         };
-        Ok(Some(Earlier {
+        Ok(Some(Recurrence {
             number,
             frame: Some(propagation),
         }))
     }
 
-    /// The newest checkpoint in a block, with another one after it, at which the replay was as it is now; if there is none, the
-    /// newest from which it differs by a frame.
+    /// The newest checkpoint of the block, except the last one, whose state is that of the replay now; if there is none and frames
+    /// are asked for, the newest whose state differs by a frame.
     ///
     /// Refusal `OutOfMemory` alone.
-    pub(crate) fn find_again(
+    pub(crate) fn find_recurrence(
         &self,
         alloc: Global,
         block: Repeat,
-        framed: bool,
-    ) -> Result<Option<Earlier>, Refusal>
+        by_frame: bool,
+    ) -> Result<Option<Recurrence>, Refusal>
         requires some { 0 < block.length }
-        requires own { All (IsOfOwn self.now.tableau.qubits (output_of self.now.outputs)) self.now.laid.items }
+        requires own { All (IsOfOwn self.now.tableau.qubits (output_of self.now.outputs)) self.now.saved.items }
         ensures found { IfOk result (λ found. IfSome found (IsFound block self.now)) }
         ensures err { IfErr result (λ r. r ≡ OutOfMemory) }
     {
         let mut string = Pauli::identity(alloc, self.tableau.len())?;
-        let last = self.laid.len().saturating_sub(1);
+        let last = self.saved.len().saturating_sub(1);
         let count = last.min(LOOKED_BACK);
-        let looks = if framed { 2 * count } else { count };
+        let looks = if by_frame { 2 * count } else { count };
         'looking: for look in 0..looks {
             let number = last - 1 - look % count;
-            let framed = look >= count;
-            if let Some(found) = self.compare(alloc, &mut string, block, number, framed)? {
+            let by_frame = look >= count;
+            if let Some(found) = self.compare(alloc, &mut string, block, number, by_frame)? {
                 return Ok(Some(found));
             }
         }

@@ -33,7 +33,7 @@ pub fn part_between(
 }
 
 /// Repeats what was given from some lengths to others.
-pub fn give_again(
+pub fn repeat_outputs(
     alloc: Global,
     outputs: &mut Outputs,
     from: Lengths,

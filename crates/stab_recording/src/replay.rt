@@ -1,6 +1,6 @@
 ghost use Rattle.std.specs.Prelude.{◌≡◌, ℕ, ◌+◌, ◌-◌, ◌*◌, ◌<◌, ◌≤◌, ◌^◌, [], None, All, OnOk, IfOk, IfErr, length, take, drop};
 ghost use Rattle.stab_io.specs.declared.refusal.Refusal.TheVariants.{OutOfMemory};
-ghost use Rattle.stab_items.specs.Steps.{most_steps, unroll, check_of};
+ghost use Rattle.stab_items.specs.Steps.{most_steps};
 ghost use Rattle.stab_edits.specs.Views.{circuit_items};
 ghost use Rattle.stab_edits.specs.Repeats.{AreRepeats};
 ghost use Rattle.stab_run.specs.Records.{ones};
@@ -9,10 +9,12 @@ ghost use Rattle.stab_run.specs.ProgramStates.{StepFits, output_of};
 ghost use Rattle.stab_recording.specs.Replays.{IsAtStep, IsReplay, Ascending, spacing_of, IsEnd, EndsSoon, IsAtStop, IsOnWay, StopsAt, checkpoints_skipped};
 ghost use Rattle.stab_frames.specs.Pivots.{PivotsState};
 ghost use Rattle.stab_recording.specs.inner.Arrivals.{IsArrival};
-ghost use Rattle.stab_recording.specs.FramedReplays.{IsOldRun};
+ghost use Rattle.stab_recording.specs.PropagatedReplays.{IsOldRun};
+ghost use Rattle.stab_recording.specs.FollowedRuns.{Costs, HasEnded, HasSteps, IsFollowed, IsNew, IsPlanned};
 
 use crate::checkpoint::{Checkpoint, shifted};
 use crate::meeting::meets;
+use crate::old_run::OldRun;
 use crate::recorded_steps::run_recording_pivots;
 use crate::rest_frame::RestFrame;
 use stab_edits::{Circuit, Cursor, Repeat};
@@ -30,17 +32,17 @@ pub struct Replay<'a> {
     // A string on the tableau's qubits, for products to be written into.
     pub string: Pauli,
     pub outputs: Outputs,
-    /// What it pivots of its steps, from the first on.
+    /// The pivots of the random outcomes of its steps, from the first step on.
     pub pivots: PivotRecorder,
     pub cursor: Cursor<'a>,
-    /// How many steps of the circuit are past.
+    /// How many steps of the circuit are done.
     pub step: usize,
     /// How many steps were carried out.
     pub applied: u64,
-    /// How many a frame was propagated over.
-    pub framed: u64,
+    /// How many steps a frame was propagated over.
+    pub by_frame: u64,
     /// The checkpoints kept on the way.
-    pub laid: Vec<Checkpoint>,
+    pub saved: Vec<Checkpoint>,
 }
 
 /// How far a replay may go, and what it may meet.
@@ -68,15 +70,15 @@ pub enum End {
     /// At the old checkpoint with this number, from which on the old run went on as the new one would.
     Joined(usize),
     /// At the old checkpoint where a frame begins that was propagated over the rest of the old run.
-    Framed(RestFrame),
+    Propagated(RestFrame),
 }
 
-/// What a replay comes to where it stops.
+/// What a replay finds at the step where it stops.
 enum Arrival {
     /// The old checkpoint that might be met next, and it meets it.
     Met,
     /// The end: it is after the last step.
-    Behind,
+    After,
     /// Neither, and the old checkpoint with this number may be met next.
     Between(usize),
 }
@@ -87,16 +89,16 @@ impl Plan {
     ghost use Rattle.stab_recording.specs.Replays.{step_among_new, spacing_of, next_stop};
 
     /// Where the old checkpoint with a number is among the new steps, if there is one.
-    pub(crate) fn place(self, copies: &[Checkpoint], number: usize) -> Option<usize>
-        ensures value { result ≡ option_map (step_among_new self) (slice_get copies.now number) }
+    pub(crate) fn place(self, checkpoints: &[Checkpoint], number: usize) -> Option<usize>
+        ensures value { result ≡ option_map (step_among_new self) (slice_get checkpoints.now number) }
     {
-        match copies.get(number) {
-            Some(copy) => Some(shifted(self.old_end, self.new_end, copy.step)),
+        match checkpoints.get(number) {
+            Some(checkpoint) => Some(shifted(self.old_end, self.new_end, checkpoint.step)),
             None => None,
         }
     }
 
-    /// How far apart a replay keeps checkpoints at least.
+    /// How far from each other a replay keeps checkpoints at least.
     pub(crate) fn spacing(self) -> usize
         requires stride { 1 ≤ self.stride }
         ensures value { result ≡ spacing_of self.stride }
@@ -106,7 +108,7 @@ impl Plan {
         self.stride - self.stride / 4
     }
 
-    /// Whether rounds come after what was changed, in which a replay may come to a state again.
+    /// Whether blocks come after what was changed in which a state may come again.
     fn has_rounds_ahead(self, repeats: &[Repeat]) -> bool {
         for repeat in repeats {
             let steps = repeat.rounds.saturating_mul(repeat.length);
@@ -121,7 +123,7 @@ impl Plan {
     pub(crate) fn stop(self, step: usize, place: Option<usize>) -> usize
         requires stride { 1 ≤ self.stride }
         requires within { step ≤ self.total }
-        requires behind { IfSome place (λ p. step ≤ p) }
+        requires following { IfSome place (λ p. step ≤ p) }
         ensures value { result ≡ next_stop self step place }
         ensures order { step ≤ result }
         ensures within { result ≤ self.total }
@@ -160,14 +162,14 @@ impl<'a> Replay<'a> {
         requires few { self.old.applied + length self.old.cursor.all < 2 ^ 63 }
         ensures all { self.new.cursor.all ≡ self.old.cursor.all }
         ensures qubits { self.new.tableau.qubits ≡ self.old.tableau.qubits }
-        ensures laid { self.new.laid.items ≡ self.old.laid.items }
+        ensures saved { self.new.saved.items ≡ self.old.saved.items }
         ensures same_coins { C.sequence coins.new ≡ C.sequence coins.old }
         ensures at_step { OnOk result (IsAtStep self.old.tableau.qubits (C.sequence coins.old) self.old.cursor.all self.new) }
         ensures step { self.new.step ≡ stop }
         ensures raised { self.old.pivots.window ≤ self.new.pivots.window }
         ensures records { OnOk result (self.old.outputs.records.items ≡ take (length self.old.outputs.records.items) self.new.outputs.records.items) }
         ensures counted { OnOk result (self.new.applied + self.old.step ≡ self.old.applied + stop) }
-        ensures framed { self.new.framed ≡ self.old.framed }
+        ensures by_frame { self.new.by_frame ≡ self.old.by_frame }
         ensures most { self.new.pivots.strings.most ≡ self.old.pivots.strings.most }
         ensures asks { C.asks coins.new + self.old.step ≤ C.asks coins.old + stop }
         ensures asks_free { OnOk result (C.asks coins.new + ones self.old.outputs.free.items ≤ C.asks coins.old + ones self.new.outputs.free.items) }
@@ -196,35 +198,34 @@ impl<'a> Replay<'a> {
     fn arrive(
         &mut self,
         alloc: Global,
-        copies: &[Checkpoint],
-        old: &Outputs,
+        old: &OldRun<'_>,
         plan: Plan,
         next: usize,
         spare: &mut Option<Tableau>,
-        telling: &mut usize,
+        determining: &mut usize,
     ) -> Result<Arrival, Refusal>
-        requires same_qubits { All (λ c. c.tableau.qubits ≡ self.old.tableau.qubits) copies.now }
-        requires next { next ≤ length copies.now }
+        requires same_qubits { All (λ c. c.tableau.qubits ≡ self.old.tableau.qubits) old.now.checkpoints.now }
+        requires next { next ≤ length old.now.checkpoints.now }
         ensures unchanged { self.new ≡ self.old }
-        ensures value { IfOk result (IsArrival self.old.tableau.qubits plan self.old copies.now old.now.records.items old.now.free.items next) }
+        ensures value { IfOk result (IsArrival self.old.tableau.qubits plan self.old old.now.checkpoints.now old.now.outputs.now.records.items old.now.outputs.now.free.items next) }
         ensures err { IfErr result (λ r. r ≡ OutOfMemory) }
     {
-        let placed = plan.place(copies, next) == Some(self.step);
+        let placed = plan.place(old.checkpoints, next) == Some(self.step);
         if placed
             && meets(
                 alloc,
                 &mut self.tableau,
                 &self.outputs,
-                &copies[next],
-                old,
+                &old.checkpoints[next],
+                old.outputs,
                 plan.window,
                 spare,
-                telling,
+                determining,
             )?
         {
             Ok(Arrival::Met)
         } else if self.step == plan.total {
-            Ok(Arrival::Behind)
+            Ok(Arrival::After)
         } else {
             Ok(Arrival::Between(next + usize::from(placed)))
         }
@@ -237,121 +238,98 @@ impl<'a> Replay<'a> {
         &mut self,
         alloc: Global,
         repeats: &[Repeat],
-        copies: &[Checkpoint],
-        old: &Outputs,
+        old: &OldRun<'_>,
         plan: Plan,
         next: usize,
         coins: &mut C,
     ) -> Result<usize, Refusal>
-        requires old { (s : PivotsState) × IsOldRun self.old.tableau.qubits (C.sequence coins.old) plan self.old.cursor.all copies.now (output_of old.now) s }
-        requires fits { All (StepFits self.old.tableau.qubits) self.old.cursor.all }
-        requires total { plan.total ≡ length self.old.cursor.all }
-        requires few { plan.total ≤ most_steps }
-        requires few_applied { (self.old.applied + self.old.framed) ≤ self.old.step }
-        requires stride { 1 ≤ plan.stride }
+        requires old { (s : PivotsState) × IsOldRun self.old.tableau.qubits (C.sequence coins.old) plan self.old.cursor.all old.now.checkpoints.now (output_of old.now.outputs.now) s }
+        requires planned { IsPlanned self.old.tableau.qubits plan self.old.cursor.all }
+        requires few_applied { (self.old.applied + self.old.by_frame) ≤ self.old.step }
         requires at_step { IsAtStep self.old.tableau.qubits (C.sequence coins.old) self.old.cursor.all self.old }
-        requires next { next ≤ length copies.now }
-        requires ascending { Ascending plan self.old.step (drop next copies.now) }
+        requires next { next ≤ length old.now.checkpoints.now }
+        requires ascending { Ascending plan self.old.step (drop next old.now.checkpoints.now) }
         ensures same_coins { C.sequence coins.new ≡ C.sequence coins.old }
         ensures all { self.new.cursor.all ≡ self.old.cursor.all }
         ensures qubits { self.new.tableau.qubits ≡ self.old.tableau.qubits }
         ensures raised { OnOk result (self.old.pivots.window ≤ self.new.pivots.window) }
-        ensures way { IfOk result (λ later. (begin : ℕ) → IsOnWay self.old.tableau.qubits (C.sequence coins.old) begin plan self.old.cursor.all copies.now (old.now.records.items) next self.old → IsAtStop self.old.tableau.qubits (C.sequence coins.old) begin plan self.old.cursor.all copies.now (old.now.records.items) later self.new) }
+        ensures way { IfOk result (λ later. (begin : ℕ) → IsOnWay self.old.tableau.qubits (C.sequence coins.old) begin plan self.old.cursor.all old.now.checkpoints.now (old.now.outputs.now.records.items) next self.old → IsAtStop self.old.tableau.qubits (C.sequence coins.old) begin plan self.old.cursor.all old.now.checkpoints.now (old.now.outputs.now.records.items) later self.new) }
         ensures asks { OnOk result (C.asks coins.new + self.old.applied ≤ C.asks coins.old + self.new.applied) }
         ensures asks_free { OnOk result (C.asks coins.new + ones self.old.outputs.free.items ≤ C.asks coins.old + ones self.new.outputs.free.items) }
         ensures asked { C.asks coins.new + all_coins_of (drop self.new.step self.old.cursor.all) ≤ C.asks coins.old + all_coins_of (drop self.old.step self.old.cursor.all) }
-        ensures few_laid { IfOk result (λ later. spacing_of plan.stride * length self.new.laid.items + spacing_of plan.stride * next ≤ spacing_of plan.stride * length self.old.laid.items + spacing_of plan.stride * later) }
-        ensures stops { IfOk result (λ later. StopsAt plan copies.now later self.old.step self.new.step) }
+        ensures few_saved { IfOk result (λ later. spacing_of plan.stride * length self.new.saved.items + spacing_of plan.stride * next ≤ spacing_of plan.stride * length self.old.saved.items + spacing_of plan.stride * later) }
+        ensures stops { IfOk result (λ later. StopsAt plan old.now.checkpoints.now later self.old.step self.new.step) }
         ensures order { IfOk result (λ later. next ≤ later) }
         ensures further { self.old.step ≤ self.new.step }
         ensures err { IfErr result (λ r. r ≡ OutOfMemory) }
     {
-        let next = self.skip_apart(repeats, plan, copies, old, next);
-        let place = plan.place(copies, next);
+        let next = self.skip_differing(repeats, plan, old.checkpoints, old.outputs, next);
+        let place = plan.place(old.checkpoints, next);
         let stops = self.stops(repeats, plan, place);
         self.run_past(alloc, coins, stops.least, stops.most)?;
         Ok(next)
     }
 
-    /// Carries out steps until the replay meets an old checkpoint, or a frame goes from one over the rest of the old run, or it is
-    /// after the last step, and keeps checkpoints on the way: one for each spacing, and one for each old checkpoint that it passes,
-    /// at most. In repeats of the circuit's steps it repeats what it gave if it is as it was rounds before. The steps of a frame
-    /// that went over the rest in vain are counted.
+    /// Carries out steps until the replay meets an old checkpoint, or a frame is propagated from one over the rest of the old run,
+    /// or no step is left. Keeps checkpoints on the way: at most one for each spacing and one for each old checkpoint that it
+    /// passes. Repeats rounds of blocks whose state comes again. The steps of a frame that could not be propagated to the end are
+    /// counted.
     pub fn follow<C: Coins>(
         &mut self,
         alloc: Global,
         circuit: &'a Circuit,
         repeats: &[Repeat],
-        copies: &[Checkpoint],
-        old: &Outputs,
-        strings: &Pivots,
+        old: &OldRun<'_>,
         plan: Plan,
         coins: &mut C,
         tried: &mut u64,
     ) -> Result<End, Refusal>
-        requires begun { IsReplay self.old.tableau.qubits (C.sequence coins.old) plan.stride self.old.step self.old.cursor.all self.old }
-        requires nothing_laid { self.old.laid.items ≡ [] }
-        requires fits { All (StepFits self.old.tableau.qubits) self.old.cursor.all }
-        requires total { plan.total ≡ length self.old.cursor.all }
-        requires few { plan.total ≤ most_steps }
-        requires stride { 1 ≤ plan.stride }
-        requires nothing_applied { self.old.applied ≡ 0 }
-        requires nothing_framed { self.old.framed ≡ 0 }
-        requires old { IsOldRun self.old.tableau.qubits (C.sequence coins.old) plan self.old.cursor.all copies.now (output_of old.now) strings.now }
-        requires same_circuit { unroll (circuit_items circuit.now) ≡ self.old.cursor.all }
+        requires begun { IsNew (C.sequence coins.old) plan.stride self.old }
+        requires planned { IsPlanned self.old.tableau.qubits plan self.old.cursor.all }
+        requires circuit { HasSteps (circuit_items circuit.now) self.old.cursor.all }
         requires repeats { AreRepeats 0 self.old.cursor.all repeats.now }
-        requires checked { check_of (circuit_items circuit.now) ≡ None }
-        requires next { plan.next ≤ length copies.now }
-        requires ascending { Ascending plan self.old.step (drop plan.next copies.now) }
-        requires same_qubits { All (λ c. c.tableau.qubits ≡ self.old.tableau.qubits) copies.now }
-        requires base { plan.base ≤ length self.old.outputs.records.items }
-        requires same_records { take plan.base self.old.outputs.records.items ≡ take plan.base old.now.records.items }
+        requires followed { IsFollowed (C.sequence coins.old) plan old.now self.old }
         requires few_tried { tried.old ≤ 2 * most_steps }
         ensures tried { OnOk result (tried.new ≤ tried.old + (plan.total - plan.new_end)) }
         ensures same_coins { C.sequence coins.new ≡ C.sequence coins.old }
-        ensures all { self.new.cursor.all ≡ self.old.cursor.all }
-        ensures qubits { self.new.tableau.qubits ≡ self.old.tableau.qubits }
         ensures replay { OnOk result (IsReplay self.old.tableau.qubits (C.sequence coins.old) plan.stride self.old.step self.old.cursor.all self.new) }
-        ensures raised { OnOk result (self.old.pivots.window ≤ self.new.pivots.window) }
-        ensures counted { OnOk result ((self.new.applied + self.new.framed) + self.old.step ≡ self.new.step) }
-        ensures asks { OnOk result (C.asks coins.new ≤ C.asks coins.old + self.new.applied) }
-        ensures asks_free { OnOk result (C.asks coins.new + ones self.old.outputs.free.items ≤ C.asks coins.old + ones self.new.outputs.free.items) }
+        ensures costs { OnOk result (Costs (C.asks coins.old) (C.asks coins.new) self.old self.new) }
         ensures asked { C.asks coins.new ≤ C.asks coins.old + all_coins_of (drop self.old.step self.old.cursor.all) }
-        ensures end { IfOk result (IsEnd self.old.tableau.qubits plan self.new copies.now (output_of old.now) strings.now) }
-        ensures soon { OnOk result (EndsSoon self.old.tableau.qubits (C.sequence coins.old) plan self.old.cursor.all copies.now old.now.records.items self.new.step) }
-        ensures few_laid { IfOk result (λ end. spacing_of plan.stride * length self.new.laid.items + self.old.step ≤ self.new.step + spacing_of plan.stride * checkpoints_skipped plan (length copies.now) end) }
+        ensures ended { IfOk result (HasEnded (C.sequence coins.old) plan old.now self.old self.new) }
         ensures err { IfErr result (λ r. r ≡ OutOfMemory) }
     {
         let mut next = plan.next;
-        // The stabiliser that distinguished the state from a checkpoint last, which most likely distinguishes it from the next one too.
-        let mut telling = 0;
+        // The stabiliser by which the state differed from the last checkpoint, which most likely shows that it differs from the
+        // next one too.
+        let mut determining = 0;
         // What checkpoints are expanded into, so that memory for it is asked for once at most.
         let mut spare: Option<Tableau> = None;
-        // Whether frames are propagated, which is so until a string is missing for one. Where rounds lie ahead a state comes again
+        // Whether frames are propagated, which is so until a pivot is missing for one. Where rounds lie ahead a state comes again
         // in less time.
-        let mut leads = !plan.has_rounds_ahead(repeats);
+        let mut frame_is_tried = !plan.has_rounds_ahead(repeats);
         'following: loop {
-            let reached = self.advance(alloc, repeats, copies, old, plan, next, coins)?;
-            match self.arrive(alloc, copies, old, plan, reached, &mut spare, &mut telling)? {
+            let reached = self.advance(alloc, repeats, old, plan, next, coins)?;
+            match self.arrive(alloc, old, plan, reached, &mut spare, &mut determining)? {
                 Arrival::Met => return Ok(End::Joined(reached)),
-                Arrival::Behind => return Ok(End::Last),
+                Arrival::After => return Ok(End::Last),
                 Arrival::Between(later) => next = later,
             }
-            let framed = self.frame_rest(
-                alloc, circuit, copies, old, strings, plan, reached, &mut spare, &mut leads, tried,
-            )?;
-            if let Some(framed) = framed {
-                return Ok(End::Framed(framed));
-            }
-            self.lay(alloc)?;
-            self.come_again(
+            let by_frame = self.frame_rest(
                 alloc,
                 circuit,
-                repeats,
+                old,
                 plan,
-                plan.place(copies, next),
-                coins,
+                reached,
+                &mut spare,
+                &mut frame_is_tried,
+                tried,
             )?;
+            if let Some(by_frame) = by_frame {
+                return Ok(End::Propagated(by_frame));
+            }
+            self.save(alloc)?;
+            let place = plan.place(old.checkpoints, next);
+            self.come_again(alloc, circuit, repeats, plan, place, coins)?;
         }
     }
 }

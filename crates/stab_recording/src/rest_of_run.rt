@@ -11,7 +11,7 @@ ghost use Rattle.stab_recording.specs.RestFrames.{AreInOrder, Stabilise, FramesS
 use crate::checkpoint::Checkpoint;
 use crate::meeting::has_one;
 use crate::propagate::{Stop, propagate_steps};
-use crate::states::framed_checkpoint;
+use crate::states::propagated_checkpoint;
 use stab_edits::Cursor;
 use stab_frames::{Pivots, Propagation};
 use stab_io::Refusal;
@@ -22,18 +22,17 @@ use std::alloc::Global;
 /// How many steps are passed together at most: as many as are left.
 const MOST_TOGETHER: usize = usize::MAX;
 
-/// Propagates a frame over the steps that a cursor has left, from the place of one step of a run on, past
-/// checkpoints of that run's state in order, until it is gone or after the last step. At each checkpoint that it
-/// comes to it makes a copy of that one, conjugated by the frame. If it flipped no record that later steps look
-/// back to, and its letters stabilise the checkpoint with one of their signs, it flips no sign from there on,
-/// and ends; the checkpoint is looked at in the memory of a spare tableau if there is one.
+/// Propagates a frame over the steps that a cursor has left, from one step of a run on, past checkpoints of that run in order,
+/// until the frame is gone or no step is left. At each checkpoint that it comes to it makes a conjugated one. If it flipped no
+/// record that later steps look back to, and its letters stabilise the checkpoint with one of their signs, it flips no sign from
+/// there on, and ends; the checkpoint is expanded into the spare tableau if there is one.
 ///
-/// False if a string is missing. What it made so far is then irrelevant; the steps that it passed are counted like all others.
+/// False if a pivot is missing. What it made so far is then irrelevant; the steps that it passed are counted all the same.
 ///
 /// Refusal `OutOfMemory` alone.
 pub fn propagate_rest(
     alloc: Global,
-    copies: &[Checkpoint],
+    checkpoints: &[Checkpoint],
     from: usize,
     strings: &Pivots,
     free: &[bool],
@@ -42,44 +41,44 @@ pub fn propagate_rest(
     propagation: &mut Propagation,
     conjugated: &mut Vec<CompactTableau>,
     spare: &mut Option<Tableau>,
-    framed: &mut u64,
+    by_frame: &mut u64,
 ) -> Result<bool, Refusal>
     requires same_length { strings.now.qubits ≡ length propagation.old.letters }
     requires fits { All (StepFits (length propagation.old.letters)) cursor.old.left }
     requires placed { IsPlaced free.now propagation.old }
     requires few { propagation.old.coin + length cursor.old.left < 2 ^ 63 }
-    requires same_qubits { All (λ c. c.tableau.qubits ≡ length propagation.old.letters) copies.now }
-    requires order { AreInOrder from (from + length cursor.old.left) copies.now }
+    requires same_qubits { All (λ c. c.tableau.qubits ≡ length propagation.old.letters) checkpoints.now }
+    requires order { AreInOrder from (from + length cursor.old.left) checkpoints.now }
     requires nothing_conjugated { conjugated.old.items ≡ [] }
-    requires few_framed { framed.old + length cursor.old.left < 2 ^ 63 }
-    ensures most { framed.new ≤ framed.old + length cursor.old.left }
-    ensures missing { IfOk result (λ advanced. advanced ≡ false → IsMissing strings.now.strings free.now (propagation.old.coin + all_coins_of (take (framed.new - framed.old) cursor.old.left))) }
+    requires few_propagated { by_frame.old + length cursor.old.left < 2 ^ 63 }
+    ensures most { by_frame.new ≤ by_frame.old + length cursor.old.left }
+    ensures missing { IfOk result (λ advanced. advanced ≡ false → IsMissing strings.now.strings free.now (propagation.old.coin + all_coins_of (take (by_frame.new - by_frame.old) cursor.old.left))) }
     ensures length { length propagation.new.letters ≡ length propagation.old.letters }
-    ensures advanced { IfOk result (λ advanced. advanced ≡ true → IsRestFrame (length propagation.old.letters) strings.now.strings free.now window cursor.old.left from copies.now conjugated.new.items propagation.old propagation.new) }
+    ensures advanced { IfOk result (λ advanced. advanced ≡ true → IsRestFrame (length propagation.old.letters) strings.now.strings free.now window cursor.old.left from checkpoints.now conjugated.new.items propagation.old propagation.new) }
     ensures err { IfErr result (λ r. r ≡ OutOfMemory) }
 {
     let mut at = from;
-    for copy in copies {
+    for checkpoint in checkpoints {
         let propagated = propagate_steps(
             propagation,
             strings,
             free,
             cursor,
-            copy.step - at,
+            checkpoint.step - at,
             window,
             true,
-            framed,
+            by_frame,
         )?;
         match propagated.stop {
             Stop::NoString => return Ok(false),
             Stop::Gone => return Ok(true),
-            Stop::Behind => {}
+            Stop::After => {}
         }
-        if drop_letters(alloc, copy, window, propagation, spare)? {
+        if drop_letters(alloc, checkpoint, window, propagation, spare)? {
             return Ok(true);
         }
-        conjugated.push(framed_checkpoint(alloc, &copy.tableau, propagation.letters())?)?;
-        at = copy.step;
+        conjugated.push(propagated_checkpoint(alloc, &checkpoint.tableau, propagation.letters())?)?;
+        at = checkpoint.step;
     }
     let propagated = propagate_steps(
         propagation,
@@ -89,7 +88,7 @@ pub fn propagate_rest(
         MOST_TOGETHER,
         window,
         true,
-        framed,
+        by_frame,
     )?;
     Ok(propagated.stop != Stop::NoString)
 }
@@ -104,32 +103,32 @@ fn is_quiet(propagation: &Propagation, window: u32) -> bool
     !has_one(newest)
 }
 
-/// Makes all letters of a frame I if it flipped none of the newest records, as many as steps look back to, and
-/// its letters stabilise the state of a checkpoint with one of their signs; and says whether that is so. The checkpoint is looked
-/// at in the memory of a spare tableau if there is one, which is the spare then.
+/// Drops the letters of a frame if it flipped none of the newest records, as many as steps look back to, and its letters stabilise
+/// a checkpoint with one of their signs, since it then flips nothing from there on; true if it did. The checkpoint is expanded into
+/// the spare tableau if there is one, which is the spare then.
 ///
 /// Refusal `OutOfMemory` alone.
 fn drop_letters(
     alloc: Global,
-    copy: &Checkpoint,
+    checkpoint: &Checkpoint,
     window: u32,
     propagation: &mut Propagation,
     spare: &mut Option<Tableau>,
 ) -> Result<bool, Refusal>
-    requires same_qubits { copy.now.tableau.qubits ≡ length propagation.old.letters }
+    requires same_qubits { checkpoint.now.tableau.qubits ≡ length propagation.old.letters }
     ensures length { length propagation.new.letters ≡ length propagation.old.letters }
     ensures quiet { IfOk result (λ dropped. dropped ≡ true → (k : ℕ) → k ≤ window → looked_up propagation.old.flips.records k ≡ false) }
-    ensures stabilise { IfOk result (λ dropped. dropped ≡ true → Stabilise propagation.old.letters copy.now.tableau) }
+    ensures stabilise { IfOk result (λ dropped. dropped ≡ true → Stabilise propagation.old.letters checkpoint.now.tableau) }
     ensures value { IfOk result (λ dropped. dropped ≡ true → propagation.new ≡ record propagation.old { letters = replicate (length propagation.old.letters) I }) }
     ensures unchanged { IfOk result (λ dropped. dropped ≡ false → propagation.new ≡ propagation.old) }
-    ensures conjugate { IfOk result (λ dropped. dropped ≡ false → (1 ≤ ones propagation.old.flips.records) ⊎ FramesSome propagation.old.letters copy.now.tableau) }
+    ensures conjugate { IfOk result (λ dropped. dropped ≡ false → (1 ≤ ones propagation.old.flips.records) ⊎ FramesSome propagation.old.letters checkpoint.now.tableau) }
     ensures err { IfErr result (λ r. r ≡ OutOfMemory) }
 {
     if !is_quiet(propagation, window) {
         return Ok(false);
     }
     let string = string_of(alloc, propagation.letters())?;
-    let mut tableau = copy.tableau.tableau(alloc, spare.take())?;
+    let mut tableau = checkpoint.tableau.tableau(alloc, spare.take())?;
     tableau.stabilises_a_group();
     tableau.stabilisers_generate();
     let sign = tableau.sign_of(&string);

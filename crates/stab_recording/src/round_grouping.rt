@@ -1,4 +1,4 @@
-//! Which rounds of a block are looked at, to see whether they come again: not those of few steps, of which some are taken as one.
+//! Which rounds of a block are compared to find a state that comes again: short rounds are taken several as one.
 
 ghost use Rattle.std.specs.Prelude.{◌≡◌, ◌+◌, ◌*◌, ◌<◌, ◌≤◌, ◌^◌, nat_le, List};
 ghost use Rattle.stab_items.specs.Steps.{Step};
@@ -6,28 +6,27 @@ ghost use Rattle.stab_edits.specs.Repeats.{IsRepeat};
 
 use stab_edits::Repeat;
 
-/// How many rounds of a block are looked at one by one. All others are gone over in one go.
+/// How many rounds of a block are compared one by one; the others are handled as a whole.
 pub const MOST_SINGLE: usize = 64;
 
-/// How many steps a block has at least for its rounds to be looked at.
+/// How many steps a block has at least for its rounds to be compared.
 const LEAST_STEPS: usize = 2048;
 
-/// How many steps a round has at least that is taken by itself: what is done at the end of one costs about as much as some hundred.
+/// How many steps a round has at least that is compared by itself: to compare takes about as long as some hundred steps.
 const LEAST_TOGETHER: usize = 512;
 
-/// How many such rounds there are at least, so that enough are left for what comes again.
+/// How many of the rounds so taken there are at least, so that enough are left to be repeated.
 const LEAST_ROUNDS: usize = 8;
 
-/// Whether a block has enough steps that it is worth looking whether its rounds come again: each look finds its place in
-/// the steps anew.
+/// Whether a block has enough steps that it pays to compare its rounds: each comparison finds its step in the circuit anew.
 pub fn is_long(repeat: Repeat) -> bool
     ensures value { result ≡ nat_le 2048 (repeat.rounds * repeat.length) }
 {
     repeat.rounds.saturating_mul(repeat.length) >= LEAST_STEPS
 }
 
-/// The rounds of a repeat, or, if they are short, as many of them taken as one as make some hundred steps. Rounds that are left at
-/// the end are no part of it.
+/// The rounds of a repeat, or, if they are short, groups of them of some hundred steps, each taken as one round. Rounds that are
+/// left at the end are no part of it.
 pub fn taken_together(repeat: Repeat) -> Repeat
     requires some { 0 < repeat.length }
     requires few { repeat.rounds * repeat.length < 2 ^ 63 }

@@ -7,7 +7,7 @@ ghost use Rattle.stab_gates.specs.Limits.{most_qubits};
 ghost use Rattle.stab_items.specs.Steps.{most_steps, unroll, check_of, check_within};
 ghost use Rattle.stab_edits.specs.Views.{circuit_items};
 ghost use Rattle.stab_edits.specs.Repeats.{IsRepeat, AreRepeats};
-ghost use Rattle.stab_edits.specs.Cursors.{IsApart};
+ghost use Rattle.stab_edits.specs.Cursors.{HasDistinctQubits};
 ghost use Rattle.stab_run.specs.Records.{ones};
 ghost use Rattle.stab_run.specs.Points.{all_coins_of};
 ghost use Rattle.stab_run.specs.ProgramStates.{StepFits};
@@ -26,7 +26,7 @@ use stab_tableau::Tableau;
 use std::alloc::Global;
 
 /// How many rounds a block has at least for a frame to be propagated over some.
-const LEAST_FRAMED: usize = 4;
+const LEAST_PROPAGATED: usize = 4;
 
 /// If no coin decided, a run waits this many rounds for a state that comes again with its signs: what is repeated then costs
 /// nothing.
@@ -35,7 +35,7 @@ const MOST_AWAITED: usize = 8;
 /// Whether a frame can come to be propagated over rounds of a block.
 fn can_have_frame(repeats: &[Repeat]) -> bool {
     for repeat in repeats {
-        if is_long(*repeat) && repeat.rounds >= LEAST_FRAMED {
+        if is_long(*repeat) && repeat.rounds >= LEAST_PROPAGATED {
             return true;
         }
     }
@@ -69,7 +69,7 @@ impl<'a> Replay<'a> {
         requires size { strings.qubits ≡ n }
         requires none { strings.strings ≡ [] }
         ensures own { (coins : ℕ → Bool) → IfOk result (IsOwnRun n coins (unroll (circuit_items circuit.now))) }
-        ensures apart { IfOk result (λ r. All IsApart r.cursor.all) }
+        ensures distinct { IfOk result (λ r. All HasDistinctQubits r.cursor.all) }
         ensures step { IfOk result (λ r. r.step ≡ 0) }
         ensures free { IfOk result (λ r. r.outputs.free.items ≡ []) }
         ensures strings { IfOk result (λ r. r.pivots.strings ≡ strings) }
@@ -87,21 +87,21 @@ impl<'a> Replay<'a> {
             cursor: Cursor::at(alloc, circuit, 0)?,
             step: 0,
             applied: 0,
-            framed: 0,
-            laid: Vec::new(alloc),
+            by_frame: 0,
+            saved: Vec::new(alloc),
         })
     }
 
     /// Whether a frame may be propagated over rounds of a block, of which this many were carried out.
     fn may_frame(&self, round: usize) -> bool {
-        let Some(first) = self.laid.first() else {
+        let Some(first) = self.saved.first() else {
             return false;
         };
         round > MOST_AWAITED || !are_fixed(self.outputs.free.as_slice(), first.lengths.free)
     }
 
-    /// Carries out a round of a block, with this number, if one is left, and gives what those after it give that come again. It keeps a
-    /// copy of the state after the first, second, fourth, eighth one and so on.
+    /// Carries out a round of a block, with this number, if one is left, and repeats what the rounds after it give if their state comes
+    /// again. It keeps a checkpoint of the state after the first, second, fourth, eighth round and so on.
     fn run_round<C: Coins>(
         &mut self,
         alloc: Global,
@@ -131,11 +131,11 @@ impl<'a> Replay<'a> {
             return Ok(());
         }
         self.run_to(alloc, coins, self.step + block.length)?;
-        self.lay(alloc)?;
-        let framed = self.may_frame(round);
-        self.fold(alloc, circuit, block, framed, 1, end, coins)?;
+        self.save(alloc)?;
+        let by_frame = self.may_frame(round);
+        self.fold(alloc, circuit, block, by_frame, 1, end, coins)?;
         let spare = usize::from(!round.is_power_of_two());
-        self.laid.truncate(self.laid.len().saturating_sub(spare));
+        self.saved.truncate(self.saved.len().saturating_sub(spare));
         Ok(())
     }
 
@@ -169,7 +169,7 @@ impl<'a> Replay<'a> {
         for round in 1..=MOST_SINGLE {
             self.run_round(alloc, circuit, block, round, coins)?;
         }
-        self.laid.truncate(0);
+        self.saved.truncate(0);
         Ok(())
     }
 

@@ -3,12 +3,12 @@ ghost use Rattle.stab_io.specs.declared.refusal.Refusal.TheVariants.{OutOfMemory
 ghost use Rattle.stab_tableau.specs.Tableaus.{stabilises};
 ghost use Rattle.stab_tableau.specs.Conjugations.{IsConjugated};
 ghost use Rattle.stab_pauli.specs.Paulis.{single};
-ghost use Rattle.stab_run.specs.Runs.{gate_of as gate_value};
 
 use stab_frames::apply_frame_to;
 use stab_io::Refusal;
 use stab_pauli::Letter;
-use stab_tableau::{CompactTableau, Gate, Tableau};
+use stab_run::as_gate;
+use stab_tableau::{CompactTableau, Tableau};
 use std::alloc::Global;
 
 /// Applies letters, one a qubit, to a state: signs are flipped. It takes no memory.
@@ -31,35 +31,23 @@ fn conjugate_letter(tableau: &mut Tableau, letter: Letter, qubit: usize)
     ensures qubits { tableau.new.qubits ≡ tableau.old.qubits }
     ensures conjugated { IsConjugated tableau.old.qubits (single tableau.old.qubits qubit letter).letters (stabilises tableau.old) (stabilises tableau.new) }
 {
-    tableau.apply(gate_of(letter), qubit);
+    tableau.apply(as_gate(letter), qubit);
 }
 
-/// The Pauli gate of a letter.
-fn gate_of(letter: Letter) -> Gate
-    ensures value { result ≡ gate_value letter }
-{
-    match letter {
-        Letter::I => Gate::I,
-        Letter::X => Gate::X,
-        Letter::Y => Gate::Y,
-        Letter::Z => Gate::Z,
-    }
-}
-
-/// A copy of a kept state, conjugated by letters, one a qubit.
+/// A checkpoint's state, conjugated by letters, one a qubit.
 ///
 /// Refusal `OutOfMemory` alone.
-pub fn framed_checkpoint(
+pub fn propagated_checkpoint(
     alloc: Global,
-    copy: &CompactTableau,
+    checkpoint: &CompactTableau,
     letters: &[Letter],
 ) -> Result<CompactTableau, Refusal>
-    requires same_length { length letters.now ≡ copy.now.qubits }
-    ensures qubits { IfOk result (λ c. c.qubits ≡ copy.now.qubits) }
-    ensures conjugated { IfOk result (λ c. IsConjugated copy.now.qubits letters.now (stabilises copy.now) (stabilises c)) }
+    requires same_length { length letters.now ≡ checkpoint.now.qubits }
+    ensures qubits { IfOk result (λ c. c.qubits ≡ checkpoint.now.qubits) }
+    ensures conjugated { IfOk result (λ c. IsConjugated checkpoint.now.qubits letters.now (stabilises checkpoint.now) (stabilises c)) }
     ensures err { IfErr result (λ r. r ≡ OutOfMemory) }
 {
-    let mut conjugated = copy.copy(alloc)?;
+    let mut conjugated = checkpoint.copy(alloc)?;
     apply_frame_to(&mut conjugated, letters);
     Ok(conjugated)
 }

@@ -32,7 +32,7 @@ pub struct Shot {
 }
 
 /// Carries out all steps of a circuit on n qubits that are 0 at first. Rounds, of a block or written out, are carried out until a state
-/// comes again; from there on they give again what they gave, or a frame is propagated over them. There is room for this many records
+/// comes again; from there on they repeat what they gave, or a frame is propagated over them. There is room for this many records
 /// from the beginning, and there are this many observables.
 ///
 /// Refusal `OutOfMemory` alone.

@@ -1,4 +1,4 @@
-//! A run of a circuit with a string for each of its free outcomes.
+//! A run of a circuit with a pivot for each of its random outcomes.
 
 ghost use Rattle.std.specs.Prelude.{◌≡◌, ◌≤◌, None, IfOk, IfErr};
 ghost use Rattle.stab_io.specs.declared.refusal.Refusal.TheVariants.{OutOfMemory};
@@ -16,7 +16,7 @@ use stab_rounds::find_rounds;
 use stab_run::Coins;
 use std::alloc::Global;
 
-/// A run, and pivots of its free outcomes for the others, the first of them in their order.
+/// A run, and the pivots of its random outcomes: of the first ones, if not all fit.
 #[derive(Drop)]
 pub struct RunWithPivots {
     /// What the run gave.

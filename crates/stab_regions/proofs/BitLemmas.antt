@@ -1,13 +1,14 @@
 -- Bits by their numbers: a bit of a run is that of a detector or an observable, and what the pass finds of a parity is what it
 -- finds of that one.
-use Rattle.stab_regions.proofs.Names.{◌≡◌, ℕ, ◌-◌, ◌<◌, ◌≤◌, ◌⊎◌, inl, inr, sym, ◌∙◌, ap, arith, Bool, false, List, [], ◌++◌, lt-ltb, le-ltb, cases_lt, cond-true, cond-false, get_or_append_left, get_or-append_right, Letter, single, anticommute, strings_anticommute-blank_right, diagonal, Step, detectors_of, State, start, run, RunsArePointsWithOutputs, region_of, region_through, keep_region, asks_nothing, asks_observable, is_deterministic, steps_before_detector, named_by, region_of_detector, detectors_before, parity_region, parity_kept, parity_deterministic, parity_flips, bit, deterministic_bit, parity_bit}
+use Rattle.stab_regions.proofs.Names.{◌≡◌, ℕ, ◌-◌, ◌<◌, ◌≤◌, ◌⊎◌, inl, inr, sym, ◌∙◌, ap, arith, Bool, false, List, [], ◌++◌, lt-ltb, le-ltb, cases_lt, cond-true, cond-false, get_or_append_left, get_or-append_right, Letter, single, anticommute, strings_anticommute-blank_right, diagonal, Step, detectors_of, State, start, run, RunsArePointsWithOutputs, region_of, keep_region, asks_nothing, asks_observable, is_deterministic, steps_before_detector, named_by, region_of_detector, detectors_before, parity_region, parity_kept, parity_deterministic, parity_flips, bit, deterministic_bit, parity_bit}
 use Rattle.std.proofs.Common.{nat_lt}
 use Rattle.std.specs.Prelude.{◌&&◌}
 use Rattle.stab_regions.proofs.DetectorLemmas.{detector_bit, count-detectors}
-use Rattle.stab_regions.proofs.FaultLemmas.{count-append}
 use Rattle.stab_regions.proofs.RandomLemmas.{flips_asked}
 use Rattle.stab_regions.proofs.ObservableLemmas.{observable_bit}
 use Rattle.stab_regions.proofs.TableLemmas.{flips_detector}
+use Rattle.stab_items.proofs.StepLemmas.{detectors_of-append}
+use Rattle.stab_regions.proofs.ParityLemmas.{region-observable, kept-observable, region-front}
 
 -- the bits of a run
 
@@ -27,10 +28,6 @@ module _ (law : RunsArePointsWithOutputs) (n count : ℕ) (coins : ℕ → Bool)
 -- the region of a parity before the last steps, and whether they keep it
 
 module _ (n D i : ℕ) (back : List Step) where
-  -- nothing is asked there about a detector that is before them
-  region-none : i < D → i < detectors_before D back → parity_region n D i back ≡ region_of n []
-  region-none lt before = cond-true (nat_lt i D) _ _ (lt-ltb i D lt) ∙ cond-true (nat_lt i (detectors_before D back)) _ _ (lt-ltb i (detectors_before D back) before)
-
   -- one that is among them has its own region
   region-detector : i < D → detectors_before D back ≤ i → parity_region n D i back ≡ region_of_detector n (i - detectors_before D back) back
   region-detector lt le = cond-true (nat_lt i D) _ _ (lt-ltb i D lt) ∙ cond-false (nat_lt i (detectors_before D back)) _ _ (le-ltb i (detectors_before D back) le)
@@ -39,13 +36,6 @@ module _ (n D i : ℕ) (back : List Step) where
       → parity_kept n D i back
       ≡ keep_region n asks_nothing (steps_before_detector (i - detectors_before D back) back) (region_of n (named_by (i - detectors_before D back) back))
   kept-detector lt le = cond-true (nat_lt i D) _ _ (lt-ltb i D lt) ∙ cond-false (nat_lt i (detectors_before D back)) _ _ (le-ltb i (detectors_before D back) le)
-
-  -- and so has an observable
-  region-observable : D ≤ i → parity_region n D i back ≡ region_through n (asks_observable (i - D)) back (region_of n [])
-  region-observable le = cond-false (nat_lt i D) _ _ (le-ltb i D le)
-
-  kept-observable : D ≤ i → parity_kept n D i back ≡ keep_region n (asks_observable (i - D)) back (region_of n [])
-  kept-observable le = cond-false (nat_lt i D) _ _ (le-ltb i D le)
 
 -- what the pass over all steps finds deterministic
 
@@ -75,7 +65,7 @@ module _ (n i : ℕ) (xs : List Step) where
 module _ (n i : ℕ) (front : List Step) (l : Letter) (q : ℕ) (back : List Step) where
   -- how many detectors are in front of it
   before : detectors_before (detectors_of (front ++ back)) back ≡ detectors_of front
-  before = omega (arith, count-append front back)
+  before = omega (arith, detectors_of-append front back)
 
   pub flips-detector : i < detectors_of (front ++ back) → parity_flips n (detectors_of (front ++ back)) i l q back ≡ flips_detector n i front l q back
   flips-detector lt = by_place (cases_lt i (detectors_of front))
@@ -85,7 +75,7 @@ module _ (n i : ℕ) (front : List Step) (l : Letter) (q : ℕ) (back : List Ste
 
       by_place : (i < detectors_of front) ⊎ (detectors_of front ≤ i) → parity_flips n D i l q back ≡ flips_detector n i front l q back
       by_place (inl less) =
-          ap (λ r. anticommute (single n q l) r.string) (region-none n D i back lt (omega (arith, less, before)))
+          ap (λ r. anticommute (single n q l) r.string) (region-front n D i back lt (omega (arith, less, before)))
           ∙ strings_anticommute-blank_right n (single n q l).letters
           ∙ sym (cond-true (nat_lt i (detectors_of front)) _ _ (lt-ltb i (detectors_of front) less))
       by_place (inr more) =

@@ -85,12 +85,12 @@ HasBits n coins xs p =
     (d : ℕ) → d < detectors_of xs → slice_index_or (outputs n coins xs p).detectors d false ≡ bit_asked n coins asks_nothing (steps_before_detector d xs) (named_by d xs) p
 
 module _ (n : ℕ) (coins : ℕ → Bool) (x : Step) (xs : List Step) (p : Point) (later : HasBits n coins xs (next_point n coins x p)) where
-  abbrev bits_behind : List Bool
-  bits_behind = (outputs n coins xs (next_point n coins x p)).detectors
+  abbrev bits_after : List Bool
+  bits_after = (outputs n coins xs (next_point n coins x p)).detectors
 
   -- the first step's bit comes first, if it has one
-  bits-given : (b : Bool) → is_detector x ≡ b → (outputs n coins (x ∷ xs) p).detectors ≡ when b (parity p.records (named x)) ++ bits_behind
-  bits-given b e = ap (λ bits. bits ++ bits_behind) (detectors-given n coins x p ∙ ap (λ c. when c (parity p.records (named x))) e)
+  bits-given : (b : Bool) → is_detector x ≡ b → (outputs n coins (x ∷ xs) p).detectors ≡ when b (parity p.records (named x)) ++ bits_after
+  bits-given b e = ap (λ bits. bits ++ bits_after) (detectors-given n coins x p ∙ ap (λ c. when c (parity p.records (named x))) e)
 
   -- so each bit has its place
   bits-next : (b : Bool) → is_detector x ≡ b → HasBits n coins (x ∷ xs) p

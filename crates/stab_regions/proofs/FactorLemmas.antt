@@ -12,12 +12,12 @@ on-middle q (g ∷ gs) f rest e = on-middle q gs f rest (or-right (g.qubit == q)
 unequal-swapped : (a b : ℕ) → (a == b) ≡ false → (b == a) ≡ false
 unequal-swapped a b e = grind arith
 
-front-apart : (fs : List Factor) (f : Factor) (rest : List Factor) → names_twice (fs ++ f ∷ rest) ≡ false → is_on f.qubit fs ≡ false
-front-apart [] f rest e = refl
-front-apart (g ∷ gs) f rest e =
+front-distinct : (fs : List Factor) (f : Factor) (rest : List Factor) → names_twice (fs ++ f ∷ rest) ≡ false → is_on f.qubit fs ≡ false
+front-distinct [] f rest e = refl
+front-distinct (g ∷ gs) f rest e =
     ap (λ b. b || is_on f.qubit gs)
     (unequal-swapped f.qubit g.qubit (on-middle g.qubit gs f rest (or-left (is_on g.qubit (gs ++ f ∷ rest)) (names_twice (gs ++ f ∷ rest)) e)))
-    ∙ front-apart gs f rest (or-right (is_on g.qubit (gs ++ f ∷ rest)) (names_twice (gs ++ f ∷ rest)) e)
+    ∙ front-distinct gs f rest (or-right (is_on g.qubit (gs ++ f ∷ rest)) (names_twice (gs ++ f ∷ rest)) e)
 
 -- its letter is put in last
 
@@ -25,7 +25,7 @@ with-last : (fs : List Factor) (f : Factor) (letters : List Letter) → with_fac
 with-last [] f letters = refl
 with-last (g ∷ gs) f letters = with-last gs f (set letters g.qubit (letter_of g.letter))
 
-letter-off : (q : ℕ) (fs : List Factor) (letters : List Letter) → is_on q fs ≡ false → letter_at (with_factors fs letters) q ≡ letter_at letters q
+pub letter-off : (q : ℕ) (fs : List Factor) (letters : List Letter) → is_on q fs ≡ false → letter_at (with_factors fs letters) q ≡ letter_at letters q
 letter-off q [] letters e = refl
 letter-off q (f ∷ fs) letters e =
     letter-off q fs (set letters f.qubit (letter_of f.letter)) (or-right (f.qubit == q) (is_on q fs) e)
@@ -71,7 +71,7 @@ by_product-none n parities x z i s long shows = same (odd i parities)
 pub by_product-more : (n : ℕ) (fs : List Factor) (f : Factor) (parities : List ℕ) (old_x old_z mid_x mid_z new_x new_z : List (List ℕ)) → is_on f.qubit fs ≡ false
     → MovesLetters n (by_product n fs parities) old_x old_z mid_x mid_z → MovesLetters n (multiplied n (letter_of f.letter) f.qubit parities) mid_x mid_z new_x new_z
     → MovesLetters n (by_product n (fs ++ f ∷ []) parities) old_x old_z new_x new_z
-by_product-more n fs f parities old_x old_z mid_x mid_z new_x new_z apart first next i s long shows =
+by_product-more n fs f parities old_x old_z mid_x mid_z new_x new_z distinct first next i s long shows =
     both (odd i parities)
     (next i (by_product n fs parities i s) (length-times n (odd i parities) (string_of n fs) s (length-string_of n fs) long) (first i s long shows))
   where
@@ -79,7 +79,7 @@ by_product-more n fs f parities old_x old_z mid_x mid_z new_x new_z apart first 
         → ShowsLetters i new_x new_z (times_where b (string_of n (fs ++ f ∷ [])) s).letters
     both true shows =
         subst (ShowsLetters i new_x new_z)
-        (sym (ap (λ ls. string_product ls s.letters) (string-last n fs f apart)
+        (sym (ap (λ ls. string_product ls s.letters) (string-last n fs f distinct)
         ∙ string_product-assoc (single n f.qubit (letter_of f.letter)).letters (string_of n fs).letters s.letters))
         shows
     both false shows = shows
@@ -118,14 +118,14 @@ flips-none n s = sym (strings_anticommute-blank n s.letters)
 
 pub flips-more : (n : ℕ) (fs : List Factor) (f : Factor) (s : Signed) → is_on f.qubit fs ≡ false
     → anticommute (string_of n fs) s ⊕ anticommute (single n f.qubit (letter_of f.letter)) s ≡ anticommute (string_of n (fs ++ f ∷ [])) s
-flips-more n fs f s apart =
+flips-more n fs f s distinct =
     parity-comm (anticommute (string_of n fs) s) (anticommute (single n f.qubit (letter_of f.letter)) s)
     ∙ sym (strings_anticommute-product (single n f.qubit (letter_of f.letter)).letters (string_of n fs).letters s.letters)
-    ∙ ap (λ ls. strings_anticommute ls s.letters) (sym (string-last n fs f apart))
+    ∙ ap (λ ls. strings_anticommute ls s.letters) (sym (string-last n fs f distinct))
 
 -- one more factor, which is on none of the qubits of those before it
 
-pub place-apart : (fs : List Factor) (k : ℕ) (d : Factor) → k < length fs → names_twice fs ≡ false → is_on (get_or fs k d).qubit (take k fs) ≡ false
-place-apart fs k d lt e =
-    front-apart (take k fs) (get_or fs k d) (drop (suc k) fs)
+pub place-distinct : (fs : List Factor) (k : ℕ) (d : Factor) → k < length fs → names_twice fs ≡ false → is_on (get_or fs k d).qubit (take k fs) ≡ false
+place-distinct fs k d lt e =
+    front-distinct (take k fs) (get_or fs k d) (drop (suc k) fs)
     (ap (λ rest. names_twice (take k fs ++ rest)) (sym (drop-cons fs k d lt)) ∙ ap names_twice (take-append-drop k fs) ∙ e)

@@ -4,6 +4,7 @@ use Rattle.std.specs.Prelude.{◌&&◌}
 use Rattle.std.proofs.lemmas.Bool.{ne_eqb}
 use Rattle.stab_gates.specs.declared.letter.Letter.TheVariants as letter
 use Rattle.stab_regions.proofs.InsertedLemmas.{faults-within}
+use Rattle.std.proofs.Math.Bool.{and-false}
 
 -- a list of the numbers with a property names just those
 
@@ -11,10 +12,6 @@ use Rattle.stab_regions.proofs.InsertedLemmas.{faults-within}
 odd-step : (f : ℕ → Bool) (i k m : ℕ) (b : Bool) → f i ≡ b → odd m (numbers_where f i (suc k)) ≡ (b && (i == m)) ⊕ odd m (numbers_where f (i + 1) k)
 odd-step f i k m true e = ap (λ c. odd m (if c then i ∷ numbers_where f (i + 1) k else numbers_where f (i + 1) k)) e
 odd-step f i k m false e = ap (λ c. odd m (if c then i ∷ numbers_where f (i + 1) k else numbers_where f (i + 1) k)) e
-
-and-false : (b : Bool) → (b && false) ≡ false
-and-false true = refl
-and-false false = refl
 
 and-true : (b : Bool) → (b && true) ≡ b
 and-true true = refl
@@ -53,7 +50,7 @@ before-end false t end le = omega (arith, le)
 sites-fit : (end t : ℕ) (ss : List Site) → t + 1 ≤ end → All (λ f. f.before ≤ end) (flat_map (faults_on t) ss)
 sites-fit end t [] le = All-nil (λ f. f.before ≤ end)
 sites-fit end t (s ∷ ss) le =
-    let here : (if s.behind then t + 1 else t) ≤ end = before-end s.behind t end le in
+    let here : (if s.following then t + 1 else t) ≤ end = before-end s.following t end le in
     let rest : List FaultPlace = flat_map (faults_on t) ss in
     All-cons (λ f. f.before ≤ end) (fault_on t s letter.X) (fault_on t s letter.Z ∷ rest) here
     (All-cons (λ f. f.before ≤ end) (fault_on t s letter.Z) rest here (sites-fit end t ss le))

@@ -1,5 +1,5 @@
 -- Fault tables: bits that the pass finds deterministic are so, and its rows, of which these bits are kept, are those that faults flip.
-use Rattle.stab_regions.proofs.Names.{◌≡◌, ℕ, ◌+◌, ◌<◌, refl, sym, ap, ◌∙◌, subst, Bool, true, false, List, [], ◌∷◌, map, length, reverse, arith, All, slice_index_or, reverse_aux, All-head, All-tail, Items, Step, unroll, observables_of, detectors_of, StepFits, odd, parity_deterministic, Site, FaultPlace, faults_of, sites_at, bits_in, IsDeterministic, AreDeterministic, flips, flipped, DeterministicParities, PlacesFlipDeterministicParities, Regions, is_kept, kept_of, IsRegionsAt, TellDeterministic, Inserted, inserted_from, IsRowOf, HaveRows, zero-add, range_with_len, length-map-range_with_len, get_or-map-range_with_len}
+use Rattle.stab_regions.proofs.Names.{◌≡◌, ℕ, ◌+◌, ◌<◌, refl, sym, ap, ◌∙◌, subst, Bool, true, false, List, [], ◌∷◌, map, length, reverse, arith, All, slice_index_or, reverse_aux, All-head, All-tail, Items, Step, unroll, observables_of, detectors_of, StepFits, odd, parity_deterministic, Site, FaultPlace, faults_of, sites_at, bits_in, IsDeterministic, AreDeterministic, flips, flipped, DeterministicParities, PlacesFlipDeterministicParities, Regions, is_kept, kept_of, IsRegionsAt, DetermineDeterministic, Inserted, inserted_from, IsRowOf, HaveRows, zero-add, range_with_len, length-map-range_with_len, get_or-map-range_with_len}
 use Rattle.std.specs.Prelude.{◌&&◌, ◌↔◌}
 use Rattle.stab_regions.proofs.AscentLemmas.{ascends-below, ascending-is, kept-where, where-same}
 use Rattle.stab_regions.proofs.InsertedLemmas.{inserted_of, inserted-are, inserted-same, faults-within}
@@ -23,13 +23,13 @@ deterministic-found law n items fits =
       are-deterministic n items deterministic law fits (length-map-range_with_len found 0 (bits_in items)) (λ i lt. get_or-map-range_with_len found 0 (bits_in items) i i false lt (zero-add i)),
     )
 
-pub tell-long : (n : ℕ) (items : Items) (r : Regions) (deterministic : List Bool) → TellDeterministic r deterministic → IsRegionsAt n (detectors_of (unroll items)) (observables_of items) (unroll items) r →
+pub determine-long : (n : ℕ) (items : Items) (r : Regions) (deterministic : List Bool) → DetermineDeterministic r deterministic → IsRegionsAt n (detectors_of (unroll items)) (observables_of items) (unroll items) r →
     length deterministic ≡ bits_in items
-tell-long n items r deterministic tells at = tells.count ∙ at.marks
+determine-long n items r deterministic determines at = determines.count ∙ at.marks
 
-pub tell-found : (n : ℕ) (items : Items) (r : Regions) (deterministic : List Bool) → TellDeterministic r deterministic → IsRegionsAt n (detectors_of (unroll items)) (observables_of items) (unroll items) r →
+pub determine-found : (n : ℕ) (items : Items) (r : Regions) (deterministic : List Bool) → DetermineDeterministic r deterministic → IsRegionsAt n (detectors_of (unroll items)) (observables_of items) (unroll items) r →
     AreFound n items deterministic
-tell-found n items r deterministic tells at = tells.value n (detectors_of (unroll items)) (observables_of items) (unroll items) at
+determine-found n items r deterministic determines at = determines.value n (detectors_of (unroll items)) (observables_of items) (unroll items) at
 
 -- one row
 

@@ -83,7 +83,7 @@ abbrev pub inserted_of : List Step → FaultPlace → Inserted
 inserted_of xs f = record { letter = f.letter; qubit = f.qubit; back = drop f.before xs }
 
 places-on : (xs back : List Step) (x : Step) (t q : ℕ) (b : Bool) → drop t xs ≡ x ∷ back → drop (t + 1) xs ≡ back →
-    inserted_on q (if b then back else x ∷ back) ≡ map (inserted_of xs) (faults_on t (record { qubit = q; behind = b }))
+    inserted_on q (if b then back else x ∷ back) ≡ map (inserted_of xs) (faults_on t (record { qubit = q; following = b }))
 places-on xs back x t q true here there = ap (inserted_on q) (sym there)
 places-on xs back x t q false here there = ap (inserted_on q) (sym here)
 
@@ -91,7 +91,7 @@ places-at : (xs back : List Step) (x : Step) (t : ℕ) (ss : List Site) → drop
     flat_map (inserted_at x back) ss ≡ map (inserted_of xs) (flat_map (faults_on t) ss)
 places-at xs back x t [] here there = refl
 places-at xs back x t (s ∷ ss) here there =
-    (λ i. places-on xs back x t s.qubit s.behind here there i ++ places-at xs back x t ss here there i)
+    (λ i. places-on xs back x t s.qubit s.following here there i ++ places-at xs back x t ss here there i)
     ∙ sym (map-append (inserted_of xs) (faults_on t s) (flat_map (faults_on t) ss))
 
 pub inserted-are : (everywhere : Bool) (xs ys : List Step) (t : ℕ) → drop t xs ≡ ys →

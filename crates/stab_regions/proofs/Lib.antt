@@ -31,6 +31,6 @@ mod BitLemmas
 mod FaultBitLemmas
 mod TwoFaultLemmas
 mod ManyFaultLemmas
-pub mod TurnedLemmas
+pub mod NegatedLemmas
 pub mod PassLemmas
 pub mod FaultSumLemmas

@@ -39,14 +39,14 @@ module _ (f : FaultPlace) (fs : List FaultPlace) where
   no-gate t other = ap (λ b. if b then its_gate ∷ gates_at t fs else gates_at t fs) (ne_eqb f.before t other)
 
   -- steps after its place are without its gate
-  gone-behind : (t : ℕ) (xs : List Step) → f.before < t → with_gates_from t (f ∷ fs) xs ≡ with_gates_from t fs xs
-  gone-behind t [] lt = no-gate t (λ e. omega (arith, e, lt))
-  gone-behind t (x ∷ xs) lt = (λ i. no-gate t (λ e. omega (arith, e, lt)) i ++ x ∷ gone-behind (t + 1) xs (omega (arith, lt)) i)
+  gone-following : (t : ℕ) (xs : List Step) → f.before < t → with_gates_from t (f ∷ fs) xs ≡ with_gates_from t fs xs
+  gone-following t [] lt = no-gate t (λ e. omega (arith, e, lt))
+  gone-following t (x ∷ xs) lt = (λ i. no-gate t (λ e. omega (arith, e, lt)) i ++ x ∷ gone-following (t + 1) xs (omega (arith, lt)) i)
 
   -- those from its place on have it first
   first-there : (t : ℕ) (xs : List Step) → f.before ≡ t → with_gates_from t (f ∷ fs) xs ≡ its_gate ∷ with_gates_from t fs xs
   first-there t [] e = gate-here t e
-  first-there t (x ∷ xs) e = (λ i. gate-here t e i ++ x ∷ gone-behind (t + 1) xs (omega (arith, e)) i)
+  first-there t (x ∷ xs) e = (λ i. gate-here t e i ++ x ∷ gone-following (t + 1) xs (omega (arith, e)) i)
 
   -- and those in front of it are without
   not-yet : (t : ℕ) (xs : List Step) → t + length xs ≤ f.before → front_with t (f ∷ fs) xs ≡ front_with t fs xs
@@ -96,7 +96,7 @@ module _ (law : RunsArePointsWithOutputs) (n count i : ℕ) (front : List Step) 
         k = f.before - t
 
         by_place : (f.before < t) ⊎ (t ≤ f.before) → Alike n count i front l q back (with_gates_from t (f ∷ fs) back)
-        by_place (inl less) = subst (Alike n count i front l q back) (sym (gone-behind f fs t back less)) a
+        by_place (inl less) = subst (Alike n count i front l q back) (sym (gone-following f fs t back less)) a
         by_place (inr more) =
             let within : k ≤ length back = omega (arith, more, fit.before, long, length-append front back) in
             let there : f.before ≡ t + length (take k back) = omega (arith, more, length-take-le k back within) in
@@ -128,11 +128,11 @@ flips-still law n count i f front back long lt deterministic fs fit coins =
     let rest : List Step = with_gates_from f.before fs back in
     let all : Alike n count i [] f.letter f.qubit (front ++ back) (with_gates fs (front ++ back)) =
     faults-alike law n count i [] f.letter f.qubit lt (front ++ back) 0 refl deterministic fs fit in
-    let behind : Alike n count i front f.letter f.qubit back rest = faults-alike law n count i front f.letter f.qubit lt back f.before long deterministic fs fit in
+    let following : Alike n count i front f.letter f.qubit back rest = faults-alike law n count i front f.letter f.qubit lt back f.before long deterministic fs fit in
     ap (λ ys. bit n count coins ys i ⊕ bit n count coins (with_gates fs (front ++ back)) i) (put-in f fs 0 front back there)
     ∙ letter-flips law n count mid f.letter f.qubit rest i (with_gates fs (front ++ back)) (in-parts 0 fs front back f.before there) all.deterministic lt coins coins
     ∙ ap (λ d. parity_flips n d i f.letter f.qubit rest) all.detectors
-    ∙ behind.flips
+    ∙ following.flips
     ∙ sym (letter-flips law n count front f.letter f.qubit back i (front ++ back) refl deterministic lt coins coins)
 
 -- one bit more

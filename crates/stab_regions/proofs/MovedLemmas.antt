@@ -1,8 +1,10 @@
--- Moved points: points that differ by a frame lead, by flipped coins, to points that differ by the frame after the steps.
+-- Moved points: points that differ by a frame come, by flipped coins, to points that differ by the frame after the steps.
 use Rattle.stab_regions.proofs.Names.{◌≡◌, ◌≢◌, ℕ, ◌+◌, ◌<◌, refl, sym, ◌∙◌, ap, arith, Bool, true, false, not, ◌&&◌, ◌||◌, List, [], ◌∷◌, ◌++◌, append-nil, length, if◌then◌else◌, Letter, ◌⊕◌, Signed, single, minus, with_sign, anticommute, times, parity-assoc, parity-false, signed_path, anticommute-product, anticommute-comm, length-product, Gate, PairGate, inverse, image, image_pair, back, back_pair, Event, applied, applied_pair, projected, member, outcome, IsStabiliserGroup, length-one_letter, IsSymmetry-image, IsSymmetry-pair, image-length, pair-length, image-back, pair-undone, anticommute-product_right, group-member, Step, one, two, controlled, collapse, product, detector, observable, length-string_of, IsGood, sign-sign, looked_up, when, string_of, flip_of, applied_where, outcome_at, Point, next_point, StepFits, times_where, Frame, frame_after, IsConjugated}
 use Rattle.stab_regions.proofs.SignLemmas.{image-sign, pair-sign, product-signs, member-where}
 use Rattle.stab_regions.proofs.LookLemmas.{look-flipped}
 use Rattle.stab_regions.proofs.ReadLemmas.{length-times}
+use Rattle.stab_frames.proofs.FlipLemmas.{and-parity}
+use Rattle.stab_frames.proofs.MeasuredLemmas.{opposite}
 
 -- what a string anticommutes with after a gate
 
@@ -13,9 +15,9 @@ moved-gate n q g f s lf ls =
 
 pub moved-pair : (n a b : ℕ) (g : PairGate) → a < n → b < n → b ≢ a → (f s : Signed) → length f.letters ≡ n → length s.letters ≡ n
     → anticommute (image_pair g a b f) s ≡ anticommute f (back_pair g a b s)
-moved-pair n a b g lt_a lt_b apart f s lf ls =
-    ap (anticommute (image_pair g a b f)) (sym (pair-undone g a b s (omega (arith, ls)) (omega (arith, ls)) apart))
-    ∙ (IsSymmetry-pair n g a b lt_a lt_b apart).keeps_parity f (image_pair g a b s) lf (pair-length g a b s ∙ ls)
+moved-pair n a b g lt_a lt_b distinct f s lf ls =
+    ap (anticommute (image_pair g a b f)) (sym (pair-undone g a b s (omega (arith, ls)) (omega (arith, ls)) distinct))
+    ∙ (IsSymmetry-pair n g a b lt_a lt_b distinct).keeps_parity f (image_pair g a b s) lf (pair-length g a b s ∙ ls)
 
 pub anticommute-times : (bit : Bool) (m f s : Signed) → anticommute (times_where bit m f) s ≡ (bit && anticommute m s) ⊕ anticommute f s
 anticommute-times true m f s = anticommute-product m f s
@@ -45,9 +47,9 @@ module _ (n : ℕ) (f : Signed) (lf : length f.letters ≡ n) (t u : List Event)
 
   conjugated-pair : (g : PairGate) (a b : ℕ) → a < n → b < n → b ≢ a
       → IsConjugated n (image_pair g a b f).letters (member (applied_pair g a b ∷ t)) (member (applied_pair g a b ∷ u))
-  conjugated-pair g a b lt_a lt_b apart s ls =
+  conjugated-pair g a b lt_a lt_b distinct s ls =
       moved (back_pair g a b s) (pair-length g a b s ∙ ls)
-      ∙ ap (λ c. member t (with_sign c (back_pair g a b s))) (sym (moved-pair n a b g lt_a lt_b apart f s lf ls))
+      ∙ ap (λ c. member t (with_sign c (back_pair g a b s))) (sym (moved-pair n a b g lt_a lt_b distinct f s lf ls))
       ∙ ap (member t) (sym (pair-sign g a b (anticommute (image_pair g a b f) s) s))
 
   conjugated-where : (l : Letter) (q : ℕ) (bit other flip : Bool) → q < n → other ≡ bit ⊕ flip
@@ -76,30 +78,24 @@ module _ (n : ℕ) (f : Signed) (lf : length f.letters ≡ n) (t u : List Event)
 
       beside : anticommute m s ≡ false
           → with_sign (anticommute f (times (with_sign other m) s)) (times (with_sign other m) s) ≡ times (with_sign o m) (with_sign (anticommute f s) s)
-      beside apart =
-          (λ i. with_sign (anticommute-product_right f (with_sign other m) s i) (product-signs other false m s apart i))
+      beside distinct =
+          (λ i. with_sign (anticommute-product_right f (with_sign other m) s i) (product-signs other false m s distinct i))
           ∙ sign-sign _ _ (times m s)
           ∙ ap (λ x. with_sign x (times m s))
           (ap (λ x. (anticommute f m ⊕ anticommute f s) ⊕ x) (parity-false other ∙ e ∙ ap (λ x. o ⊕ x) (anticommute-comm m f))
           ∙ signs (anticommute f m) (anticommute f s) o)
-          ∙ sym (product-signs o (anticommute f s) m s apart)
+          ∙ sym (product-signs o (anticommute f s) m s distinct)
 
       by_side : (a : Bool) → anticommute m s ≡ a
           → (not (anticommute m s) && (member u s || member u (times (with_sign other m) s)))
           ≡ (not (anticommute m s) && (member t (with_sign (anticommute f s) s) || member t (times (with_sign o m) (with_sign (anticommute f s) s))))
-      by_side true apart =
-          ap (λ a. not a && (member u s || member u (times (with_sign other m) s))) apart
-          ∙ sym (ap (λ a. not a && (member t (with_sign (anticommute f s) s) || member t (times (with_sign o m) (with_sign (anticommute f s) s)))) apart)
-      by_side false apart =
-          λ i. not (anticommute m s) && (moved s ls i || (moved (times (with_sign other m) s) (length-product n (with_sign other m) s lm ls) ∙ ap (member t) (beside apart)) i)
+      by_side true distinct =
+          ap (λ a. not a && (member u s || member u (times (with_sign other m) s))) distinct
+          ∙ sym (ap (λ a. not a && (member t (with_sign (anticommute f s) s) || member t (times (with_sign o m) (with_sign (anticommute f s) s)))) distinct)
+      by_side false distinct =
+          λ i. not (anticommute m s) && (moved s ls i || (moved (times (with_sign other m) s) (length-product n (with_sign other m) s lm ls) ∙ ap (member t) (beside distinct)) i)
 
 -- outcomes differ if the string anticommutes with what is measured, and a coin that decides is flipped with them
-
-choice-flipped : (x y c : Bool) → (x ≡ true → y ≡ false) → (if y then false else (if x then true else not c)) ≡ not (if x then false else (if y then true else c))
-choice-flipped true true c apart = let e : true ≡ false = apart refl in cc
-choice-flipped true false c apart = refl
-choice-flipped false true c apart = refl
-choice-flipped false false c apart = refl
 
 outcome-flipped : (n : ℕ) (f m : Signed) (t u : List Event) → IsGood n t → IsConjugated n f.letters (member t) (member u) → length m.letters ≡ n → (c : Bool)
     → outcome u m (c ⊕ anticommute m f) ≡ outcome t m c ⊕ anticommute m f
@@ -120,7 +116,7 @@ outcome-flipped n f m t u good moved lm c = by_side (anticommute m f) refl
         ∙ sym (ap (λ x. outcome t m c ⊕ x) e ∙ parity-false (outcome t m c))
     by_side true e =
         (λ i. if plain true e i then false else (if (other true e ∙ ap (member t) (signed_path _ _ (twice m.negative) refl)) i then true else (ap (λ x. c ⊕ x) e ∙ odd c) i))
-        ∙ choice-flipped (member t m) (member t (minus m)) c (group.one_sign m lm)
+        ∙ opposite (member t m) (member t (minus m)) c (group.one_sign m lm)
         ∙ sym (ap (λ x. outcome t m c ⊕ x) e ∙ odd (outcome t m c))
       where
         odd : (x : Bool) → x ⊕ true ≡ not x
@@ -189,17 +185,13 @@ module _ (n : ℕ) (coins others : ℕ → Bool) (f : Frame) (long : length f.st
     group =
         conjugated-where n f.string long _ _
         (conjugated-projected n f.string long p.trace moved.trace is.group (single n q l) _ _ (length-one_letter n q l) flipped)
-        (flip_of l) q _ _ (resets && anticommute (single n q l) f.string) fits (ap (λ o. resets && o) flipped ∙ spread resets _ _);
+        (flip_of l) q _ _ (resets && anticommute (single n q l) f.string) fits (ap (λ o. resets && o) flipped ∙ and-parity resets _ _);
     coin = ap (λ t. t + 1) is.coin;
     records = records-when recorded inverted (anticommute (single n q l) f.string) _ _ flipped;
   }
     where
       flipped : outcome_at others (single n q l) moved.trace moved.coin ≡ outcome_at coins (single n q l) p.trace p.coin ⊕ anticommute (single n q l) f.string
       flipped = outcome-moved (single n q l) (length-one_letter n q l) flip
-
-      spread : (here x y : Bool) → (here && (x ⊕ y)) ≡ (here && x) ⊕ (here && y)
-      spread true x y = refl
-      spread false x y = refl
   moved-next (product factors inverted) fits flip = record {
     group = conjugated-projected n f.string long p.trace moved.trace is.group (string_of n factors) _ _ (length-string_of n factors) flipped;
     coin = ap (λ t. t + 1) is.coin;

@@ -13,7 +13,7 @@ pub use Rattle.std.proofs.lemmas.List.Elements.{All-nil, All-cons, All-append, A
 pub use Rattle.std.specs.List.{flat_map, list_any, range_with_len}
 pub use Rattle.std.specs.Prelude.{Option, Some, ◌==◌, if◌then◌else◌, All, nat_lt, slice_index_or, replicate, Result, Ok, Err, OnOk, slice_set, None, slice_index}
 pub use Rattle.std.specs.Vec.{with_items}
-pub use Rattle.stab_edits.specs.Cursors.{IsApart, step_shown}
+pub use Rattle.stab_edits.specs.Cursors.{HasDistinctQubits, step_shown}
 pub use Rattle.stab_items.specs.Items.{Items, done, next, block}
 pub use Rattle.stab_items.specs.Steps.{Step, one, two, collapse, detector, observable, measured, product as measured_product, controlled_step, steps_of, rounds, unroll, past, named_observables, observables_of, detectors_of, controlled, product, is_detector, factor_qubits, check_of}
 pub use Rattle.stab_edits.specs.Views.{circuit_items}
@@ -61,7 +61,7 @@ pub use Rattle.stab_tableau.specs.Groups.{IsStabiliserGroup}
 pub use Rattle.stab_tableau.specs.Traces.{diagonal, Event, applied, applied_pair, projected, member, outcome}
 pub use mathlib.Core.List.{reverse_aux}
 pub use Rattle.stab_regions.specs.FaultLaws.{DeterministicParities, DeterministicParityBits, with_fault, DiffersAsFound, FaultsFlipParities, PlacesFlipDeterministicParities, FaultFits, flips_together, FaultsAdd}
-pub use Rattle.stab_regions.specs.Faults.{numbers_where, bit, Site, FaultPlace, in_front, fault_on, faults_on, faults_from, faults_of, sites_at, bits_in, IsDeterministic, IsFaultTable, flips, flipped, fault_at, RowsAdd, AreDeterministic, with_gate, gates_at, with_gates_from, with_gates, behind, marked_at, all_at}
+pub use Rattle.stab_regions.specs.Faults.{numbers_where, bit, Site, FaultPlace, in_front, fault_on, faults_on, faults_from, faults_of, sites_at, bits_in, IsDeterministic, IsFaultTable, flips, flipped, fault_at, RowsAdd, AreDeterministic, with_gate, gates_at, with_gates_from, with_gates, following, marked_at, all_at}
 pub use Rattle.stab_regions.specs.Frames.{Frame, frame_after, flipped_coins, all_flipped_coins, flipped_from, flipped_with}
 pub use Rattle.stab_regions.specs.Laws.{bit_asked, DeterministicBits, RandomBits}
 pub use Rattle.stab_regions.specs.Parities.{detectors_before, parity_region, parity_kept, parity_deterministic, parity_bit, parity_flips}
@@ -73,7 +73,7 @@ pub use Rattle.stab_regions.specs.declared.sites.Asked.{Asked}
 pub use Rattle.stab_regions.specs.declared.sites.Asked.TheVariants.{Nowhere, Marked, Everywhere}
 pub use Rattle.stab_regions.specs.declared.sites.Sides.{Sides}
 pub use Rattle.stab_regions.specs.declared.sweep.Sweep.{Sweep}
-pub use Rattle.stab_regions.specs.inner.RegionsAt.{IsRegionsAt, TellDeterministic, AreFlipped, Shows, HasParity, asked_of, in_front_of, MovesBack, MovesTo}
+pub use Rattle.stab_regions.specs.inner.RegionsAt.{IsRegionsAt, DetermineDeterministic, AreFlipped, Shows, HasParity, asked_of, in_front_of, MovesBack, MovesTo}
 pub use Rattle.stab_regions.specs.inner.Sites.{where_asked, sites_asked, step_qubits, sides_asked}
 pub use Rattle.stab_regions.specs.inner.StoredRows.{is_kept, kept_of, rows_cut, Rises, ends_kept}
-pub use Rattle.stab_regions.specs.inner.Sweeps.{NamesBelow, Inserted, inserted_from, IsRowOf, HaveRows, inserted_on, inserted_at, AreKept, inserted_by, IsSwept, MayPass, StandsBehind, Sweeps}
+pub use Rattle.stab_regions.specs.inner.Sweeps.{NamesBelow, Inserted, inserted_from, IsRowOf, HaveRows, inserted_on, inserted_at, AreKept, inserted_by, IsSwept, MayPass, StandsAfter, Sweeps}

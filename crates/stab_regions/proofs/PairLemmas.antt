@@ -37,7 +37,7 @@ row-moves-pair : (i : ℕ) (p : Letter) (old new : List (List ℕ)) (letters : L
     → ((k : ℕ) → k ≢ a → k ≢ b → row new k ≡ row old k)
     → ((k : ℕ) → odd i (row old k) ≡ letters_anticommute p (letter_at letters k))
     → (k : ℕ) → odd i (row new k) ≡ letters_anticommute p (letter_at (set (set letters a l) b m) k)
-row-moves-pair i p old new letters a b l m la lb apart first second elsewhere shows k = at (cases_eq k b) (cases_eq k a)
+row-moves-pair i p old new letters a b l m la lb distinct first second elsewhere shows k = at (cases_eq k b) (cases_eq k a)
   where
     inside : b < length (set letters a l)
     inside = subst (λ n. b < n) (sym (length-set letters a l)) lb
@@ -78,7 +78,7 @@ to-second g l m p = ap (letters_anticommute p) (sym (second_controlled g l m))
 
 pub pair-moves : (g : PairGate) (n a b : ℕ) (old_x old_z new_x new_z : List (List ℕ)) → a < n → b < n → b ≢ a
     → MixesPair (controlled_letter g) a b old_x old_z new_x new_z → MovesLetters n (λ i. back_pair g a b) old_x old_z new_x new_z
-pair-moves g n a b old_x old_z new_x new_z la lb apart w i s long shows =
+pair-moves g n a b old_x old_z new_x new_z la lb distinct w i s long shows =
     let ia : a < length s.letters = subst (λ j. a < j) (sym long) la in
     let ib : b < length s.letters = subst (λ j. b < j) (sym long) lb in
     let l = letter_at s.letters a in
@@ -87,14 +87,14 @@ pair-moves g n a b old_x old_z new_x new_z la lb apart w i s long shows =
     let t = mixed c l m in
     let bits = λ (f : Bool → Bool → Bool → Bool → Bool). same-bits f _ _ _ _ _ _ _ _ (shows.x a) (shows.z a) (shows.x b) (shows.z b) in
     record {
-      x = row-moves-pair i X old_x new_x s.letters a b _ _ ia ib apart (w.x_first i ∙ bits (first_x c) ∙ sym t.x_first ∙ to-first g l m X) (w.x_second i ∙ bits (second_x c) ∙ sym t.x_second ∙ to-second g l m X) w.x_elsewhere shows.x;
-      z = row-moves-pair i Z old_z new_z s.letters a b _ _ ia ib apart (w.z_first i ∙ bits (first_z c) ∙ sym t.z_first ∙ to-first g l m Z) (w.z_second i ∙ bits (second_z c) ∙ sym t.z_second ∙ to-second g l m Z) w.z_elsewhere shows.z;
+      x = row-moves-pair i X old_x new_x s.letters a b _ _ ia ib distinct (w.x_first i ∙ bits (first_x c) ∙ sym t.x_first ∙ to-first g l m X) (w.x_second i ∙ bits (second_x c) ∙ sym t.x_second ∙ to-second g l m X) w.x_elsewhere shows.x;
+      z = row-moves-pair i Z old_z new_z s.letters a b _ _ ia ib distinct (w.z_first i ∙ bits (first_z c) ∙ sym t.z_first ∙ to-first g l m Z) (w.z_second i ∙ bits (second_z c) ∙ sym t.z_second ∙ to-second g l m Z) w.z_elsewhere shows.z;
     }
 
 pub pair-moves-as : (g : PairGate) (c : Option Letter) → controlled_letter g ≡ c → (n a b : ℕ) (old_x old_z new_x new_z : List (List ℕ)) → a < n → b < n → b ≢ a
     → MixesPair c a b old_x old_z new_x new_z → MovesLetters n (λ i. back_pair g a b) old_x old_z new_x new_z
-pair-moves-as g c e n a b old_x old_z new_x new_z la lb apart w =
-    pair-moves g n a b old_x old_z new_x new_z la lb apart (subst (λ k. MixesPair k a b old_x old_z new_x new_z) (sym e) w)
+pair-moves-as g c e n a b old_x old_z new_x new_z la lb distinct w =
+    pair-moves g n a b old_x old_z new_x new_z la lb distinct (subst (λ k. MixesPair k a b old_x old_z new_x new_z) (sym e) w)
 
 other-way : (a b : ℕ) → b ≢ a → a ≢ b
 other-way a b ne e = ne (sym e)
@@ -104,10 +104,10 @@ pub control-mixes : (l : Letter) (a b : ℕ) (old_x old_z one_x two_x new_x new_
     → TogglesWhere (letters_anticommute l Z) old_x one_x a (row old_x b) → TogglesWhere (letters_anticommute l X) one_x two_x a (row old_z b)
     → TogglesWhere (letters_anticommute l X) two_x new_x b (row old_z a) → TogglesWhere (letters_anticommute l Z) old_z new_z b (row old_z a)
     → MixesPair (Some l) a b old_x old_z new_x new_z
-control-mixes l a b old_x old_z one_x two_x new_x new_z apart f g s z = record {
-  x_first = λ i. ap (odd i) (s.elsewhere a (other-way a b apart)) ∙ g.here i ∙ ap (λ x. x ⊕ (letters_anticommute l X && odd i (row old_z b))) (f.here i);
-  z_first = λ i. ap (odd i) (z.elsewhere a (other-way a b apart));
-  x_second = λ i. s.here i ∙ ap (λ r. odd i r ⊕ (letters_anticommute l X && odd i (row old_z a))) (g.elsewhere b apart ∙ f.elsewhere b apart);
+control-mixes l a b old_x old_z one_x two_x new_x new_z distinct f g s z = record {
+  x_first = λ i. ap (odd i) (s.elsewhere a (other-way a b distinct)) ∙ g.here i ∙ ap (λ x. x ⊕ (letters_anticommute l X && odd i (row old_z b))) (f.here i);
+  z_first = λ i. ap (odd i) (z.elsewhere a (other-way a b distinct));
+  x_second = λ i. s.here i ∙ ap (λ r. odd i r ⊕ (letters_anticommute l X && odd i (row old_z a))) (g.elsewhere b distinct ∙ f.elsewhere b distinct);
   z_second = z.here;
   x_elsewhere = λ k na nb. s.elsewhere k nb ∙ g.elsewhere k na ∙ f.elsewhere k na;
   z_elsewhere = λ k na nb. z.elsewhere k nb;
@@ -115,8 +115,8 @@ control-mixes l a b old_x old_z one_x two_x new_x new_z apart f g s z = record {
 
 -- exchanged rows
 row-first : (old new : List (List ℕ)) (a b : ℕ) → a < length old → b ≢ a → new ≡ set (set old a (row old b)) b (row old a) → row new a ≡ row old b
-row-first old new a b la apart e =
-    ap (λ rows. row rows a) e ∙ get_or-set_other (set old a (row old b)) b a (row old a) [] (other-way a b apart) ∙ get_or-set_same old a (row old b) [] la
+row-first old new a b la distinct e =
+    ap (λ rows. row rows a) e ∙ get_or-set_other (set old a (row old b)) b a (row old a) [] (other-way a b distinct) ∙ get_or-set_same old a (row old b) [] la
 
 row-second : (old new : List (List ℕ)) (a b : ℕ) → b < length old → new ≡ set (set old a (row old b)) b (row old a) → row new b ≡ row old a
 row-second old new a b lb e =
@@ -128,9 +128,9 @@ row-other old new a b k na nb e =
 
 pub swap-mixes : (a b : ℕ) (x z new_x new_z : List (List ℕ)) → a < length x → b < length x → a < length z → b < length z → b ≢ a
     → new_x ≡ set (set x a (row x b)) b (row x a) → new_z ≡ set (set z a (row z b)) b (row z a) → MixesPair None a b x z new_x new_z
-swap-mixes a b x z new_x new_z ax bx az bz apart ex ez = record {
-  x_first = λ i. ap (odd i) (row-first x new_x a b ax apart ex);
-  z_first = λ i. ap (odd i) (row-first z new_z a b az apart ez);
+swap-mixes a b x z new_x new_z ax bx az bz distinct ex ez = record {
+  x_first = λ i. ap (odd i) (row-first x new_x a b ax distinct ex);
+  z_first = λ i. ap (odd i) (row-first z new_z a b az distinct ez);
   x_second = λ i. ap (odd i) (row-second x new_x a b bx ex);
   z_second = λ i. ap (odd i) (row-second z new_z a b bz ez);
   x_elsewhere = λ k na nb. row-other x new_x a b k na nb ex;

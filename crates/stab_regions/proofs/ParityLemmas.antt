@@ -2,6 +2,7 @@
 use Rattle.stab_regions.proofs.Names.{◌≡◌, ℕ, suc, ◌+◌, ◌-◌, ◌<◌, ◌≤◌, ◌⊎◌, inl, inr, refl, sym, ◌∙◌, ap, subst, arith, Bool, true, false, not, ◌&&◌, List, [], ◌∷◌, append-nil, set, le-ltb, lt-ltb, ne_eqb, if◌then◌else◌, nat_lt, ◌==◌, replicate, cases_lt, cases_eq, eq-eqb, set-get_or, and-false, Letter, I, plain, Signed, identity, single, anticommute, strings_anticommute-blank_right, signed_path, Gate, PairGate, letter_at, letter_image, inverse, put_letter, put_letters, pair_letters, back, back_pair, Step, one, two, controlled, collapse, product, detector, observable, is_detector, string_of, flip_of, Region, region_of, look_where, before_measured, region_before, region_through, with_looks, keeps_region, keep_region, asks_nothing, asks_observable, named, steps_before_detector, named_by, region_of_detector, detectors_before, parity_region, parity_kept, asked_of}
 use Rattle.stab_regions.proofs.FactorLemmas.{blank-at}
 use Rattle.stab_regions.proofs.DetectorLemmas.{count-other, before-other, named-other}
+use Rattle.std.proofs.lemmas.Bool.{cond-true, cond-false}
 
 -- a region that asks for nothing stays so
 
@@ -55,44 +56,34 @@ none-kept n (observable j ks) = refl
 -- parities: observables, detectors in front, and detectors among the last steps
 
 module _ (n D i : ℕ) (back : List Step) where
-  region-observable : D ≤ i → parity_region n D i back ≡ region_through n (asks_observable (i - D)) back (region_of n [])
-  region-observable le =
-      ap (λ b. if b then (if nat_lt i (detectors_before D back) then region_of n [] else region_of_detector n (i - detectors_before D back) back)
-      else region_through n (asks_observable (i - D)) back (region_of n [])) (le-ltb i D le)
+  pub region-observable : D ≤ i → parity_region n D i back ≡ region_through n (asks_observable (i - D)) back (region_of n [])
+  region-observable le = cond-false (nat_lt i D) _ _ (le-ltb i D le)
 
-  kept-observable : D ≤ i → parity_kept n D i back ≡ keep_region n (asks_observable (i - D)) back (region_of n [])
-  kept-observable le =
-      ap (λ b. if b then (if nat_lt i (detectors_before D back) then true
-      else keep_region n asks_nothing (steps_before_detector (i - detectors_before D back) back) (region_of n (named_by (i - detectors_before D back) back)))
-      else keep_region n (asks_observable (i - D)) back (region_of n [])) (le-ltb i D le)
+  pub kept-observable : D ≤ i → parity_kept n D i back ≡ keep_region n (asks_observable (i - D)) back (region_of n [])
+  kept-observable le = cond-false (nat_lt i D) _ _ (le-ltb i D le)
 
-  region-front : i < D → i < detectors_before D back → parity_region n D i back ≡ region_of n []
-  region-front lt front =
-      λ t. if lt-ltb i D lt t then (if lt-ltb i (detectors_before D back) front t then region_of n [] else region_of_detector n (i - detectors_before D back) back)
-      else region_through n (asks_observable (i - D)) back (region_of n [])
+  pub region-front : i < D → i < detectors_before D back → parity_region n D i back ≡ region_of n []
+  region-front lt before = cond-true (nat_lt i D) _ _ (lt-ltb i D lt) ∙ cond-true (nat_lt i (detectors_before D back)) _ _ (lt-ltb i (detectors_before D back) before)
 
   kept-front : i < D → i < detectors_before D back → parity_kept n D i back ≡ true
-  kept-front lt front =
-      λ t. if lt-ltb i D lt t then (if lt-ltb i (detectors_before D back) front t then true
-      else keep_region n asks_nothing (steps_before_detector (i - detectors_before D back) back) (region_of n (named_by (i - detectors_before D back) back)))
-      else keep_region n (asks_observable (i - D)) back (region_of n [])
+  kept-front lt before = cond-true (nat_lt i D) _ _ (lt-ltb i D lt) ∙ cond-true (nat_lt i (detectors_before D back)) _ _ (lt-ltb i (detectors_before D back) before)
 
-  behind : (d : ℕ) → detectors_before D back + d ≡ i → detectors_before D back ≤ i
-  behind d e = omega (arith, e)
+  following : (d : ℕ) → detectors_before D back + d ≡ i → detectors_before D back ≤ i
+  following d e = omega (arith, e)
 
   number : (d : ℕ) → detectors_before D back + d ≡ i → i - detectors_before D back ≡ d
   number d e = omega (arith, e)
 
   region-among : (d : ℕ) → i < D → detectors_before D back + d ≡ i → parity_region n D i back ≡ region_of_detector n d back
   region-among d lt e =
-      (λ t. if lt-ltb i D lt t then (if le-ltb i (detectors_before D back) (behind d e) t then region_of n [] else region_of_detector n (i - detectors_before D back) back)
+      (λ t. if lt-ltb i D lt t then (if le-ltb i (detectors_before D back) (following d e) t then region_of n [] else region_of_detector n (i - detectors_before D back) back)
       else region_through n (asks_observable (i - D)) back (region_of n []))
       ∙ ap (λ k. region_of_detector n k back) (number d e)
 
   kept-among : (d : ℕ) → i < D → detectors_before D back + d ≡ i
       → parity_kept n D i back ≡ keep_region n asks_nothing (steps_before_detector d back) (region_of n (named_by d back))
   kept-among d lt e =
-      (λ t. if lt-ltb i D lt t then (if le-ltb i (detectors_before D back) (behind d e) t then true
+      (λ t. if lt-ltb i D lt t then (if le-ltb i (detectors_before D back) (following d e) t then true
       else keep_region n asks_nothing (steps_before_detector (i - detectors_before D back) back) (region_of n (named_by (i - detectors_before D back) back)))
       else keep_region n (asks_observable (i - D)) back (region_of n []))
       ∙ ap (λ k. keep_region n asks_nothing (steps_before_detector k back) (region_of n (named_by k back))) (number d e)

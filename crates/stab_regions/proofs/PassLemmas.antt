@@ -1,14 +1,12 @@
 -- Passes: what a letter in front of a step flips, said by letters after it.
-use Rattle.stab_regions.proofs.Names.{◌≡◌, ◌≢◌, ℕ, ◌<◌, ◌≤◌, refl, sym, ap, ◌∙◌, arith, Bool, true, false, not, ◌&&◌, ◌==◌, List, [], ◌∷◌, length, set, eqb-false, get_or-set_same, get_or-set_other, length-set, parity-false, Letter, I, ◌⊕◌, letters_anticommute, Factor, letter_of, is_on, names_twice, Signed, single, with_sign, anticommute, Gate, PairGate, letter_image, letter_at, inverse, pair_letters, back, length-one_letter, here_one_letter, off_one_letter, one_letter-anticommute, length-replicate, replicate, or-left, or-right, Step, one, two, controlled, collapse, product, detector, observable, detectors_of, with_factors, string_of, length-string_of, flip_of, Region, names_newest, region_before, parity_region, parity_kept, parity_flips, detectors_before, nat_lt, X, Y, Z, strings_anticommute-blank_right}
+use Rattle.stab_regions.proofs.Names.{◌≡◌, ◌≢◌, ℕ, ◌<◌, ◌≤◌, refl, sym, ap, ◌∙◌, arith, Bool, true, false, not, ◌&&◌, List, [], ◌∷◌, length, set, get_or-set_same, get_or-set_other, length-set, parity-false, Letter, I, ◌⊕◌, letters_anticommute, Factor, letter_of, is_on, names_twice, Signed, single, with_sign, anticommute, Gate, PairGate, letter_image, letter_at, inverse, pair_letters, back, length-one_letter, here_one_letter, off_one_letter, one_letter-anticommute, length-replicate, replicate, or-left, Step, one, two, controlled, collapse, product, detector, observable, detectors_of, string_of, length-string_of, flip_of, Region, names_newest, region_before, parity_region, parity_kept, parity_flips, detectors_before, nat_lt, X, Y, Z, strings_anticommute-blank_right}
 use Rattle.stab_regions.proofs.MovedLemmas.{moved-gate, moved-pair, anticommute-times_right}
 use Rattle.stab_regions.proofs.MoveLemmas.{long-parity, region_where}
-use Rattle.stab_regions.proofs.FactorLemmas.{blank-at}
-use Rattle.stab_regions.proofs.TurnedLemmas.{next-of, kept-here}
+use Rattle.stab_regions.proofs.FactorLemmas.{blank-at, letter-off}
+use Rattle.stab_regions.proofs.NegatedLemmas.{next-of, kept-here}
+use Rattle.stab_gates.proofs.LetterLemmas.{letters_anticommute-I}
 
 -- letters, through gates
-
-none-meets : (k : Letter) → letters_anticommute k I ≡ false
-none-meets k = grind arith
 
 alone : Letter → Signed
 alone l = record { negative = false; letters = l ∷ [] }
@@ -52,15 +50,9 @@ reset-absorbs l k s other same = grind arith
 
 -- the letter of a product on a qubit
 
-pub letter-off : (q : ℕ) (fs : List Factor) (letters : List Letter) → is_on q fs ≡ false → letter_at (with_factors fs letters) q ≡ letter_at letters q
-letter-off q [] letters e = refl
-letter-off q (f ∷ fs) letters e =
-    letter-off q fs (set letters f.qubit (letter_of f.letter)) (or-right (f.qubit == q) (is_on q fs) e)
-    ∙ get_or-set_other letters f.qubit q (letter_of f.letter) I (λ same. eqb-false f.qubit q (or-left (f.qubit == q) (is_on q fs) e) (sym same))
-
 first-letter : (n : ℕ) (f : Factor) (fs : List Factor) → f.qubit < n → names_twice (f ∷ fs) ≡ false → letter_at (string_of n (f ∷ fs)).letters f.qubit ≡ letter_of f.letter
-first-letter n f fs lt apart =
-    letter-off f.qubit fs (set (replicate n I) f.qubit (letter_of f.letter)) (or-left (is_on f.qubit fs) (names_twice fs) apart)
+first-letter n f fs lt distinct =
+    letter-off f.qubit fs (set (replicate n I) f.qubit (letter_of f.letter)) (or-left (is_on f.qubit fs) (names_twice fs) distinct)
     ∙ get_or-set_same (replicate n I) f.qubit (letter_of f.letter) I (let e = length-replicate n I in omega (arith, lt))
 
 module _ (n D i : ℕ) where
@@ -117,14 +109,14 @@ module _ (n D i : ℕ) where
         ∙ sym (flips-letter (letter_image g k).letter q back lt)
 
     pub one-other : (g : Gate) (k : Letter) (q p : ℕ) → p < n → p ≢ q → detectors_of (one g q ∷ back) ≤ D → parity_flips n D i k p (one g q ∷ back) ≡ parity_flips n D i k p back
-    one-other g k q p lt apart few =
+    one-other g k q p lt distinct few =
         by-letter (one g q) k p lt few
-        ∙ ap (letters_anticommute k) (get_or-set_other letters q p (letter_image (inverse g) (letter_at letters q)).letter I apart)
+        ∙ ap (letters_anticommute k) (get_or-set_other letters q p (letter_image (inverse g) (letter_at letters q)).letter I distinct)
         ∙ sym (flips-letter k p back lt)
 
     -- gates on two qubits
 
-    module _ (g : PairGate) (a b : ℕ) (lt_a : a < n) (lt_b : b < n) (apart : b ≢ a) (few : detectors_of (two g a b ∷ back) ≤ D) where
+    module _ (g : PairGate) (a b : ℕ) (lt_a : a < n) (lt_b : b < n) (distinct : b ≢ a) (few : detectors_of (two g a b ∷ back) ≤ D) where
       abbrev first : Letter
       first = first_image g (letter_at letters a) (letter_at letters b)
 
@@ -135,7 +127,7 @@ module _ (n D i : ℕ) where
       first-flips k =
           by-letter (two g a b) k a lt_a few
           ∙ ap (letters_anticommute k)
-          (get_or-set_other (set letters a first) b a second I (λ e. apart (sym e)) ∙ get_or-set_same letters a first I (omega (arith, lt_a, long)))
+          (get_or-set_other (set letters a first) b a second I (λ e. distinct (sym e)) ∙ get_or-set_same letters a first I (omega (arith, lt_a, long)))
           ∙ meets-first g k (letter_at letters a) (letter_at letters b)
           ∙ (λ t. sym (flips-letter (first_image g k I) a back lt_a) t ⊕ sym (flips-letter (second_image g k I) b back lt_b) t)
 
@@ -194,10 +186,10 @@ module _ (n D i : ℕ) where
     -- one that is beside it passes
     pub collapse-other : (l : Letter) (q : ℕ) (recorded inverted resets : Bool) (k : Letter) (p : ℕ) → p < n → p ≢ q → detectors_of (collapse l q recorded inverted resets ∷ back) ≤ D
         → parity_flips n D i k p (collapse l q recorded inverted resets ∷ back) ≡ parity_flips n D i k p back
-    collapse-other l q recorded inverted resets k p lt apart few =
+    collapse-other l q recorded inverted resets k p lt distinct few =
         collapse-flips l q recorded inverted resets k p few
         ∙ passes-beside ((recorded && named) ⊕ (resets && parity_flips n D i (flip_of l) q back)) k p (single n q l)
-        (one_letter-anticommute n p k (single n q l).letters (length-one_letter n q l) lt ∙ ap (letters_anticommute k) (off_one_letter n q p l apart) ∙ none-meets k)
+        (one_letter-anticommute n p k (single n q l).letters (length-one_letter n q l) lt ∙ ap (letters_anticommute k) (off_one_letter n q p l distinct) ∙ letters_anticommute-I k)
 
     pub product-other : (factors : List Factor) (inverted : Bool) (k : Letter) (p : ℕ) → p < n → is_on p factors ≡ false → detectors_of (product factors inverted ∷ back) ≤ D
         → parity_flips n D i k p (product factors inverted ∷ back) ≡ parity_flips n D i k p back
@@ -205,7 +197,7 @@ module _ (n D i : ℕ) where
         product-flips factors inverted k p few
         ∙ passes-beside (named ⊕ false) k p (string_of n factors)
         (one_letter-anticommute n p k (string_of n factors).letters (length-string_of n factors) lt
-        ∙ ap (letters_anticommute k) (letter-off p factors (replicate n I) off ∙ blank-at n p) ∙ none-meets k)
+        ∙ ap (letters_anticommute k) (letter-off p factors (replicate n I) off ∙ blank-at n p) ∙ letters_anticommute-I k)
 
     module _ (l : Letter) (q : ℕ) (lt : q < n) where
       meets-measured : (k : Letter) → anticommute (single n q k) (single n q l) ≡ letters_anticommute k l
@@ -264,13 +256,13 @@ module _ (n D i : ℕ) where
     pub wrong-product : (f : Factor) (fs : List Factor) (inverted : Bool) → f.qubit < n → names_twice (f ∷ fs) ≡ false → letters_anticommute (flip_of (letter_of f.letter)) (letter_of f.letter) ≡ true
         → detectors_of (product (f ∷ fs) inverted ∷ back) ≤ D
         → parity_flips n D i (flip_of (letter_of f.letter)) f.qubit (product (f ∷ fs) inverted ∷ back) ⊕ parity_flips n D i (flip_of (letter_of f.letter)) f.qubit back ≡ named
-    wrong-product f fs inverted lt apart other few =
+    wrong-product f fs inverted lt distinct other few =
         let k : Letter = flip_of (letter_of f.letter) in
         ap (λ b. b ⊕ parity_flips n D i k f.qubit back)
         (product-flips (f ∷ fs) inverted k f.qubit few
         ∙ ap (λ c. ((named ⊕ false) && c) ⊕ parity_flips n D i k f.qubit back)
         (one_letter-anticommute n f.qubit k (string_of n (f ∷ fs)).letters (length-string_of n (f ∷ fs)) lt
-        ∙ ap (letters_anticommute k) (first-letter n f fs lt apart) ∙ other))
+        ∙ ap (letters_anticommute k) (first-letter n f fs lt distinct) ∙ other))
         ∙ taken_back named (parity_flips n D i k f.qubit back)
       where
         taken_back : (a b : Bool) → (((a ⊕ false) && true) ⊕ b) ⊕ b ≡ a

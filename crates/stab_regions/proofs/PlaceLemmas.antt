@@ -1,16 +1,14 @@
 -- Places: what regions at one say of what a letter flips there, of the end of all steps, and of what is deterministic at the start.
-use Rattle.stab_regions.proofs.Names.{◌≡◌, ℕ, zero, suc, ◌+◌, ◌-◌, ◌^◌, ◌<◌, refl, sym, ◌∙◌, ap, subst, arith, Bool, true, false, not, ◌||◌, ◌&&◌, List, [], ◌∷◌, length, if◌then◌else◌, nat_lt, slice_index_or, replicate, list_any, length-replicate, get_or-replicate, Letter, I, X, Y, Z, letters_anticommute, letter_at, diagonal, Regions, region_of, keep_region, asks_nothing, asks_observable, steps_before_detector, named_by, detectors_before, parity_region, parity_kept, IsAscending, odd, row, ShowsRegion, Shows, IsRegionsAt, AreFlipped, TellDeterministic}
+use Rattle.stab_regions.proofs.Names.{◌≡◌, ℕ, zero, suc, ◌+◌, ◌-◌, ◌^◌, ◌<◌, refl, sym, ◌∙◌, ap, subst, arith, Bool, true, false, not, ◌||◌, ◌&&◌, List, [], ◌∷◌, length, if◌then◌else◌, nat_lt, slice_index_or, replicate, list_any, length-replicate, get_or-replicate, Letter, I, X, Y, Z, letters_anticommute, letter_at, diagonal, Regions, region_of, keep_region, asks_nothing, asks_observable, steps_before_detector, named_by, detectors_before, parity_region, parity_kept, IsAscending, odd, row, ShowsRegion, Shows, IsRegionsAt, AreFlipped, DetermineDeterministic}
 use Rattle.stab_regions.proofs.FactorLemmas.{blank-at}
 use Rattle.stab_regions.proofs.ShowLemmas.{bits-anticommute}
 use Rattle.stab_regions.proofs.MoveLemmas.{region_where, long-parity}
+use Rattle.stab_gates.proofs.LetterLemmas.{letters_anticommute-I}
 
 -- what X flips, and what Z does
 
 none-flipped : (n q : ℕ) (p : Letter) → letters_anticommute p (letter_at (replicate n I) q) ≡ false
-none-flipped n q p = ap (letters_anticommute p) (blank-at n q) ∙ nothing p
-  where
-    nothing : (p : Letter) → letters_anticommute p I ≡ false
-    nothing p = grind arith
+none-flipped n q p = ap (letters_anticommute p) (blank-at n q) ∙ letters_anticommute-I p
 
 pub flipped-by_x : (r : Regions) (q : ℕ) (numbers : List ℕ) → q < length r.by_x.items → numbers ≡ row r.by_x.items q → IsAscending numbers → AreFlipped r X q numbers
 flipped-by_x r q numbers lt is ascending = record {
@@ -111,10 +109,10 @@ diagonal-rows i (l ∷ letters) (r ∷ rows) long shows =
 neither : (a b c d : Bool) → not a ≡ d → b ≡ not c → not (a || b) ≡ (c && d)
 neither a b c d ed ec = grind arith
 
-pub tells-deterministic : (r : Regions) (deterministic : List Bool) → length deterministic ≡ length r.random.items
+pub determines-deterministic : (r : Regions) (deterministic : List Bool) → length deterministic ≡ length r.random.items
     → ((i : ℕ) → i < length r.random.items → slice_index_or deterministic i false ≡ not (list_any (odd i) r.by_z.items || slice_index_or r.random.items i false))
-    → TellDeterministic r deterministic
-tells-deterministic r deterministic long each = record {
+    → DetermineDeterministic r deterministic
+determines-deterministic r deterministic long each = record {
   count = long;
   value = λ n D count back h i lt.
       each i (omega (arith, lt, h.marks))

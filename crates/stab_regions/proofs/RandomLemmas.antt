@@ -7,6 +7,7 @@ use Rattle.stab_regions.proofs.ReadLemmas.{size-through}
 use Rattle.stab_regions.proofs.DeterministicLemmas.{good-origin, deterministic-bits}
 use Rattle.stab_regions.proofs.MovedLemmas.{IsMoved}
 use Rattle.stab_regions.proofs.TouchLemmas.{touches, FlipsCoins, coins-flip, flipped-before, touched-bit}
+use Rattle.stab_gates.proofs.ParityLemmas.{parity-not_right}
 
 -- the frame of a string alone
 abbrev pub frame_of : Signed → Frame
@@ -23,12 +24,12 @@ member-flips_none n t good q lq in_group s ls = by_side (anticommute q s) refl
     group : IsStabiliserGroup n (member t)
     group = group-member n t good.fits good.sound
 
-    apart : (z : Signed) → length z.letters ≡ n → anticommute q z ≡ true → member t z ≡ false
-    apart z lz e = not-true (member t z) (λ h. not_both (anticommute q z) (group.commuting q z lq lz in_group h) e)
+    distinct : (z : Signed) → length z.letters ≡ n → anticommute q z ≡ true → member t z ≡ false
+    distinct z lz e = not-true (member t z) (λ h. not_both (anticommute q z) (group.commuting q z lq lz in_group h) e)
 
     by_side : (a : Bool) → anticommute q s ≡ a → member t s ≡ member t (with_sign (anticommute q s) s)
     by_side false e = ap (λ b. member t (with_sign b s)) (sym e)
-    by_side true e = apart s ls e ∙ sym (ap (λ b. member t (with_sign b s)) e ∙ apart (minus s) ls e)
+    by_side true e = distinct s ls e ∙ sym (ap (λ b. member t (with_sign b s)) e ∙ distinct (minus s) ls e)
 
 same-records : (records : List Bool) (k : ℕ) → looked_up records k ≡ looked_up records k ⊕ looked_up [] k
 same-records records k = sym (ap (λ b. looked_up records k ⊕ b) (look-nothing k) ∙ parity-false (looked_up records k))
@@ -40,14 +41,14 @@ own-product n m t o good lm =
     test_right (anticommute m (with_sign o m)) _ _ (strings_anticommute-self m.letters)
     (ap (member t) (product-self (with_sign o m) ∙ ap identity lm) ∙ (group-member n t good.fits good.sound).has_identity)
 
-abbrev Behind : ℕ → (ℕ → Bool) → Step → Point → Region → Type 0
-Behind n coins x p r = (q : Signed) × (length q.letters ≡ n) × (member (trace_after n coins x p) q ≡ true) × (anticommute q r.string ≡ true)
+abbrev After : ℕ → (ℕ → Bool) → Step → Point → Region → Type 0
+After n coins x p r = (q : Signed) × (length q.letters ≡ n) × (member (trace_after n coins x p) q ≡ true) × (anticommute q r.string ≡ true)
 
-behind : (n : ℕ) (coins : ℕ → Bool) (x : Step) (p : Point) (r : Region) → StepFits n x → IsGood n p.trace → keeps_region n x r ≡ false → Behind n coins x p r
-behind n coins (one g q) p r fits good e = absurd (not_both true e refl)
-behind n coins (two g a b) p r fits good e = absurd (not_both true e refl)
-behind n coins (controlled l k q) p r fits good e = absurd (not_both true e refl)
-behind n coins (collapse l q recorded inverted resets) p r fits good e = (
+following : (n : ℕ) (coins : ℕ → Bool) (x : Step) (p : Point) (r : Region) → StepFits n x → IsGood n p.trace → keeps_region n x r ≡ false → After n coins x p r
+following n coins (one g q) p r fits good e = absurd (not_both true e refl)
+following n coins (two g a b) p r fits good e = absurd (not_both true e refl)
+following n coins (controlled l k q) p r fits good e = absurd (not_both true e refl)
+following n coins (collapse l q recorded inverted resets) p r fits good e = (
   with_sign (flip ⊕ o) m,
   lm,
   member-where n q (flip_of l) (resets && o) (projected m o ∷ p.trace) _ lm fits
@@ -67,14 +68,14 @@ behind n coins (collapse l q recorded inverted resets) p r fits good e = (
 
     flip : Bool
     flip = (resets && o) && anticommute (single n q (flip_of l)) m
-behind n coins (product factors inverted) p r fits good e = (
+following n coins (product factors inverted) p r fits good e = (
   with_sign (outcome_at coins (string_of n factors) p.trace p.coin) (string_of n factors),
   length-string_of n factors,
   own-product n (string_of n factors) p.trace (outcome_at coins (string_of n factors) p.trace p.coin) good (length-string_of n factors),
   not-false _ e,
 )
-behind n coins (detector ks) p r fits good e = absurd (not_both true e refl)
-behind n coins (observable j ks) p r fits good e = absurd (not_both true e refl)
+following n coins (detector ks) p r fits good e = absurd (not_both true e refl)
+following n coins (observable j ks) p r fits good e = absurd (not_both true e refl)
 
 -- coins after those of a step make no difference to it
 
@@ -105,9 +106,6 @@ next-same n coins others (observable j ks) p same = refl
 odd : (a b : Bool) → b ≡ true → a ⊕ b ≡ not a
 odd a b e = grind arith
 
-parity-not : (a b : Bool) → a ⊕ not b ≡ not (a ⊕ b)
-parity-not a b = grind arith
-
 module _ (n : ℕ) (asked : Step → List ℕ) (ks : List ℕ) (coins : ℕ → Bool) where
   abbrev at : List Step → Region
   at xs = region_through n asked xs (region_of n ks)
@@ -118,22 +116,22 @@ module _ (n : ℕ) (asked : Step → List ℕ) (ks : List ℕ) (coins : ℕ → 
 
   other-by_member : (xs : List Step) (p : Point) (q : Signed) → All (StepFits n) xs → IsGood n p.trace → length q.letters ≡ n → member p.trace q ≡ true
       → anticommute q (at xs).string ≡ true → OtherBit xs p
-  other-by_member xs p q fits good lq in_group apart = (
+  other-by_member xs p q fits good lq in_group distinct = (
     flipped_from p.coin (all_flipped_coins n xs (frame_of q)) coins,
     flipped-before p.coin (all_flipped_coins n xs (frame_of q)) coins,
     touched-bit n coins (flipped_from p.coin (all_flipped_coins n xs (frame_of q)) coins) asked ks xs (frame_of q) p p fits lq good
         (record { group = member-flips_none n p.trace good q lq in_group; coin = refl; records = same-records p.records })
         (coins-flip p.coin (all_flipped_coins n xs (frame_of q)) coins)
-        ∙ odd (bit_asked n coins asked xs ks p) (touches (frame_of q) (at xs)) (touches-alone q (at xs) ∙ apart),
+        ∙ odd (bit_asked n coins asked xs ks p) (touches (frame_of q) (at xs)) (touches-alone q (at xs) ∙ distinct),
   )
 
-  other-behind : (x : Step) (xs : List Step) (p : Point) → OtherBit xs (next_point n coins x p) → OtherBit (x ∷ xs) p
-  other-behind x xs p other = (
+  other-following : (x : Step) (xs : List Step) (p : Point) → OtherBit xs (next_point n coins x p) → OtherBit (x ∷ xs) p
+  other-following x xs p other = (
     other.0,
     (λ t lt. other.1 t (omega arith)),
     ap (λ z. parity p.records (asked x) ⊕ bit_asked n other.0 asked xs ks z) (next-same n coins other.0 x p other.1)
         ∙ ap (λ b. parity p.records (asked x) ⊕ b) other.2
-        ∙ parity-not (parity p.records (asked x)) (bit_asked n coins asked xs ks (next_point n coins x p)),
+        ∙ parity-not_right (parity p.records (asked x)) (bit_asked n coins asked xs ks (next_point n coins x p)),
   )
 
   first_lost : (a b : Bool) → (a && b) ≡ false → b ≡ true → a ≡ false
@@ -142,7 +140,7 @@ module _ (n : ℕ) (asked : Step → List ℕ) (ks : List ℕ) (coins : ℕ → 
   unkept : (xs : List Step) (p : Point) → All (StepFits n) xs → IsGood n p.trace → keep_region n asked xs (region_of n ks) ≡ false → OtherBit xs p
   unkept [] p fits good e = absurd (not_both true e refl)
   unkept (x ∷ xs) p fits good e =
-      other-behind x xs p
+      other-following x xs p
       (by_rest (keep_region n asked xs (region_of n ks)) refl
       (unkept xs (next_point n coins x p) (All-tail (StepFits n) x xs fits) (good-next n coins x p here good)))
     where
@@ -153,7 +151,7 @@ module _ (n : ℕ) (asked : Step → List ℕ) (ks : List ℕ) (coins : ℕ → 
           → OtherBit xs (next_point n coins x p)
       by_rest false f later = later f
       by_rest true f later =
-          let q = behind n coins x p (at xs) here good (first_lost _ _ e f) in
+          let q = following n coins x p (at xs) here good (first_lost _ _ e f) in
           other-by_member xs (next_point n coins x p) q.0 (All-tail (StepFits n) x xs fits) (good-next n coins x p here good) q.1 q.2 q.3
 
   not_at_zeros : (xs : List Step) → All (StepFits n) xs → diagonal (at xs).string.letters ≡ false → OtherBit xs origin

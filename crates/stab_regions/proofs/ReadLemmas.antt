@@ -1,5 +1,5 @@
 -- Reading: at a point a region reads a bit if its string stabilises with the sign that makes it so; steps that keep the region
--- lead to a point where the region after them reads the same bit.
+-- come to a point where the region after them reads the same bit.
 use Rattle.stab_regions.proofs.Names.{◌≡◌, ℕ, ◌<◌, refl, sym, ◌∙◌, ap, arith, Bool, true, false, not, ◌&&◌, List, [], ◌∷◌, ◌++◌, append-nil, length, if◌then◌else◌, Letter, ◌⊕◌, Signed, single, with_sign, anticommute, times, parity-false, length-product, inverse, back, back_pair, Event, projected, member, length-one_letter, image-length, pair-length, test_left, test_right, Step, one, two, controlled, collapse, product, detector, observable, length-string_of, sign-sign, product-sign_right, looked_up, parity, when, string_of, flip_of, applied_where, outcome_at, Point, next_point, StepFits, Region, names_newest, earlier, times_where, before_measured, region_before, region_through, keeps_region}
 use Rattle.stab_regions.proofs.SignLemmas.{image-sign, pair-sign, product-signs, member-where}
 use Rattle.stab_regions.proofs.LookLemmas.{parity-where, parity-when}
@@ -28,7 +28,7 @@ size-through n asked (x ∷ xs) r long = size-before n x (region_through n asked
 abbrev pub Reads : Point → Region → Bool → Type 0
 Reads p r b = member p.trace (with_sign (b ⊕ parity p.records r.looks) r.string) ≡ true
 
-commuting : (m p : Signed) → not (anticommute m p) ≡ true → anticommute m p ≡ false
+pub commuting : (m p : Signed) → not (anticommute m p) ≡ true → anticommute m p ≡ false
 commuting m p e = off (anticommute m p) e
   where
     off : (b : Bool) → not b ≡ true → b ≡ false
@@ -37,18 +37,18 @@ commuting m p e = off (anticommute m p) e
 -- after a projection the string has a sign that counts the outcome, if it was multiplied before it
 projected-reads : (m s : Signed) (t : List Event) (o d c : Bool) → anticommute m s ≡ false → member t (with_sign c (times_where d m s)) ≡ true
     → member (projected m o ∷ t) (with_sign (c ⊕ (d && o)) s) ≡ true
-projected-reads m s t o false c apart h =
-    test_left (anticommute m s) _ _ apart (ap (λ x. member t (with_sign x s)) (parity-false c) ∙ h)
-projected-reads m s t o true c apart h =
-    test_right (anticommute m s) _ _ apart
-    (ap (member t) (product-signs o (c ⊕ o) m s apart ∙ ap (λ x. with_sign x (times m s)) (round o c)) ∙ h)
+projected-reads m s t o false c distinct h =
+    test_left (anticommute m s) _ _ distinct (ap (λ x. member t (with_sign x s)) (parity-false c) ∙ h)
+projected-reads m s t o true c distinct h =
+    test_right (anticommute m s) _ _ distinct
+    (ap (member t) (product-signs o (c ⊕ o) m s distinct ∙ ap (λ x. with_sign x (times m s)) (round o c)) ∙ h)
   where
     round : (o c : Bool) → o ⊕ (c ⊕ o) ≡ c
     round o c = grind arith
 
-times-sign : (d v : Bool) (m s : Signed) → anticommute m s ≡ false → times_where d m (with_sign v s) ≡ with_sign v (times_where d m s)
-times-sign true v m s apart = product-sign_right v m s apart
-times-sign false v m s apart = refl
+pub times-sign : (d v : Bool) (m s : Signed) → anticommute m s ≡ false → times_where d m (with_sign v s) ≡ with_sign v (times_where d m s)
+times-sign true v m s distinct = product-sign_right v m s distinct
+times-sign false v m s distinct = refl
 
 -- the signs that a measurement, its record and its correction make of a string
 signs : (e f w i o b p : Bool) → ((e && o) && f) ⊕ (b ⊕ ((w && (i ⊕ o)) ⊕ p)) ≡ ((b ⊕ p) ⊕ (w && i)) ⊕ ((w ⊕ (e && f)) && o)
@@ -60,7 +60,7 @@ signs-plain w i o b p = grind arith
 feedback-signs : (bit a b p : Bool) → (bit && a) ⊕ (b ⊕ p) ≡ b ⊕ ((a && bit) ⊕ p)
 feedback-signs bit a b p = grind arith
 
-module _ (t : List Event) (records : List Bool) (m : Signed) (r : Region) (b recorded inverted : Bool) (apart : anticommute m r.string ≡ false) where
+module _ (t : List Event) (records : List Bool) (m : Signed) (r : Region) (b recorded inverted : Bool) (distinct : anticommute m r.string ≡ false) where
   -- whether the record of the outcome counts, and the parity of the others
   abbrev counted : Bool
   counted = recorded && names_newest r.looks
@@ -72,7 +72,7 @@ module _ (t : List Event) (records : List Bool) (m : Signed) (r : Region) (b rec
       → member t (with_sign (b ⊕ parity records (before_measured m recorded inverted corrected r).looks) (before_measured m recorded inverted corrected r).string) ≡ true
       → member t (with_sign ((b ⊕ others) ⊕ (counted && inverted)) (times_where (counted ⊕ corrected) m r.string)) ≡ true
   before-measured corrected h =
-      ap (member t) (sym (ap (with_sign (b ⊕ others)) (times-sign (counted ⊕ corrected) (counted && inverted) m r.string apart) ∙ sign-sign (b ⊕ others) (counted && inverted) _)) ∙ h
+      ap (member t) (sym (ap (with_sign (b ⊕ others)) (times-sign (counted ⊕ corrected) (counted && inverted) m r.string distinct) ∙ sign-sign (b ⊕ others) (counted && inverted) _)) ∙ h
 
   -- a measurement and a correction by a letter
   pub measured-reads : (n q : ℕ) (l : Letter) (resets o : Bool) → q < n → length r.string.letters ≡ n
@@ -85,7 +85,7 @@ module _ (t : List Event) (records : List Bool) (m : Signed) (r : Region) (b rec
       ∙ ap (λ x. with_sign x r.string)
       (ap (λ x. ((resets && o) && anticommute (single n q l) r.string) ⊕ (b ⊕ x)) (parity-when records recorded (inverted ⊕ o) r.looks)
       ∙ signs resets (anticommute (single n q l) r.string) counted inverted o b others))
-      ∙ projected-reads m r.string t o _ _ apart (before-measured (resets && anticommute (single n q l) r.string) h)
+      ∙ projected-reads m r.string t o _ _ distinct (before-measured (resets && anticommute (single n q l) r.string) h)
 
   -- a measurement alone
   pub product-reads : (o : Bool)
@@ -94,7 +94,7 @@ module _ (t : List Event) (records : List Bool) (m : Signed) (r : Region) (b rec
   product-reads o h =
       ap (λ x. member (projected m o ∷ t) (with_sign x r.string))
       (ap (λ x. b ⊕ x) (parity-when records recorded (inverted ⊕ o) r.looks) ∙ signs-plain counted inverted o b others)
-      ∙ projected-reads m r.string t o _ _ apart (before-measured false h)
+      ∙ projected-reads m r.string t o _ _ distinct (before-measured false h)
 
 -- a step that keeps the region
 pub reads-next : (n : ℕ) (coins : ℕ → Bool) (x : Step) (p : Point) (r : Region) (b : Bool) → StepFits n x → length r.string.letters ≡ n

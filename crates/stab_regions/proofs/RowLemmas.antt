@@ -1,5 +1,6 @@
 -- Rows of numbers: one of them written anew, and looked up.
-use Rattle.stab_regions.proofs.Names.{◌≡◌, ℕ, zero, suc, ◌<◌, refl, sym, subst, ◌∙◌, ap, arith, Bool, false, List, [], ◌∷◌, length, get_or, set, get_or-set_same, get_or-set_other, true, ◌&&◌, parity-false, ◌⊕◌, odd, row, Toggles, TogglesWhere}
+use Rattle.stab_regions.proofs.Names.{◌≡◌, ℕ, ◌<◌, refl, sym, subst, ◌∙◌, ap, Bool, false, List, [], length, get_or, set, get_or-set_same, get_or-set_other, true, ◌&&◌, parity-false, ◌⊕◌, odd, row, Toggles, TogglesWhere}
+use Rattle.stab_distance.proofs.IndexLemmas.{row-in}
 
 -- writing a row toggles it
 pub toggles_set : (old : List (List ℕ)) (place : ℕ) (numbers new : List ℕ) → place < length old
@@ -23,12 +24,6 @@ toggles_false bit old place numbers e = record {
 
 pub toggles-as : (a b : Bool) (old new : List (List ℕ)) (place : ℕ) (numbers : List ℕ) → a ≡ b → TogglesWhere a old new place numbers → TogglesWhere b old new place numbers
 toggles-as a b old new place numbers e t = subst (λ bit. TogglesWhere bit old new place numbers) e t
-
--- a row that is there is what is looked up, whatever the other answer
-pub row-in : (rows : List (List ℕ)) (k : ℕ) (d : List ℕ) → k < length rows → get_or rows k d ≡ row rows k
-row-in [] k d lt = absurd (omega arith)
-row-in (r ∷ rows) zero d lt = refl
-row-in (r ∷ rows) (suc k) d lt = row-in rows k d (omega arith)
 
 pub toggles-by : (bit : Bool) (old new : List (List ℕ)) (place : ℕ) (rows : List (List ℕ)) (k : ℕ) (d : List ℕ) → k < length rows
     → TogglesWhere bit old new place (get_or rows k d) → TogglesWhere bit old new place (row rows k)

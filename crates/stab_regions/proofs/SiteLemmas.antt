@@ -1,9 +1,9 @@
 -- Sites: those of a step, by its qubits.
-use Rattle.stab_regions.proofs.Names.{◌≡◌, ℕ, ◌<◌, refl, sym, ap, Bool, true, false, List, [], ◌∷◌, arith, All, flat_map, All-nil, All-cons, All-tail, All-map, Factor, Step, one, two, controlled, collapse, product, detector, observable, factor_qubits, StepFits, Asked, Nowhere, Marked, Everywhere, Site, in_front, behind, marked_at, all_at, sites_at, sites_asked, step_qubits, sides_asked, Inserted, inserted_at, inserted_by}
+use Rattle.stab_regions.proofs.Names.{◌≡◌, ℕ, ◌<◌, refl, sym, ap, Bool, true, false, List, [], ◌∷◌, arith, All, flat_map, All-nil, All-cons, All-tail, All-map, Factor, Step, one, two, controlled, collapse, product, detector, observable, factor_qubits, StepFits, Asked, Nowhere, Marked, Everywhere, Site, in_front, following, marked_at, all_at, sites_at, sites_asked, step_qubits, sides_asked, Inserted, inserted_at, inserted_by}
 use Rattle.stab_gates.specs.declared.letter.Letter.TheVariants as letter
 use Rattle.stab_gates.specs.declared.gate.Gate.TheVariants as gate
 
-none : (x : Step) (back : List Step) (qs : List ℕ) → flat_map (inserted_by (record { front = false; behind = false }) x back) qs ≡ []
+none : (x : Step) (back : List Step) (qs : List ℕ) → flat_map (inserted_by (record { front = false; following = false }) x back) qs ≡ []
 none x back [] = refl
 none x back (q ∷ qs) = none x back qs
 
@@ -12,8 +12,8 @@ marked-split y (one gate.I q) back = refl
 marked-split y x back = sym (none y back (step_qubits x))
 
 factors-split : (y : Step) (back : List Step) (factors : List Factor) →
-    flat_map (inserted_at y back) (flat_map (λ f. in_front f.qubit ∷ behind f.qubit ∷ []) factors)
-    ≡ flat_map (inserted_by (record { front = true; behind = true }) y back) (factor_qubits factors)
+    flat_map (inserted_at y back) (flat_map (λ f. in_front f.qubit ∷ following f.qubit ∷ []) factors)
+    ≡ flat_map (inserted_by (record { front = true; following = true }) y back) (factor_qubits factors)
 factors-split y back [] = refl
 factors-split y back (f ∷ factors) =
     ap (λ (rest : List Inserted).
@@ -59,20 +59,20 @@ site-within : (n : ℕ) (s : Site) → s.qubit < n → All (λ t. t.qubit < n) (
 site-within n s lt = All-cons (λ t. t.qubit < n) s [] lt (All-nil (λ t. t.qubit < n))
 
 sites-of-factors : (n : ℕ) (factors : List Factor) → All (λ f. f.qubit < n) factors →
-    All (λ s. s.qubit < n) (flat_map (λ f. in_front f.qubit ∷ behind f.qubit ∷ []) factors)
+    All (λ s. s.qubit < n) (flat_map (λ f. in_front f.qubit ∷ following f.qubit ∷ []) factors)
 sites-of-factors n [] w = All-nil (λ s. s.qubit < n)
 sites-of-factors n (f ∷ factors) w =
     let here : f.qubit < n = w 0 f (omega arith) in
-    All-cons (λ s. s.qubit < n) (in_front f.qubit) (behind f.qubit ∷ flat_map (λ f. in_front f.qubit ∷ behind f.qubit ∷ []) factors) here
-    (All-cons (λ s. s.qubit < n) (behind f.qubit) (flat_map (λ f. in_front f.qubit ∷ behind f.qubit ∷ []) factors) here
+    All-cons (λ s. s.qubit < n) (in_front f.qubit) (following f.qubit ∷ flat_map (λ f. in_front f.qubit ∷ following f.qubit ∷ []) factors) here
+    (All-cons (λ s. s.qubit < n) (following f.qubit) (flat_map (λ f. in_front f.qubit ∷ following f.qubit ∷ []) factors) here
     (sites-of-factors n factors (All-tail (λ f. f.qubit < n) f factors w)))
 
 all-within : (n : ℕ) (x : Step) → StepFits n x → All (λ s. s.qubit < n) (all_at x)
-all-within n (one g q) w = site-within n (behind q) w
-all-within n (two g a b) w = All-cons (λ s. s.qubit < n) (behind a) (behind b ∷ []) w.0 (site-within n (behind b) w.1)
-all-within n (controlled l k q) w = site-within n (behind q) w
-all-within n (collapse l q true inverted resets) w = All-cons (λ s. s.qubit < n) (in_front q) (behind q ∷ []) w (site-within n (behind q) w)
-all-within n (collapse l q false inverted resets) w = site-within n (behind q) w
+all-within n (one g q) w = site-within n (following q) w
+all-within n (two g a b) w = All-cons (λ s. s.qubit < n) (following a) (following b ∷ []) w.0 (site-within n (following b) w.1)
+all-within n (controlled l k q) w = site-within n (following q) w
+all-within n (collapse l q true inverted resets) w = All-cons (λ s. s.qubit < n) (in_front q) (following q ∷ []) w (site-within n (following q) w)
+all-within n (collapse l q false inverted resets) w = site-within n (following q) w
 all-within n (product factors inverted) w = sites-of-factors n factors w
 all-within n (detector ks) w = All-nil (λ s. s.qubit < n)
 all-within n (observable j ks) w = All-nil (λ s. s.qubit < n)

@@ -1,27 +1,12 @@
 -- Sweeps: the pass goes on before one step and before several, over pieces of a circuit's steps.
-use Rattle.stab_regions.proofs.Names.{◌≡◌, ℕ, zero, suc, ◌+◌, ◌-◌, ◌<◌, ◌≤◌, sym, ap, ◌∙◌, subst, Bool, true, false, List, [], ◌∷◌, ◌++◌, map, length, get_or, take, drop, reverse, min, arith, All, if◌then◌else◌, None, flat_map, drop_more, drop-drop, drop-map, get_or-map, length-drop, length-map, take_more, take-append-drop, All-nil, All-cons, All-head, All-tail, All-take, All-drop, Items, Step, unroll, check_of, is_detector, detectors_of, IsApart, StepFits, check-steps, Asked, Sweep, sites_asked, sides_asked, step_qubits, IsRegionsAt, Inserted, inserted_by, inserted_from, HaveRows, IsSwept, NamesBelow, MayPass, StandsBehind, Sweeps}
+use Rattle.stab_regions.proofs.Names.{◌≡◌, ℕ, zero, suc, ◌+◌, ◌-◌, ◌<◌, ◌≤◌, sym, ap, ◌∙◌, subst, List, [], ◌∷◌, ◌++◌, map, length, get_or, take, drop, reverse, min, arith, All, None, flat_map, drop_more, drop-drop, drop-map, get_or-map, length-drop, length-map, take_more, take-append-drop, All-nil, All-cons, All-head, All-tail, All-take, All-drop, Items, Step, unroll, check_of, detectors_of, HasDistinctQubits, StepFits, check-steps, Asked, Sweep, sites_asked, sides_asked, step_qubits, IsRegionsAt, Inserted, inserted_by, inserted_from, HaveRows, IsSwept, NamesBelow, MayPass, StandsAfter, Sweeps}
 use Rattle.stab_regions.proofs.SiteLemmas.{sites-split}
+use Rattle.stab_items.proofs.CountLemmas.{detectors_few}
+use Rattle.stab_regions.proofs.NegatedLemmas.{count-least}
 
--- how many detectors there are
-
-counted-more : (b : Bool) (d : ℕ) → d ≤ (if b then 1 + d else d)
-counted-more true d = omega arith
-counted-more false d = omega arith
-
-counted-one : (b : Bool) (d m : ℕ) → d ≤ m → (if b then 1 + d else d) ≤ suc m
-counted-one true d m le = omega (arith, le)
-counted-one false d m le = omega (arith, le)
-
-pub detectors-few : (xs : List Step) → detectors_of xs ≤ length xs
-detectors-few [] = omega arith
-detectors-few (x ∷ xs) = counted-one (is_detector x) (detectors_of xs) (length xs) (detectors-few xs)
-
-detectors-fewer : (x : Step) (xs : List Step) → detectors_of xs ≤ detectors_of (x ∷ xs)
-detectors-fewer x xs = counted-more (is_detector x) (detectors_of xs)
-
--- so detectors are counted exactly
+-- detectors are counted exactly
 pub detectors-exact : (items : Items) (n : ℕ) → check_of items ≡ None → n ≡ min (detectors_of (unroll items)) 1048577 → n ≡ detectors_of (unroll items)
-detectors-exact items n checked is = omega (arith, check-steps items checked, detectors-few (unroll items), is)
+detectors-exact items n checked is = omega (arith, check-steps items checked, detectors_few (unroll items), is)
 
 -- steps that are taken one by one
 
@@ -55,7 +40,7 @@ mapped-last f xs left item some le is =
 pub passes-head : (n D count : ℕ) (x : Step) (xs back : List Step) → MayPass n D count (x ∷ xs) back → MayPass n D count (x ∷ []) (xs ++ back)
 passes-head n D count x xs back p = record {
   fits = All-cons (StepFits n) x [] (All-head (StepFits n) x xs p.fits) (All-nil (StepFits n));
-  apart = All-cons IsApart x [] (All-head IsApart x xs p.apart) (All-nil IsApart);
+  distinct = All-cons HasDistinctQubits x [] (All-head HasDistinctQubits x xs p.distinct) (All-nil HasDistinctQubits);
   detectors = p.detectors;
   observables = All-cons (NamesBelow count) x [] (All-head (NamesBelow count) x xs p.observables) (All-nil (NamesBelow count));
 }
@@ -63,8 +48,8 @@ passes-head n D count x xs back p = record {
 pub passes-tail : (n D count : ℕ) (x : Step) (xs back : List Step) → MayPass n D count (x ∷ xs) back → MayPass n D count xs back
 passes-tail n D count x xs back p = record {
   fits = All-tail (StepFits n) x xs p.fits;
-  apart = All-tail IsApart x xs p.apart;
-  detectors = omega (arith, p.detectors, detectors-fewer x (xs ++ back));
+  distinct = All-tail HasDistinctQubits x xs p.distinct;
+  detectors = omega (arith, p.detectors, count-least x (xs ++ back));
   observables = All-tail (NamesBelow count) x xs p.observables;
 }
 
@@ -76,13 +61,13 @@ passes-drop n D count (suc k) (x ∷ xs) back p = passes-drop n D count k xs bac
 detectors-drop : (k : ℕ) (xs : List Step) → detectors_of (drop k xs) ≤ detectors_of xs
 detectors-drop zero xs = omega arith
 detectors-drop (suc k) [] = omega arith
-detectors-drop (suc k) (x ∷ xs) = omega (arith, detectors-drop k xs, detectors-fewer x xs)
+detectors-drop (suc k) (x ∷ xs) = omega (arith, detectors-drop k xs, count-least x xs)
 
-pub passes-piece : (n count begin end : ℕ) (xs : List Step) → begin ≤ end → All (StepFits n) xs → All IsApart xs → All (NamesBelow count) xs →
+pub passes-piece : (n count begin end : ℕ) (xs : List Step) → begin ≤ end → All (StepFits n) xs → All HasDistinctQubits xs → All (NamesBelow count) xs →
     MayPass n (detectors_of xs) count (take (end - begin) (drop begin xs)) (drop end xs)
-passes-piece n count begin end xs le fits apart below = record {
+passes-piece n count begin end xs le fits distinct below = record {
   fits = All-take (StepFits n) (end - begin) (drop begin xs) (All-drop (StepFits n) begin xs fits);
-  apart = All-take IsApart (end - begin) (drop begin xs) (All-drop IsApart begin xs apart);
+  distinct = All-take HasDistinctQubits (end - begin) (drop begin xs) (All-drop HasDistinctQubits begin xs distinct);
   detectors = omega (arith, ap detectors_of (piece begin end xs le), detectors-drop begin xs);
   observables = All-take (NamesBelow count) (end - begin) (drop begin xs) (All-drop (NamesBelow count) begin xs below);
 }
@@ -94,8 +79,8 @@ sweeps-more asked x xs old mid new first then_one = λ n D count back passes swe
     then_one n D count (xs ++ back) (passes-head n D count x xs back passes) (first n D count back (passes-tail n D count x xs back passes) swept)
 
 -- if it is after all of them, and came before those from number k + 1 on, it is after that with number k
-pub stands-next : (asked : Asked) (xs : List Step) (k : ℕ) (x : Step) (old s : Sweep) → drop k xs ≡ x ∷ drop (k + 1) xs → StandsBehind asked xs old →
-    Sweeps asked (drop (k + 1) xs) old s → StandsBehind asked (x ∷ []) s
+pub stands-next : (asked : Asked) (xs : List Step) (k : ℕ) (x : Step) (old s : Sweep) → drop k xs ≡ x ∷ drop (k + 1) xs → StandsAfter asked xs old →
+    Sweeps asked (drop (k + 1) xs) old s → StandsAfter asked (x ∷ []) s
 stands-next asked xs k x old s here p sweeps =
     let passes : MayPass p.n p.D p.count (x ∷ drop (k + 1) xs) p.back = subst (λ (ys : List Step). MayPass p.n p.D p.count ys p.back) here (passes-drop p.n p.D p.count k xs p.back p.passes) in
     record {

@@ -4,8 +4,9 @@ use Rattle.std.proofs.Common.{All}
 use Rattle.stab_regions.proofs.TouchLemmas.{flipped-before}
 use Rattle.stab_regions.proofs.RandomLemmas.{flips_asked, faults-flip-with-their-coins}
 use Rattle.stab_regions.proofs.DetectorLemmas.{detector_bit, count-other, before-other, named-other, before-front, fits-before, detector-bit}
-use Rattle.stab_regions.proofs.FaultLemmas.{count-append, stands-first, stands-behind, bit-same, flipped-with, coins-before}
+use Rattle.stab_regions.proofs.FaultLemmas.{stands-first, stands-following, bit-same, flipped-with, coins-before}
 use Rattle.stab_regions.proofs.ObservableLemmas.{observable_bit, observable-bit}
+use Rattle.stab_items.proofs.StepLemmas.{detectors_of-append}
 
 -- whether a letter between front and back flips detector d: not one before it
 abbrev pub flips_detector : ℕ → ℕ → List Step → Letter → ℕ → List Step → Bool
@@ -32,7 +33,7 @@ module _ (law : RunsArePointsWithOutputs) (n : ℕ) (front back : List Step) (l 
         → detector_bit n coins (front ++ ys) count d ≡ bit_asked n coins asks_nothing (steps_before_detector d front) (named_by d front) origin
     bit-first coins ys =
         let there = stands-first d front ys lt in
-        detector-bit law n coins (front ++ ys) count d (omega (arith, lt, count-append front ys))
+        detector-bit law n coins (front ++ ys) count d (omega (arith, lt, detectors_of-append front ys))
         ∙ (λ i. bit_asked n coins asks_nothing (there.0 i) (there.1 i) origin)
 
     -- the table says that it is not flipped
@@ -66,18 +67,18 @@ module _ (law : RunsArePointsWithOutputs) (n : ℕ) (front back : List Step) (l 
     place = detectors_of front + d
 
     -- its bit is asked for after these
-    bit-behind : (coins : ℕ → Bool) → detector_bit n coins (front ++ back) count place ≡ bit_asked n coins asks_nothing (front ++ ys) ks origin
-    bit-behind coins =
-        let there = stands-behind d front back in
-        detector-bit law n coins (front ++ back) count place (omega (arith, lt, count-append front back))
+    bit-following : (coins : ℕ → Bool) → detector_bit n coins (front ++ back) count place ≡ bit_asked n coins asks_nothing (front ++ ys) ks origin
+    bit-following coins =
+        let there = stands-following d front back in
+        detector-bit law n coins (front ++ back) count place (omega (arith, lt, detectors_of-append front back))
         ∙ (λ i. bit_asked n coins asks_nothing (there.0 i) (there.1 i) origin)
 
     -- and with the letter after these and the letter
-    fault-behind : (coins : ℕ → Bool) → detector_bit n coins (with_fault front l q back) count place ≡ bit_asked n coins asks_nothing (with_fault front l q ys) ks origin
-    fault-behind coins =
+    fault-following : (coins : ℕ → Bool) → detector_bit n coins (with_fault front l q back) count place ≡ bit_asked n coins asks_nothing (with_fault front l q ys) ks origin
+    fault-following coins =
         let letter : Step = one (gate_of l) q in
-        let there = stands-behind d front (letter ∷ back) in
-        detector-bit law n coins (with_fault front l q back) count place (omega (arith, lt, count-append front (letter ∷ back), count-other letter back refl))
+        let there = stands-following d front (letter ∷ back) in
+        detector-bit law n coins (with_fault front l q back) count place (omega (arith, lt, detectors_of-append front (letter ∷ back), count-other letter back refl))
         ∙ (λ i. bit_asked n coins asks_nothing (there.0 i) (there.1 i) origin)
         ∙ (λ i. bit_asked n coins asks_nothing (front ++ before-other letter back d refl i) (named-other letter back d refl i) origin)
 
@@ -89,17 +90,17 @@ module _ (law : RunsArePointsWithOutputs) (n : ℕ) (front back : List Step) (l 
         ∙ ap (λ k. anticommute (single n q l) (region_of_detector n k back).string) (omega arith)
 
     -- the steps before it fit
-    fits-behind : All (StepFits n) ys
-    fits-behind = fits-before n d back fb
+    fits-following : All (StepFits n) ys
+    fits-following = fits-before n d back fb
 
     -- so the law holds of it
-    flips-behind : FlipsDetector n front l q back count place
-    flips-behind coins =
+    flips-following : FlipsDetector n front l q back count place
+    flips-following coins =
         let others : ℕ → Bool = flipped_with n front l q back coins in
-        fault-behind others
+        fault-following others
         ∙ bit-same n (flipped_with n front l q ys coins) others asks_nothing (with_fault front l q ys) ks origin (flipped-same coins)
-        ∙ faults-flip-with-their-coins n coins front ys l q lt_q ff fits-behind asks_nothing ks refl
-        ∙ (λ i. sym (bit-behind coins) i ⊕ sym flips-asked i)
+        ∙ faults-flip-with-their-coins n coins front ys l q lt_q ff fits-following asks_nothing ks refl
+        ∙ (λ i. sym (bit-following coins) i ⊕ sym flips-asked i)
       where
         flipped-same : (coins : ℕ → Bool) (t : ℕ) → t < 0 + all_coins_of (with_fault front l q ys) → flipped_with n front l q back coins t ≡ flipped_with n front l q ys coins t
         flipped-same coins t less =
@@ -116,7 +117,7 @@ faults-flip-detectors law n front back l q count d lt_q ff fb lt = by_place (cas
     by_place (inl less) = flips-first law n front back l q count lt_q ff fb d less
     by_place (inr more) =
         subst (FlipsDetector n front l q back count) (omega (arith, more))
-        (flips-behind law n front back l q count lt_q ff fb (d - detectors_of front) (omega (arith, lt, more, count-append front back)))
+        (flips-following law n front back l q count lt_q ff fb (d - detectors_of front) (omega (arith, lt, more, detectors_of-append front back)))
 
 -- the law of letters and observables
 pub faults-flip-observables : RunsArePointsWithOutputs → (n : ℕ) (front back : List Step) (l : Letter) (q count j : ℕ) → q < n → All (StepFits n) front → All (StepFits n) back

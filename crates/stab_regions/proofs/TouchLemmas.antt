@@ -5,6 +5,7 @@ use Rattle.std.proofs.Common.{All}
 use Rattle.stab_regions.proofs.LookLemmas.{parity-append, parity-where, parity-when, parity-flipped}
 use Rattle.stab_regions.proofs.ReadLemmas.{size-through}
 use Rattle.stab_regions.proofs.MovedLemmas.{IsMoved, moved-gate, moved-pair, anticommute-times, anticommute-times_right, size-after, FlipsCoin, moved-next}
+use Rattle.stab_regions.proofs.SignLemmas.{parity-left}
 
 -- what a frame makes of the bit that a region asks for
 abbrev pub touches : Frame → Region → Bool
@@ -104,8 +105,8 @@ module _ (n : ℕ) (coins others : ℕ → Bool) where
   flips-here (detector ks) f from bits flips = tt
   flips-here (observable j ks) f from bits flips = tt
 
-  flips-behind : (from : ℕ) (front bits : List Bool) → FlipsCoins from (front ++ bits) coins others → FlipsCoins (from + length front) bits coins others
-  flips-behind from front bits flips t =
+  flips-following : (from : ℕ) (front bits : List Bool) → FlipsCoins from (front ++ bits) coins others → FlipsCoins (from + length front) bits coins others
+  flips-following from front bits flips t =
       ap others (omega arith) ∙ flips (length front + t)
       ∙ (λ i. coins (place i) ⊕ get_or-append-add front bits t false i)
     where
@@ -136,13 +137,10 @@ module _ (n : ℕ) (coins others : ℕ → Bool) where
       later : FlipsCoins (p.coin + coins_of x) (all_flipped_coins n xs (frame_after n x f)) coins others
       later =
           subst (λ c. FlipsCoins (p.coin + c) (all_flipped_coins n xs (frame_after n x f)) coins others) (length-flipped n x f)
-          (flips-behind p.coin (flipped_coins n x f) (all_flipped_coins n xs (frame_after n x f)) flips)
-
-      around : (a c p : Bool) → a ⊕ (c ⊕ p) ≡ c ⊕ (a ⊕ p)
-      around a c p = grind arith
+          (flips-following p.coin (flipped_coins n x f) (all_flipped_coins n xs (frame_after n x f)) flips)
 
       whole : parity f.flips (asked x) ⊕ touches (frame_after n x f) r ≡ touches f (with_looks (asked x) (region_before n x r))
       whole =
           ap (λ b. parity f.flips (asked x) ⊕ b) (touches-next n x f r here lf (size-through n asked xs (region_of n ks) (length-replicate n I)))
-          ∙ around (parity f.flips (asked x)) (anticommute f.string (region_before n x r).string) (parity f.flips (region_before n x r).looks)
+          ∙ parity-left (parity f.flips (asked x)) (anticommute f.string (region_before n x r).string) (parity f.flips (region_before n x r).looks)
           ∙ ap (λ b. anticommute f.string (region_before n x r).string ⊕ b) (sym (parity-append f.flips (asked x) (region_before n x r).looks))

@@ -13,13 +13,13 @@ use Rattle.stab_regions.specs.Rows.{odd, row}
 -- a place for faults: a qubit, in front of a step or after it
 pub record Site : Type 0 where
   pub qubit : ℕ
-  pub behind : Bool
+  pub following : Bool
 
 abbrev pub in_front : ℕ → Site
-in_front q = record { qubit = q; behind = false }
+in_front q = record { qubit = q; following = false }
 
-abbrev pub behind : ℕ → Site
-behind q = record { qubit = q; behind = true }
+abbrev pub following : ℕ → Site
+following q = record { qubit = q; following = true }
 
 -- where a circuit marks places for faults: at each target of the gate that does nothing
 abbrev pub marked_at : Step → List Site
@@ -28,12 +28,12 @@ marked_at x = []
 
 -- all places at a step: on each qubit of it, in front of it if it measures, and after it
 abbrev pub all_at : Step → List Site
-all_at (one g q) = behind q ∷ []
-all_at (two g a b) = behind a ∷ behind b ∷ []
-all_at (controlled l k q) = behind q ∷ []
-all_at (collapse l q true inverted resets) = in_front q ∷ behind q ∷ []
-all_at (collapse l q false inverted resets) = behind q ∷ []
-all_at (product factors inverted) = flat_map (λ f. in_front f.qubit ∷ behind f.qubit ∷ []) factors
+all_at (one g q) = following q ∷ []
+all_at (two g a b) = following a ∷ following b ∷ []
+all_at (controlled l k q) = following q ∷ []
+all_at (collapse l q true inverted resets) = in_front q ∷ following q ∷ []
+all_at (collapse l q false inverted resets) = following q ∷ []
+all_at (product factors inverted) = flat_map (λ f. in_front f.qubit ∷ following f.qubit ∷ []) factors
 all_at (detector ks) = []
 all_at (observable j ks) = []
 
@@ -51,7 +51,7 @@ pub record FaultPlace : Type 0 where
 
 -- the fault of a letter at a place of step number t
 abbrev pub fault_on : ℕ → Site → Letter → FaultPlace
-fault_on t s l = record { letter = l; qubit = s.qubit; before = if s.behind then t + 1 else t; step = t }
+fault_on t s l = record { letter = l; qubit = s.qubit; before = if s.following then t + 1 else t; step = t }
 
 -- the faults at a place: X, then Z
 abbrev pub faults_on : ℕ → Site → List FaultPlace

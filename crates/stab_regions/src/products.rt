@@ -22,7 +22,7 @@ fn multiply_product(
     parities: &Parities,
 ) -> Result<(), AllocError>
     requires in_range { All (λ f. f.qubit < length by_x.old) factors.now }
-    requires apart { names_twice factors.now ≡ false }
+    requires distinct { names_twice factors.now ≡ false }
     requires same_length { length by_z.old ≡ length by_x.old }
     ensures same_x { length by_x.new ≡ length by_x.old }
     ensures same_z { length by_z.new ≡ length by_z.old }
@@ -44,7 +44,7 @@ pub fn before_product(
     factors: &[Factor],
 ) -> Result<(), AllocError>
     requires in_range { All (λ f. f.qubit < length by_x.old) factors.now }
-    requires apart { names_twice factors.now ≡ false }
+    requires distinct { names_twice factors.now ≡ false }
     requires same_length { length by_z.old ≡ length by_x.old }
     ensures same_x { length by_x.new ≡ length by_x.old }
     ensures same_z { length by_z.new ≡ length by_z.old }
@@ -63,7 +63,7 @@ pub fn flipped_by_product(
     factors: &[Factor],
 ) -> Result<Parities, AllocError>
     requires in_range { All (λ f. f.qubit < length by_x.now) factors.now }
-    requires apart { names_twice factors.now ≡ false }
+    requires distinct { names_twice factors.now ≡ false }
     requires same_length { length by_z.now ≡ length by_x.now }
     ensures odd { IfOk result (λ p. (i : ℕ) (s : Signed) → length s.letters ≡ length by_x.now → ShowsLetters i by_x.now by_z.now s.letters → odd i p ≡ anticommute (string_of (length by_x.now) factors.now) s) }
 {

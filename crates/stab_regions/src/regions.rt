@@ -71,9 +71,9 @@ impl Regions {
     ghost use Rattle.stab_gates.specs.declared.letter.Letter.TheVariants.{X, Z};
     ghost use Rattle.stab_lines.specs.Products.{names_twice};
     ghost use Rattle.stab_items.specs.Steps.{one, two, controlled, collapse, product, detector, observable};
-    ghost use Rattle.stab_edits.specs.Cursors.{step_shown, IsApart};
+    ghost use Rattle.stab_edits.specs.Cursors.{step_shown, HasDistinctQubits};
     ghost use Rattle.stab_run.specs.ProgramStates.{StepFits};
-    ghost use Rattle.stab_regions.specs.inner.RegionsAt.{IsRegionsAt, IsSized, HasParity, MovesBack, MovesTo, AreFlipped, TellDeterministic};
+    ghost use Rattle.stab_regions.specs.inner.RegionsAt.{IsRegionsAt, IsSized, HasParity, MovesBack, MovesTo, AreFlipped, DetermineDeterministic};
 
     /// The regions after the last step, of this many detectors and observables on this many qubits.
     pub(crate) fn at_end(
@@ -198,7 +198,7 @@ impl Regions {
     fn undo_product(&mut self, alloc: Global, factors: &[Factor]) -> Result<(), AllocError>
         requires rows { length self.old.by_z.items ≡ length self.old.by_x.items }
         requires in_range { All (λ f. f.qubit < length self.old.by_x.items) factors.now }
-        requires apart { names_twice factors.now ≡ false }
+        requires distinct { names_twice factors.now ≡ false }
         ensures moved { OnOk result ((inverted : Bool) → MovesBack (length self.old.by_x.items) (product factors.now inverted) self.old self.new) }
     {
         let flipped = flipped_by_product(
@@ -244,7 +244,7 @@ impl Regions {
     pub(crate) fn before(&mut self, alloc: Global, step: Step) -> Result<(), AllocError>
         requires sized { IsSized self.old }
         requires fits { StepFits (length self.old.by_x.items) (step_shown step) }
-        requires apart { IsApart (step_shown step) }
+        requires distinct { HasDistinctQubits (step_shown step) }
         requires there { HasParity self.old (step_shown step) }
         ensures state { OnOk result (MovesTo (step_shown step.entry) self.old self.new) }
     {
@@ -287,7 +287,7 @@ impl Regions {
     /// For each parity whether it is deterministic, if the place is the circuit's start: the steps after
     /// keep it, and it has no letter X or Y.
     pub(crate) fn deterministic(self) -> Vec<bool>
-        ensures value { TellDeterministic self result.items }
+        ensures value { DetermineDeterministic self result.items }
     {
         let Regions {
             by_x: _,

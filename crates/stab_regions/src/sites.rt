@@ -18,7 +18,7 @@ pub(crate) enum Asked {
 #[derive(Clone, Copy)]
 pub(crate) struct Sides {
     pub front: bool,
-    pub behind: bool,
+    pub following: bool,
 }
 
 /// The sides of a step where faults are asked for.
@@ -28,11 +28,11 @@ pub fn sides_at(asked: Asked, step: Step) -> Sides
     match asked {
         Asked::Nowhere => Sides {
             front: false,
-            behind: false,
+            following: false,
         },
         Asked::Marked => Sides {
             front: is_marked(step),
-            behind: false,
+            following: false,
         },
         Asked::Everywhere => all_sides(step),
     }
@@ -52,13 +52,13 @@ fn is_marked(step: Step) -> bool
 fn all_sides(step: Step) -> Sides
     ensures value { result ≡ all_sides_of (step_shown step.entry) }
 {
-    let (front, behind) = match step {
+    let (front, following) = match step {
         Step::One(_, _) | Step::Two(_, _, _) | Step::Controlled(_, _, _) => (false, true),
         Step::Collapse { recorded, .. } => (recorded, true),
         Step::Product { .. } => (true, true),
         Step::Detector(_) | Step::Observable(_, _) => (false, false),
     };
-    Sides { front, behind }
+    Sides { front, following }
 }
 
 /// How many qubits a step is on.

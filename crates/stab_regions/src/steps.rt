@@ -7,18 +7,9 @@ use crate::lookbacks::{look_back, newest};
 use crate::parities::Parities;
 use crate::rows::{flipped, multiply};
 use stab_pauli::Letter;
+use stab_run::flip;
 use std::alloc::{AllocError, Global};
 use std::collections::VecDeque;
-
-/// A letter that exchanges the two outcomes of a letter, with which it anticommutes.
-fn correction(letter: Letter) -> Letter
-    ensures value { result ≡ flip_of letter }
-{
-    match letter {
-        Letter::I | Letter::Y | Letter::Z => Letter::X,
-        Letter::X => Letter::Z,
-    }
-}
 
 /// Moves regions to the place before a letter that a record controls: the record counts if the
 /// letter flips.
@@ -54,7 +45,7 @@ fn corrected(
     ensures odd { IfOk result (λ p. (i : ℕ) → odd i p ≡ (reset && bits_at i (flip_of letter) (row by_x.now qubit) (row by_z.now qubit))) }
 {
     if reset {
-        flipped(alloc, by_x, by_z, correction(letter), qubit)
+        flipped(alloc, by_x, by_z, flip(letter), qubit)
     } else {
         Ok(Parities::none(alloc))
     }

@@ -9,7 +9,7 @@ ghost use Rattle.stab_run.specs.ProgramStates.{StepFits};
 ghost use Rattle.stab_regions.specs.inner.Sites.{step_qubits, where_asked};
 ghost use Rattle.stab_regions.specs.inner.RegionsAt.{IsRegionsAt};
 ghost use Rattle.stab_regions.specs.declared.sites.Asked.{Asked};
-ghost use Rattle.stab_regions.specs.inner.Sweeps.{Inserted, inserted_on, inserted_by, HaveRows, AreKept, IsSwept, StandsBehind, Sweeps};
+ghost use Rattle.stab_regions.specs.inner.Sweeps.{Inserted, inserted_on, inserted_by, HaveRows, AreKept, IsSwept, StandsAfter, Sweeps};
 
 use crate::fault_rows::FaultRows;
 use crate::regions::Regions;
@@ -101,7 +101,7 @@ fn add_front(
 
 /// Adds the last two of this many rows that are kept, those of the letters on a step's qubit after it,
 /// if faults there are asked for.
-fn add_behind(
+fn add_after(
     rows: &mut FaultRows,
     kept: &FaultRows,
     asked: bool,
@@ -128,14 +128,14 @@ fn add_all(
 ) -> Result<(), AllocError>
     requires in_range { All (λ q. q < length regions.now.by_x.items) (step_qubits (step_shown step)) }
     requires same_length { length regions.now.by_z.items ≡ length regions.now.by_x.items }
-    requires len { sides.behind ≡ true → length kept.now ≡ 2 * length (step_qubits (step_shown step)) }
-    ensures rows { OnOk result ((n D count : ℕ) (back : List Step) (others : List Inserted) → IsRegionsAt n D count (step_shown step.entry ∷ back) regions.now → (sides.behind ≡ true → AreKept n D count back (step_qubits (step_shown step.entry)) kept.now) → HaveRows n D count others (reverse rows.old) → HaveRows n D count (flat_map (inserted_by sides (step_shown step.entry) back) (step_qubits (step_shown step.entry)) ++ others) (reverse rows.new)) }
+    requires len { sides.following ≡ true → length kept.now ≡ 2 * length (step_qubits (step_shown step)) }
+    ensures rows { OnOk result ((n D count : ℕ) (back : List Step) (others : List Inserted) → IsRegionsAt n D count (step_shown step.entry ∷ back) regions.now → (sides.following ≡ true → AreKept n D count back (step_qubits (step_shown step.entry)) kept.now) → HaveRows n D count others (reverse rows.old) → HaveRows n D count (flat_map (inserted_by sides (step_shown step.entry) back) (step_qubits (step_shown step.entry)) ++ others) (reverse rows.new)) }
 {
     let mut left = qubits_in(step);
     let mut end = kept.len();
     'qubits: while left > 0 {
         left -= 1;
-        add_behind(rows, kept, sides.behind, end)?;
+        add_after(rows, kept, sides.following, end)?;
         add_front(rows, regions, sides.front, qubit_in(step, left))?;
         end = end.saturating_sub(2);
     }
@@ -162,11 +162,11 @@ impl Sweep {
 
     /// Goes on before a step.
     fn before(&mut self, alloc: Global, asked: Asked, step: StepValue) -> Result<(), AllocError>
-        requires place { StandsBehind asked (step_shown step ∷ []) self.old }
+        requires place { StandsAfter asked (step_shown step ∷ []) self.old }
         ensures sweeps { OnOk result (Sweeps asked (step_shown step.entry ∷ []) self.old self.new) }
     {
         let sides = sides_at(asked, step);
-        keep_all(&self.regions, &mut self.kept, sides.behind, step)?;
+        keep_all(&self.regions, &mut self.kept, sides.following, step)?;
         self.regions.before(alloc, step)?;
         add_all(&mut self.rows, &self.regions, &self.kept, sides, step)?;
         Ok(())
@@ -179,7 +179,7 @@ impl Sweep {
         asked: Asked,
         steps: &[StepValue],
     ) -> Result<(), AllocError>
-        requires place { StandsBehind asked (map step_shown steps.now) self.old }
+        requires place { StandsAfter asked (map step_shown steps.now) self.old }
         ensures sweeps { OnOk result (Sweeps asked (map step_shown steps.now) self.old self.new) }
     {
         let mut left = steps.len();

@@ -55,12 +55,12 @@ pub next_run : (start : ℕ) (bits : List Bool) (place : ℕ) (more : List ℕ) 
 next_run start bits place more e =
     let next = next_one start (drop start bits) place more e in
     let short = length-drop start bits in
-    let behind : drop (suc next.zeros) (drop start bits) ≡ drop (place + 1) bits =
+    let following : drop (suc next.zeros) (drop start bits) ≡ drop (place + 1) bits =
     drop-drop (suc next.zeros) start bits ∙ ap (λ n. drop n bits) (omega (arith, next.place_is)) in record {
       after = omega (arith, next.place_is);
       within = omega (arith, next.place_is, next.within, short);
-      more_is = next.more_is ∙ ap (λ l. one_places_from (place + 1) l) behind;
-      runs = ap (λ l. flat_map run_bytes (gaps_from start l)) (next.longer (true ∷ []) ∙ ap (λ l. place ∷ one_places_from (place + 1) (l ++ true ∷ [])) behind);
+      more_is = next.more_is ∙ ap (λ l. one_places_from (place + 1) l) following;
+      runs = ap (λ l. flat_map run_bytes (gaps_from start l)) (next.longer (true ∷ []) ∙ ap (λ l. place ∷ one_places_from (place + 1) (l ++ true ∷ [])) following);
     }
 
 -- with no 1 bit left, the run of the 1 that is appended is left

@@ -31,11 +31,11 @@ pub past_block : (bits rest block : List Bool) (place size : ℕ) → rest ≡ d
 past_block bits rest block place size after front within none =
     let long : length block ≡ size = ap length front ∙ length-take-le size rest (omega (arith, ap length after, length-drop place bits)) in
     let cut : drop place bits ≡ block ++ drop size rest = sym after ∙ sym (take-append-drop size rest) ∙ ap (λ l. l ++ drop size rest) (sym front) in
-    let behind : drop size rest ≡ drop (place + size) bits = ap (drop size) after ∙ drop-drop size place bits ∙ ap (λ n. drop n bits) (omega arith) in
+    let following : drop size rest ≡ drop (place + size) bits = ap (drop size) after ∙ drop-drop size place bits ∙ ap (λ n. drop n bits) (omega arith) in
     sym (ap (one_places_from place) cut
     ∙ no_one place block (drop size rest) (none_from 0 place block none)
     ∙ ap (λ n. one_places_from (place + n) (drop size rest)) long
-    ∙ ap (one_places_from (place + size)) behind)
+    ∙ ap (one_places_from (place + size)) following)
 
 -- if none of some bits and the next is 1, the search for places goes on after it
 pub goes_past : (bits : List Bool) (any : Bool) (place : ℕ) → place < length bits →

@@ -2,8 +2,8 @@
 use Rattle.stab_rounds.proofs.Names.{◌≡◌, ℕ, ◌+◌, ◌*◌, ◌≤◌, suc, zero, sym, ◌∙◌, ap, List, [], ◌++◌, length, take, drop, append_assoc, append-nil, arith, drop-drop, take-take, take_all, length-drop, length-append, take-add, take-append_seam, drop-append_seam, Step, rounds}
 
 -- what is left after a part
-pub goes-behind : {X : Type 0} (n : ℕ) (xs part rest : List X) → drop n xs ≡ part ++ rest → rest ≡ drop (n + length part) xs
-goes-behind n xs part rest e = sym (sym (drop-drop (length part) n xs) ∙ ap (drop (length part)) e ∙ drop-append_seam part rest)
+pub goes-following : {X : Type 0} (n : ℕ) (xs part rest : List X) → drop n xs ≡ part ++ rest → rest ≡ drop (n + length part) xs
+goes-following n xs part rest e = sym (sym (drop-drop (length part) n xs) ∙ ap (drop (length part)) e ∙ drop-append_seam part rest)
 
 -- and what is before that
 pub goes-before : {X : Type 0} (n : ℕ) (xs part rest : List X) → drop n xs ≡ part ++ rest → take (n + length part) xs ≡ take n xs ++ part

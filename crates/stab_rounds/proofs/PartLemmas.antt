@@ -68,10 +68,10 @@ part-repeat xs r j k is le many =
     let ys = drop r.first xs in
     let ss = take l ys in
     let len : length ss ≡ l = round-long l r.rounds r.first xs is.many is.inside in
-    let behind : drop (r.first + j * l) xs ≡ drop (j * l) ys = sym (drop-drop (j * l) r.first xs) in
-    let again : take (k * l) (drop (r.first + j * l) xs) ≡ rounds k ss = ap (take (k * l)) behind ∙ rounds-within j k r.rounds l ss ys len is.again le in
+    let following : drop (r.first + j * l) xs ≡ drop (j * l) ys = sym (drop-drop (j * l) r.first xs) in
+    let again : take (k * l) (drop (r.first + j * l) xs) ≡ rounds k ss = ap (take (k * l)) following ∙ rounds-within j k r.rounds l ss ys len is.again le in
     let round : take l (drop (r.first + j * l) xs) ≡ ss =
-    ap (take l) behind
+    ap (take l) following
     ∙ ap (λ i. take i (drop (j * l) ys)) {x = l} {y = 1 * l} (omega arith)
     ∙ rounds-within j 1 r.rounds l ss ys len is.again (omega (arith, le, many))
     ∙ append-nil ss in

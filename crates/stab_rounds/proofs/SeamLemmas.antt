@@ -29,15 +29,15 @@ one-of-two xs r s gap is other length-same place seam =
     ∙ append-nil ss in
     let on : take (suc (gap + 1) * l) last ≡ rounds (suc (gap + 1)) ss =
     come-again l ((gap + 1) * l) (gap + 1) last (seam ∙ ap (take ((gap + 1) * l)) next) (omega arith) ∙ ap (rounds (suc (gap + 1))) round in
-    let behind : (j : ℕ) → drop (j * l) last ≡ drop ((n - 1) * l + j * l) ys = (λ j. ap (drop (j * l)) from ∙ drop-drop (j * l) ((n - 1) * l) ys) in
+    let following : (j : ℕ) → drop (j * l) last ≡ drop ((n - 1) * l + j * l) ys = (λ j. ap (drop (j * l)) from ∙ drop-drop (j * l) ((n - 1) * l) ys) in
     let between : take (gap * l) (drop (n * l) ys) ≡ rounds gap ss =
     ap (λ i. take (gap * l) (drop i ys)) {x = n * l} {y = (n - 1) * l + 1 * l} (omega (arith, whole))
-    ∙ ap (take (gap * l)) (sym (behind 1))
+    ∙ ap (take (gap * l)) (sym (following 1))
     ∙ rounds-within 1 gap (suc (gap + 1)) l ss last len on (omega arith) in
     let there : drop ((n + gap) * l) ys ≡ drop s.first xs = drop-drop ((n + gap) * l) r.first xs ∙ ap (λ i. drop i xs) (sym place) in
     let far : (n + gap) * l ≡ (n - 1) * l + (gap + 1) * l = ap (λ i. (i + gap) * l) parts ∙ omega arith in
     let first : take l (drop s.first xs) ≡ ss =
-    ap (take l) (sym there ∙ ap (λ i. drop i ys) far ∙ sym (behind (gap + 1)))
+    ap (take l) (sym there ∙ ap (λ i. drop i ys) far ∙ sym (following (gap + 1)))
     ∙ ap (λ i. take i (drop ((gap + 1) * l) last)) {x = l} {y = 1 * l} (omega arith)
     ∙ rounds-within (gap + 1) 1 (suc (gap + 1)) l ss last len on (omega arith)
     ∙ append-nil ss in
@@ -61,8 +61,8 @@ before-last from xs [] r are = (are.0, are.1)
 before-last from xs (s ∷ rs) r are = (let more = before-last (s.first + s.rounds * s.length) xs rs r are.2 in ((are.0, are.1, more.0), more.1))
 
 -- repeats, and one more after them
-pub one-behind : (from end : ℕ) (xs : List Step) (rs : List Repeat) (r : Repeat) → AreRepeatsTo from end xs rs → end ≤ r.first → IsRepeat xs r → AreRepeats from xs (rs ++ r ∷ [])
-one-behind from end xs rs r are order is = are-repeats from (r.first + r.rounds * r.length) xs (rs ++ r ∷ []) (one-repeat-more from end xs rs r are order is)
+pub one-following : (from end : ℕ) (xs : List Step) (rs : List Repeat) (r : Repeat) → AreRepeatsTo from end xs rs → end ≤ r.first → IsRepeat xs r → AreRepeats from xs (rs ++ r ∷ [])
+one-following from end xs rs r are order is = are-repeats from (r.first + r.rounds * r.length) xs (rs ++ r ∷ []) (one-repeat-more from end xs rs r are order is)
 
 -- each of some repeats is one
 pub repeat-at : (from : ℕ) (xs : List Step) (rs : List Repeat) (i : ℕ) (d : Repeat) → AreRepeats from xs rs → i < length rs → IsRepeat xs (slice_index_or rs i d)

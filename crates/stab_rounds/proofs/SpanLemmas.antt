@@ -36,6 +36,6 @@ pub after-span : (xs ys : List Step) (s : Span) (r : Repeat) → IsSpan xs ys s 
 after-span xs ys s r span is after =
     let far = r.first - s.old_end in
     let there : drop r.first xs ≡ drop far (drop s.old_end xs) = ap (λ i. drop i xs) {x = r.first} {y = s.old_end + far} (omega (arith, after)) ∙ sym (drop-drop far s.old_end xs) in
-    let same : drop r.first xs ≡ drop (s.new_end + far) ys = there ∙ ap (drop far) span.behind ∙ drop-drop far s.new_end ys in
+    let same : drop r.first xs ≡ drop (s.new_end + far) ys = there ∙ ap (drop far) span.following ∙ drop-drop far s.new_end ys in
     moved-repeat xs ys r (s.new_end + far) is (ap (take (r.rounds * r.length)) same)
-    (omega (arith, after, is.inside, ap length span.behind, length-drop s.old_end xs, length-drop s.new_end ys, span.old_within, span.new_within))
+    (omega (arith, after, is.inside, ap length span.following, length-drop s.old_end xs, length-drop s.new_end ys, span.old_within, span.new_within))

@@ -11,7 +11,7 @@ pub record IsSpan (xs ys : List Step) (s : Span) : Type 0 where
   pub old_within : s.old_end ≤ length xs
   pub new_within : s.new_end ≤ length ys
   pub before : take s.first xs ≡ take s.first ys
-  pub behind : drop s.old_end xs ≡ drop s.new_end ys
+  pub following : drop s.old_end xs ≡ drop s.new_end ys
 
 -- so the steps of an edited circuit differ from its old ones, of which there are no more than a circuit may have
 abbrev pub IsEditOf : List Step → List Step → Span → Type 0

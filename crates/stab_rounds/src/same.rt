@@ -95,13 +95,13 @@ fn is_collapse(
             letter: other,
             qubit: place,
             recorded: kept,
-            inverted: turned,
+            inverted: inverted_too,
             reset: again,
         } => {
             let same_letter = letter == other;
             let same_qubit = qubit == place;
             let same_record = recorded == kept;
-            let same_bit = inverted == turned;
+            let same_bit = inverted == inverted_too;
             let same_reset = reset == again;
             same_letter && same_qubit && same_record && same_bit && same_reset
         }

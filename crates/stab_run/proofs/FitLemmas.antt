@@ -1,5 +1,5 @@
 -- StepFits: the steps of a circuit that is not refused on n qubits are on these qubits.
-use Rattle.stab_run.proofs.Names.{◌≡◌, ℕ, zero, suc, ◌<◌, ◌≤◌, min, max, refl, sym, subst, Bool, true, false, nat_lt, List, [], ◌∷◌, ◌++◌, length, map, All, get_or, arith, Option, Some, None, if◌then◌else◌, All-nil, All-cons, All-append, Refusal, PairGate, MeasureTarget, Measurement, Axis, ControlledPair, Factor, Kind, Items, done, next, block, letter_of, pair_qubits, Step, one, two, controlled, collapse, product, detector, observable, measured, measured_product, controlled_gate, controlled_step, steps_of, rounds, unroll, past, target_qubits, controlled_qubits, factor_qubits, product_qubits, named_qubits, qubits_of, most_steps, steps_cap, check_of, check_within, IsApart, StepFits}
+use Rattle.stab_run.proofs.Names.{◌≡◌, ℕ, zero, suc, ◌<◌, ◌≤◌, min, max, refl, sym, subst, Bool, true, false, nat_lt, List, [], ◌∷◌, ◌++◌, length, map, All, get_or, arith, Option, Some, None, if◌then◌else◌, All-nil, All-cons, All-append, Refusal, PairGate, MeasureTarget, Measurement, Axis, ControlledPair, Factor, Kind, Items, done, next, block, letter_of, pair_qubits, Step, one, two, controlled, collapse, product, detector, observable, measured, measured_product, controlled_gate, controlled_step, steps_of, rounds, unroll, past, target_qubits, controlled_qubits, factor_qubits, product_qubits, named_qubits, qubits_of, most_steps, steps_cap, check_of, check_within, HasDistinctQubits, StepFits}
 use Rattle.stab_gates.specs.declared.gate.PairGate.TheVariants as gate
 use Rattle.stab_lines.specs.declared.control.ControlledPair.TheVariants as pair
 use Rattle.stab_lines.specs.declared.operation.Kind.TheVariants as kind
@@ -109,7 +109,7 @@ within-items n (block count tag body rest) le =
     (within-rounds n count (unroll body) (within-items n body (max-left (qubits_of body) (qubits_of rest) n le)))
     (within-items n rest (max-right (qubits_of body) (qubits_of rest) n le))
 
-fits-within : (n : ℕ) (x : Step) → IsWithin n x → IsApart x → StepFits n x
+fits-within : (n : ℕ) (x : Step) → IsWithin n x → HasDistinctQubits x → StepFits n x
 fits-within n (one g q) w a = w
 fits-within n (two g p q) w a = (w.0, w.1, a)
 fits-within n (controlled l k q) w a = w
@@ -120,7 +120,7 @@ fits-within n (observable j ks) w a = w
 
 -- what a check that finds nothing says
 
-chosen : (b : Bool) (r : Refusal) (o : Option Refusal) → (if b then Some r else o) ≡ None → (b ≡ false) × (o ≡ None)
+pub chosen : (b : Bool) (r : Refusal) (o : Option Refusal) → (if b then Some r else o) ≡ None → (b ≡ false) × (o ≡ None)
 chosen false r o e = (refl, e)
 chosen true r o e = cc
 
@@ -141,6 +141,6 @@ check-steps items e = not_less most_steps (length (unroll items)) (chosen _ _ _ 
 pub counted-steps : (n : ℕ) (items : Items) → check_within n items ≡ None → min (length (unroll items)) steps_cap ≡ length (unroll items)
 counted-steps n items e = let few = check-steps items (check-whole n items e) in omega arith
 
-pub check-fits : (n : ℕ) (items : Items) (xs : List Step) → check_within n items ≡ None → xs ≡ unroll items → All IsApart xs → All (StepFits n) xs
-check-fits n items xs e is apart = λ k d lt.
-    fits-within n (get_or xs k d) (subst (All (IsWithin n)) (sym is) (within-items n items (check-qubits n items e)) k d lt) (apart k d lt)
+pub check-fits : (n : ℕ) (items : Items) (xs : List Step) → check_within n items ≡ None → xs ≡ unroll items → All HasDistinctQubits xs → All (StepFits n) xs
+check-fits n items xs e is distinct = λ k d lt.
+    fits-within n (get_or xs k d) (subst (All (IsWithin n)) (sym is) (within-items n items (check-qubits n items e)) k d lt) (distinct k d lt)

@@ -52,9 +52,9 @@ fixed-future n coins c [] a none = (refl, ap (λ k. with_coin k a) (omega arith)
 fixed-future n coins c (x ∷ xs) a none =
     let sum = ones-append (given n coins x a).free (outputs n coins xs (next_point n coins x a)).free in
     let here : ones (given n coins x a).free ≡ 0 = omega (arith, none, sum) in
-    let behind : ones (outputs n coins xs (next_point n coins x a)).free ≡ 0 = omega (arith, none, sum) in
+    let following : ones (outputs n coins xs (next_point n coins x a)).free ≡ 0 = omega (arith, none, sum) in
     let next = next-fixed n coins c a x here in
-    let later = fixed-future n coins (c + coins_of x) xs (next_point n coins x a) behind in (
+    let later = fixed-future n coins (c + coins_of x) xs (next_point n coins x a) following in (
       (λ i. joined (given-fixed n coins c a x here i) ((ap (outputs n coins xs) next ∙ later.0) i)),
       ap (point_after n coins xs) next ∙ later.1 ∙ ap (λ k. with_coin k (point_after n coins xs (next_point n coins x a))) (omega arith),
     )
@@ -65,5 +65,5 @@ fixed-front n coins [] ys a none = refl
 fixed-front n coins (x ∷ xs) ys a none =
     let sum = ones-append (given n coins x a).free (outputs n coins (xs ++ ys) (next_point n coins x a)).free in
     let first = ones-append (given n coins x a).free (outputs n coins xs (next_point n coins x a)).free in
-    let behind : ones (outputs n coins xs (next_point n coins x a)).free ≡ 0 = fixed-front n coins xs ys (next_point n coins x a) (omega (arith, none, sum)) in
-    omega (arith, none, sum, first, behind)
+    let following : ones (outputs n coins xs (next_point n coins x a)).free ≡ 0 = fixed-front n coins xs ys (next_point n coins x a) (omega (arith, none, sum)) in
+    omega (arith, none, sum, first, following)

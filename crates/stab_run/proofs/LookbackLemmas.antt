@@ -66,14 +66,14 @@ parity-same m xs zs same (k ∷ ks) e = λ i.
 
 -- zeros
 
+pub zeros-at : (m i : ℕ) → get_or (replicate m false) i false ≡ false
+zeros-at zero i = refl
+zeros-at (suc m) zero = refl
+zeros-at (suc m) (suc i) = zeros-at m i
+
 pub looked_up-zeros : (m k : ℕ) → looked_up (replicate m false) k ≡ false
 looked_up-zeros m k = by_place (nat_lt (length (replicate m false)) k)
   where
-    none : (m i : ℕ) → get_or (replicate m false) i false ≡ false
-    none zero i = refl
-    none (suc m) zero = refl
-    none (suc m) (suc i) = none m i
-
     by_place : (c : Bool) → (if c then false else get_or (replicate m false) (length (replicate m false) - k) false) ≡ false
     by_place true = refl
-    by_place false = none m (length (replicate m false) - k)
+    by_place false = zeros-at m (length (replicate m false) - k)

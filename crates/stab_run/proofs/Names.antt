@@ -7,8 +7,8 @@ pub use Rattle.std.proofs.lemmas.List.Elements.{All-nil, All-cons, All-append, A
 pub use Rattle.std.specs.List.{list_any}
 pub use Rattle.std.specs.Prelude.{Option, Some, None, if◌then◌else◌, slice_index_or}
 pub use Rattle.rand_chacha.specs.ChaCha.{key_of}
-pub use Rattle.stab_items.proofs.LineApartLemmas.{joined_apart}
-pub use Rattle.stab_items.specs.Steps.{IsApart}
+pub use Rattle.stab_items.proofs.LineDistinctLemmas.{joined_distinct}
+pub use Rattle.stab_items.specs.Steps.{HasDistinctQubits}
 pub use Rattle.stab_items.specs.StepValues.{step_shown, steps_shown, lookbacks_of}
 pub use Rattle.stab_items.specs.Items.{Items, done, next, block}
 pub use Rattle.stab_items.specs.Steps.{Step, one, two, controlled, collapse, product, detector, observable, measured, measured_product, controlled_gate, controlled_step, steps_of, rounds, unroll, past, target_qubits, controlled_qubits, factor_qubits, product_qubits, named_qubits, qubits_of, most_steps, steps_cap, check_within, makes, records_of, lookbacks, looks_too_far, observables_of}
@@ -44,7 +44,7 @@ pub use Rattle.stab_run.specs.Cuts.{lengths_of, front_of, rest_of}
 pub use Rattle.stab_run.specs.Ends.{with_coin, AgreeBack}
 pub use Rattle.stab_run.specs.Laws.{FixedOutcomesNeedNoCoins, SameFutureBack, AgreeAt, SameFuture, IsSoundRun, AgreeWhere, DependsOnCoinsAt}
 pub use Rattle.stab_run.specs.Points.{Point, coins_of, all_coins_of, next_point, point_after, nothing, joined, given, trace_after, outputs, RunOutput, origin, state_at, point_of, with_additions}
-pub use Rattle.stab_run.specs.ProgramStates.{StepFits, ProgramState, IsAt, Leads, IsRun, applied_by, program_state, output_of}
+pub use Rattle.stab_run.specs.ProgramStates.{StepFits, ProgramState, IsAt, ComesTo, IsRun, applied_by, program_state, output_of}
 pub use Rattle.stab_run.specs.Records.{ones, looked_up, parity}
 pub use Rattle.stab_run.specs.RoundLaws.{copies}
 pub use Rattle.stab_run.specs.Runs.{when, string_of, outcome_at, collapsed, gate_of, flip_of, applied_where, with_factors, State, start, effect, run}

@@ -53,7 +53,7 @@ outcomes-counted n coins (x ∷ xs) p =
 
 -- what is given in two parts
 
-front-joined : (a b : RunOutput) → length a.outcomes ≡ length a.free → front_of (lengths_of a) (joined a b) ≡ a
+pub front-joined : (a b : RunOutput) → length a.outcomes ≡ length a.free → front_of (lengths_of a) (joined a b) ≡ a
 front-joined a b each = λ i. record {
   records = take_at a.records b.records (length a.records) refl i;
   free = take_at a.free b.free (length a.free) refl i;

@@ -15,16 +15,16 @@ length_identity n = length-replicate n I
 -- if one sign of a string stabilises
 
 minus_stabilises : (x y coin : Bool) → (x ≡ true → y ≡ false) → y ≡ true → (if x then false else (if y then true else coin)) ≡ true
-minus_stabilises true y coin apart e = let f : y ≡ false = apart refl in cc
-minus_stabilises false true coin apart e = refl
-minus_stabilises false false coin apart e = cc
+minus_stabilises true y coin distinct e = let f : y ≡ false = distinct refl in cc
+minus_stabilises false true coin distinct e = refl
+minus_stabilises false false coin distinct e = cc
 
 left_as_is : (x y z : Bool) → (x ≡ true → y ≡ false) → (y ≡ false → z ≡ true → x ≡ true) → x ≡ (not y && (x || z))
-left_as_is true true z apart back = let e : true ≡ false = apart refl in cc
-left_as_is true false z apart back = refl
-left_as_is false true z apart back = refl
-left_as_is false false true apart back = back refl refl
-left_as_is false false false apart back = refl
+left_as_is true true z distinct back = let e : true ≡ false = distinct refl in cc
+left_as_is true false z distinct back = refl
+left_as_is false true z distinct back = refl
+left_as_is false false true distinct back = back refl refl
+left_as_is false false false distinct back = refl
 
 module _ (n : ℕ) (member : Signed → Bool) (group : IsStabiliserGroup n member) (p : Signed) (lp : length p.letters ≡ n) where
   pub fixed-outcome_by : (b : Bool) → member (with_sign b p) ≡ true → (coin : Bool) → outcome_by member p coin ≡ b

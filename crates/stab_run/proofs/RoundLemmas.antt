@@ -30,7 +30,7 @@ rounds-within m (suc p) ys near =
 
 -- rounds that come again
 
--- what a round gives after one that no coin decided and that led to where it began, as far back as it looks; and where it leads
+-- what a round gives after one that no coin decided and that led to where it began, as far back as it looks; and where it ends
 module _ (n : ℕ) (coins : ℕ → Bool) (m : ℕ) (xs : List Step) (a : Point) (near : looks_too_far m xs ≡ false)
     (none : ones (outputs n coins xs a).free ≡ 0) (agree : AgreeBack n m (with_coin (point_after n coins xs a).coin a) (point_after n coins xs a)) where
   abbrev next : Point
@@ -43,12 +43,12 @@ module _ (n : ℕ) (coins : ℕ → Bool) (m : ℕ) (xs : List Step) (a : Point)
       × (point_after n coins xs (with_coin next.coin a) ≡ with_coin (next.coin + all_coins_of xs) next)
   at-coin = fixed-future n coins next.coin xs a none
 
-  behind : (outputs n coins xs (with_coin next.coin a) ≡ outputs n coins xs next)
+  following : (outputs n coins xs (with_coin next.coin a) ≡ outputs n coins xs next)
       × AgreeBack n (m + records_of xs) (point_after n coins xs (with_coin next.coin a)) later
-  behind = same-future-back n coins m xs (with_coin next.coin a) next near agree
+  following = same-future-back n coins m xs (with_coin next.coin a) next near agree
 
   output-again : outputs n coins xs next ≡ outputs n coins xs a
-  output-again = sym behind.0 ∙ at-coin.0
+  output-again = sym following.0 ∙ at-coin.0
 
   none-again : ones (outputs n coins xs next).free ≡ 0
   none-again = ap (λ (o : RunOutput). ones o.free) output-again ∙ none
@@ -56,7 +56,7 @@ module _ (n : ℕ) (coins : ℕ → Bool) (m : ℕ) (xs : List Step) (a : Point)
   agree-again : AgreeBack n m (with_coin later.coin next) later
   agree-again =
       let there : AgreeBack n (m + records_of xs) (with_coin (next.coin + all_coins_of xs) next) later =
-      subst (λ p. AgreeBack n (m + records_of xs) p later) at-coin.1 behind.1 in
+      subst (λ p. AgreeBack n (m + records_of xs) p later) at-coin.1 following.1 in
       record { group = there.group; coin = refl; records = λ k le. there.records k (omega (arith, le)) }
 
 pub rounds-again : (n : ℕ) (coins : ℕ → Bool) (m k : ℕ) (xs : List Step) (a : Point) → looks_too_far m xs ≡ false →

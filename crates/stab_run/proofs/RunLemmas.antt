@@ -1,5 +1,5 @@
 -- Runs: steps one after another, and how the program follows each.
-use Rattle.stab_run.proofs.Names.{◌≡◌, ℕ, ◌+◌, refl, sym, ◌∙◌, ap, subst, Bool, true, false, ◌&&◌, List, [], ◌∷◌, ◌++◌, append_assoc, append-nil, All, length, take-append_seam, drop-append_seam, All-take, All-drop, length-append, Letter, I, ◌⊕◌, Signed, single, Gate, back, Event, projected, member, is_free, SameGroup, outcome_by, is_free_by, projected_by, length-one_letter, same-applied, same-projected, same-outcome, same-free, Factor, Step, one, collapse, product, detector, parity, when, string_of, gate_of, flip_of, applied_where, outcome_at, Point, RunOutput, nothing, joined, given, trace_after, coins_of, next_point, point_after, outputs, StepFits, ProgramState, IsAt, Leads, IsRun, applied_by}
+use Rattle.stab_run.proofs.Names.{◌≡◌, ℕ, ◌+◌, refl, sym, ◌∙◌, ap, subst, Bool, true, false, ◌&&◌, List, [], ◌∷◌, ◌++◌, append_assoc, append-nil, All, length, take-append_seam, drop-append_seam, All-take, All-drop, length-append, Letter, I, ◌⊕◌, Signed, single, Gate, back, Event, projected, member, is_free, SameGroup, outcome_by, is_free_by, projected_by, length-one_letter, same-applied, same-projected, same-outcome, same-free, Factor, Step, one, collapse, product, detector, parity, when, string_of, gate_of, flip_of, applied_where, outcome_at, Point, RunOutput, nothing, joined, given, trace_after, coins_of, next_point, point_after, outputs, StepFits, ProgramState, IsAt, ComesTo, IsRun, applied_by}
 use Rattle.stab_run.proofs.ProductLemmas.{length-string_of}
 
 -- outputs one after another
@@ -58,7 +58,7 @@ IsRun-same n m c d xs a b same_size same_coins f = subst (λ k. IsRun k c xs a b
 
 one-run : (n : ℕ) (coins : ℕ → Bool) (x : Step) (a b : ProgramState) (p : Point) → IsAt n a p
     → SameGroup n b.stabilised (member (trace_after n coins x p))
-    → length (given n coins x p).free ≡ coins_of x → b.output ≡ joined a.output (given n coins x p) → Leads n coins (x ∷ []) a b p
+    → length (given n coins x p).free ≡ coins_of x → b.output ≡ joined a.output (given n coins x p) → ComesTo n coins (x ∷ []) a b p
 one-run n coins x a b p s group flags output = record {
   shows = record {
     group = group;

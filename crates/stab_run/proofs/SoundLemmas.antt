@@ -1,5 +1,5 @@
 -- Sound runs: steps on n qubits keep a trace on n qubits and sound.
-use Rattle.stab_run.proofs.Names.{◌≡◌, ℕ, ◌<◌, refl, subst, Bool, true, false, List, [], ◌∷◌, All, length, None, All-head, All-tail, Letter, Signed, single, Event, projected, outcome, Fits, IsSound, length-one_letter, IsSound-outcome, Items, Step, one, two, controlled, collapse, product, detector, observable, unroll, observables_of, check_within, IsApart, State, start, string_of, applied_where, effect, run, run_of, Point, nothing, trace_after, state_at, IsSoundRun, StepFits}
+use Rattle.stab_run.proofs.Names.{◌≡◌, ℕ, ◌<◌, refl, subst, Bool, true, false, List, [], ◌∷◌, All, length, None, All-head, All-tail, Letter, Signed, single, Event, projected, outcome, Fits, IsSound, length-one_letter, IsSound-outcome, Items, Step, one, two, controlled, collapse, product, detector, observable, unroll, observables_of, check_within, HasDistinctQubits, State, start, string_of, applied_where, effect, run, run_of, Point, nothing, trace_after, state_at, IsSoundRun, StepFits}
 use Rattle.stab_run.proofs.ProductLemmas.{length-string_of}
 use Rattle.stab_run.proofs.StateLemmas.{next-point}
 use Rattle.stab_run.proofs.FitLemmas.{check-fits}
@@ -38,9 +38,9 @@ good-run n coins [] s fits good = good
 good-run n coins (x ∷ xs) s fits good =
     good-run n coins xs (effect n coins x s) (All-tail (StepFits n) x xs fits) (good-effect n coins x s (All-head (StepFits n) x xs fits) good)
 
-pub sound-run : (n : ℕ) (coins : ℕ → Bool) (items : Items) → check_within n items ≡ None → All IsApart (unroll items)
+pub sound-run : (n : ℕ) (coins : ℕ → Bool) (items : Items) → check_within n items ≡ None → All HasDistinctQubits (unroll items)
     → IsSoundRun n coins items
 unfolding run_of
-sound-run n coins items checked apart =
-    let good = good-run n coins (unroll items) (start (observables_of items)) (check-fits n items (unroll items) checked refl apart) (record { fits = tt; sound = tt }) in
+sound-run n coins items checked distinct =
+    let good = good-run n coins (unroll items) (start (observables_of items)) (check-fits n items (unroll items) checked refl distinct) (record { fits = tt; sound = tt }) in
     (good.fits, good.sound)

@@ -1,4 +1,4 @@
--- States: a run is the point where it leads with what it gives, and only free coins decide it.
+-- States: a run is the point where it ends with what it gives, and only free coins decide it.
 use Rattle.stab_run.proofs.Names.{◌≡◌, ℕ, ◌+◌, refl, sym, ◌∙◌, ap, Bool, true, false, not, ◌&&◌, List, [], ◌∷◌, ◌++◌, append_assoc, append-nil, add-zero, length, get_or, if◌then◌else◌, slice_index_or, length-append, ◌⊕◌, Signed, minus, single, Event, applied, applied_pair, projected, member, outcome, is_free, Items, Step, one, two, controlled, collapse, product, detector, observable, unroll, observables_of, looked_up, parity, State, start, when, string_of, applied_where, collapsed, effect, run, run_of, Point, RunOutput, joined, given, next_point, point_after, outputs, point_of, state_at, AgreeWhere, DependsOnCoinsAt}
 
 -- a point and its outputs
@@ -69,17 +69,17 @@ counted-effect n coins (product factors inverted) s e = ap (λ k. k + 1) e ∙ s
 counted-effect n coins (detector ks) s e = e
 counted-effect n coins (observable j ks) s e = e
 
-get_or-behind : (xs ys : List Bool) (b d : Bool) → get_or ((xs ++ b ∷ []) ++ ys) (length xs) d ≡ b
-get_or-behind [] ys b d = refl
-get_or-behind (x ∷ xs) ys b d = get_or-behind xs ys b d
+get_or-following : (xs ys : List Bool) (b d : Bool) → get_or ((xs ++ b ∷ []) ++ ys) (length xs) d ≡ b
+get_or-following [] ys b d = refl
+get_or-following (x ∷ xs) ys b d = get_or-following xs ys b d
 
 -- after a step, the flag of its coin number is the one that it gave
-flag-behind : (n : ℕ) (coins : ℕ → Bool) (xs : List Step) (s r : State) (flag : Bool) → s.coin ≡ length s.free → r.free ≡ s.free ++ flag ∷ []
+flag-following : (n : ℕ) (coins : ℕ → Bool) (xs : List Step) (s r : State) (flag : Bool) → s.coin ≡ length s.free → r.free ≡ s.free ++ flag ∷ []
     → slice_index_or (run n coins xs r).free s.coin false ≡ flag
-flag-behind n coins xs s r flag e is =
+flag-following n coins xs s r flag e is =
     ap (λ (t : State). slice_index_or t.free s.coin false) (run-state n coins xs r)
     ∙ (λ i. slice_index_or (is i ++ (outputs n coins xs (point_of r)).free) (e i) false)
-    ∙ get_or-behind s.free (outputs n coins xs (point_of r)).free flag false
+    ∙ get_or-following s.free (outputs n coins xs (point_of r)).free flag false
 
 -- a step with other coins
 
@@ -96,7 +96,7 @@ effect-same n coins others (collapse l q recorded inverted resets) xs s e same =
       free = s.free ++ is_free s.trace (single n q l) ∷ [];
     })
     (same_outcome s.trace (single n q l) (coins s.coin) (others s.coin) (is_free s.trace (single n q l)) refl
-    (λ free. same s.coin (flag-behind n coins xs s (effect n coins (collapse l q recorded inverted resets) s) (is_free s.trace (single n q l)) e refl ∙ free)))
+    (λ free. same s.coin (flag-following n coins xs s (effect n coins (collapse l q recorded inverted resets) s) (is_free s.trace (single n q l)) e refl ∙ free)))
 effect-same n coins others (product factors inverted) xs s e same =
     ap (λ o. record s {
       trace = projected (string_of n factors) o ∷ s.trace;
@@ -105,7 +105,7 @@ effect-same n coins others (product factors inverted) xs s e same =
       free = s.free ++ is_free s.trace (string_of n factors) ∷ [];
     })
     (same_outcome s.trace (string_of n factors) (coins s.coin) (others s.coin) (is_free s.trace (string_of n factors)) refl
-    (λ free. same s.coin (flag-behind n coins xs s (effect n coins (product factors inverted) s) (is_free s.trace (string_of n factors)) e refl ∙ free)))
+    (λ free. same s.coin (flag-following n coins xs s (effect n coins (product factors inverted) s) (is_free s.trace (string_of n factors)) e refl ∙ free)))
 effect-same n coins others (detector ks) xs s e same = refl
 effect-same n coins others (observable j ks) xs s e same = refl
 

@@ -9,7 +9,7 @@ use Rattle.stab_tableau.specs.Traces.{Event, member, outcome, is_free, Fits, IsS
 use Rattle.stab_tableau.specs.Groups.{SameGroup}
 use Rattle.stab_items.specs.Items.{Items}
 use Rattle.stab_items.specs.Steps.{Step, unroll, records_of, looks_too_far, check_within}
-use Rattle.stab_items.specs.Steps.{IsApart}
+use Rattle.stab_items.specs.Steps.{HasDistinctQubits}
 use Rattle.stab_items.specs.Circuits.{AreLinesOf}
 use Rattle.stab_run.specs.Records.{ones}
 use Rattle.stab_run.specs.Runs.{State, run, run_of}
@@ -17,7 +17,7 @@ use Rattle.stab_run.specs.Points.{Point, all_coins_of, point_after, outputs, poi
 use Rattle.stab_run.specs.ProgramStates.{StepFits}
 use Rattle.stab_run.specs.Ends.{AgreeBack, with_coin}
 
--- a run ends at the point where its steps lead, with what they give put after what there was
+-- a run ends at the point where its steps end, with what they give put after what there was
 abbrev pub RunsArePointsWithOutputs : Type 0
 RunsArePointsWithOutputs =
     (n : ℕ) (coins : ℕ → Bool) (xs : List Step) (s : State) →
@@ -53,7 +53,7 @@ RunsAreSound = (n : ℕ) (coins : ℕ → Bool) (lines : List (List ℕ)) (items
 -- the qubits of each step are below n, and those of a pair differ, if nothing refuses the items on n qubits and no step pairs
 -- a qubit with itself, which no lines' steps do
 abbrev pub CheckedStepsFit : Type 0
-CheckedStepsFit = (n : ℕ) (items : Items) → check_within n items ≡ None → All IsApart (unroll items) → All (StepFits n) (unroll items)
+CheckedStepsFit = (n : ℕ) (items : Items) → check_within n items ≡ None → All HasDistinctQubits (unroll items) → All (StepFits n) (unroll items)
 
 -- two points have one group on n qubits, and the same number of the next coin and records
 pub record AgreeAt (n : ℕ) (a b : Point) : Type 0 where
@@ -61,7 +61,7 @@ pub record AgreeAt (n : ℕ) (a b : Point) : Type 0 where
   pub coin : a.coin ≡ b.coin
   pub records : a.records ≡ b.records
 
--- such points give the same by all steps, whichever qubits they are on, and lead to such points again
+-- such points give the same by all steps, whichever qubits they are on, and come to such points again
 abbrev pub SameFuture : Type 0
 SameFuture =
     (n : ℕ) (coins : ℕ → Bool) (xs : List Step) (a b : Point) → AgreeAt n a b →
@@ -73,7 +73,7 @@ SameFutureBack =
     (n : ℕ) (coins : ℕ → Bool) (m : ℕ) (xs : List Step) (a b : Point) → looks_too_far m xs ≡ false → AgreeBack n m a b →
     (outputs n coins xs a ≡ outputs n coins xs b) × AgreeBack n (m + records_of xs) (point_after n coins xs a) (point_after n coins xs b)
 
--- if no coin decides, steps give the same whichever number the next coin has, and lead to the same except that number
+-- if no coin decides, steps give the same whichever number the next coin has, and come to the same except that number
 abbrev pub FixedOutcomesNeedNoCoins : Type 0
 FixedOutcomesNeedNoCoins =
     (n : ℕ) (coins : ℕ → Bool) (c : ℕ) (xs : List Step) (a : Point) → ones (outputs n coins xs a).free ≡ 0 →

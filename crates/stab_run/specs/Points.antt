@@ -83,11 +83,11 @@ abbrev pub all_coins_of : List Step → ℕ
 all_coins_of [] = 0
 all_coins_of (x ∷ xs) = coins_of x + all_coins_of xs
 
--- where a step leads
+-- where a step ends
 abbrev pub next_point : ℕ → (ℕ → Bool) → Step → Point → Point
 next_point n coins x p = record { trace = trace_after n coins x p; coin = p.coin + coins_of x; records = p.records ++ (given n coins x p).records }
 
--- where steps lead
+-- where steps end
 abbrev pub point_after : ℕ → (ℕ → Bool) → List Step → Point → Point
 point_after n coins [] p = p
 point_after n coins (x ∷ xs) p = point_after n coins xs (next_point n coins x p)

@@ -14,7 +14,7 @@ copies zero o = nothing
 copies (suc k) o = joined o (copies k o)
 
 -- steps that no coin decides, after which nothing that they look back to differs from before them except the number of the next coin,
--- give the same again, however often, and lead to where they led, except for what was recorded and that number
+-- give the same again, however often, and come to where they led, except for what was recorded and that number
 abbrev pub RoundsComeAgain : Type 0
 RoundsComeAgain =
     (n : ℕ) (coins : ℕ → Bool) (m k : ℕ) (xs : List Step) (a : Point) → looks_too_far m xs ≡ false →

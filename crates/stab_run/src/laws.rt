@@ -3,7 +3,7 @@
 ghost use Rattle.stab_run.specs.Laws.{CheckedStepsFit, FixedOutcomesNeedNoCoins, RunsArePointsWithOutputs, CoinsDecideFreeOutcomes, RunsDependOnFreeCoins, RunsAreSound, SameFuture, SameFutureBack};
 ghost use Rattle.stab_run.specs.RoundLaws.{RoundsComeAgain};
 
-/// A run ends at the point where its steps lead, with what the steps give put after what there
+/// A run ends at the point where its steps end, with what the steps give put after what there
 /// was; so prefixes and tails of runs are prefixes and tails of lists.
 pub fn runs_are_points_with_outputs()
     ensures law { RunsArePointsWithOutputs }
@@ -35,7 +35,7 @@ pub fn checked_steps_fit()
 
 /// Two points with the same stabilised strings, number of the next coin and records have the same
 /// future, though they came about in different ways: every list of steps gives the same from both,
-/// and leads to two such points.
+/// and comes to two such points.
 pub fn same_future()
     ensures law { SameFuture }
 {}
@@ -50,7 +50,7 @@ pub fn fixed_outcomes_need_no_coins()
     ensures law { FixedOutcomesNeedNoCoins }
 {}
 
-/// Steps that no coin decides, and that lead to where they began as far back as they look, give the
+/// Steps that no coin decides, and that come to where they began as far back as they look, give the
 /// same again, however often they are repeated.
 pub fn rounds_come_again()
     ensures law { RoundsComeAgain }

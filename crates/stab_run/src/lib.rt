@@ -23,7 +23,7 @@
 //! Proved: coins are one fixed sequence of bits by number, which no call changes, and a seed gives
 //! the bits of ChaCha8 that `specs/Coins.antt` names. A step, and the steps of one instruction, lead a
 //! tableau and what was gathered from one point to the next (`specs/Points.antt`,
-//! `specs/ProgramStates.antt`), and ask for at most as many coins as decide. That where steps lead and
+//! `specs/ProgramStates.antt`), and ask for at most as many coins as decide. That where steps end and
 //! what they give is the run by the group rules of `specs/Runs.antt` is one of the laws.
 #![tactic(auto)]
 
@@ -38,6 +38,6 @@ mod steps;
 pub use coins::{Coins, ListCoins, SeedCoins, seed_coins};
 pub use measure::write_product;
 pub use records::{Addition, Lengths, Outputs, looked_up, observables, parity};
-pub use step::{apply_step, flip};
+pub use step::{apply_step, as_gate, flip};
 pub use step_with_pivot::apply_step_with_pivot;
 pub use steps::apply_steps;

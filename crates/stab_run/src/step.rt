@@ -19,7 +19,7 @@ use stab_tableau::{Collapse, Gate, Tableau};
 use std::alloc::AllocError;
 
 /// The gate that a letter is.
-fn as_gate(letter: Letter) -> Gate
+pub fn as_gate(letter: Letter) -> Gate
     ensures value { result ≡ gate_of letter }
 {
     match letter {

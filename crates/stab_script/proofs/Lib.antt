@@ -2,8 +2,8 @@ mod Names
 pub mod PlaceLaws
 pub mod ChangeLaws
 pub mod SignLaws
-pub mod FramedReplyLaws
+pub mod CountedReplyLaws
 pub mod PlaceCountLaws
 pub mod ReadingLaws
-pub mod TellingLaws
+pub mod ReportLaws
 pub mod RequestLaws

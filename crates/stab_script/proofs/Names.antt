@@ -37,14 +37,14 @@ pub use Rattle.stab_run.proofs.FitLemmas.{check-whole}
 pub use Rattle.stab_run.proofs.ProductLemmas.{length_identity}
 pub use Rattle.stab_run.specs.Runs.{string_of}
 pub use Rattle.stab_script.specs.Changes.{changes}
-pub use Rattle.stab_script.specs.Editors.{Sitting, after_answer, Told, ToldSome, AnswersRequests, sitting}
-pub use Rattle.stab_script.specs.FramedAnswers.{GivesText}
-pub use Rattle.stab_script.specs.FramedReplies.{text_found}
-pub use Rattle.stab_script.specs.PlaceCounts.{counts_of, place_behind, steps_up_to, steps_at, place_line, place_text, two_numbers}
+pub use Rattle.stab_script.specs.Editors.{Progress, after_answer, Reported, ReportedSome, AnswersRequests, progress}
+pub use Rattle.stab_script.specs.CountedAnswers.{GivesText}
+pub use Rattle.stab_script.specs.CountedReplies.{text_found}
+pub use Rattle.stab_script.specs.PlaceCounts.{counts_of, place_after, steps_up_to, steps_at, place_line, place_text, two_numbers}
 pub use Rattle.stab_script.specs.Replies.{ReplyBytes}
 pub use Rattle.stab_script.specs.Requests.{opened_in, asked_if_any, request_asked}
-pub use Rattle.stab_script.specs.ScriptWords.{is_place_number, most_numbers, numbers_behind, Gathered, first_word, behind_word, path_if_any, place_of}
-pub use Rattle.stab_script.specs.Scripts.{Request, begin, put, delete, show, ask, deterministic, distance, refuse, request_of, ScriptReader, Gathering, Reading, silent, line_ended, begun, line_alone, opened_behind, gathered_with, gathering_ended, line_gathered, line_behind, read_byte, then_read, show_by, show_of, Setting, Held, Answer, IsAnswer, IsAnswerToAll, both, replying, read_last, closed}
+pub use Rattle.stab_script.specs.ScriptWords.{is_place_number, most_numbers, numbers_after, Gathered, first_word, after_word, path_if_any, place_of}
+pub use Rattle.stab_script.specs.Scripts.{Request, begin, put, delete, show, ask, deterministic, distance, refuse, request_of, ScriptReader, Gathering, Reading, silent, line_ended, begun, line_alone, opened_after, gathered_with, gathering_ended, line_gathered, line_after, read_byte, then_read, show_by, show_of, Environment, Held, Answer, IsAnswer, IsAnswerToAll, both, replying, read_last, closed}
 unfoldable pub use Rattle.stab_script.specs.Scripts.{read_line, read}
 pub use Rattle.stab_script.specs.Signs.{is_letter, letter_at, lettered, string_within, string_without_sign}
 pub use Rattle.stab_script.specs.declared.reply.StepCounts.{StepCounts}

@@ -1,5 +1,5 @@
 -- Laws of place counts: counts grow by one step after another, and the steps before a place and at it are parts of the unrolled circuit.
-use Rattle.stab_script.proofs.Names.{◌≡◌, ℕ, zero, suc, ◌-◌, ◌≤◌, min, List, [], ◌∷◌, length, take, drop, refl, sym, ap, ◌∙◌, subst, arith, None, Ok, Err, Result, inl, inr, length-take, IfOk, IfErr, IsErrAnd, Refusal, OutOfMemory, Fault, Items, OneItem, listed, entries, Step, unroll, check_of, check_within, steps_cap, Path, item_at, steps_before, entries-listed, check-whole, few_steps, StepCounts, ReplyBytes, GivesText, counts_of, place_behind, steps_up_to, steps_at, place_line, place_text, text_found}
+use Rattle.stab_script.proofs.Names.{◌≡◌, ℕ, zero, suc, ◌-◌, ◌≤◌, min, List, [], ◌∷◌, length, take, drop, refl, sym, ap, ◌∙◌, subst, arith, None, Ok, Err, Result, inl, inr, length-take, IfOk, IfErr, IsErrAnd, Refusal, OutOfMemory, Fault, Items, OneItem, listed, entries, Step, unroll, check_of, check_within, steps_cap, Path, item_at, steps_before, entries-listed, check-whole, few_steps, StepCounts, ReplyBytes, GivesText, counts_of, place_after, steps_up_to, steps_at, place_line, place_text, text_found}
 
 none_taken : (k : ℕ) → take {A = Step} k [] ≡ []
 none_taken zero = refl
@@ -56,22 +56,22 @@ counted_before circuit path first left before checked at all counted =
     ∙ ap (λ l. counts_of (take (length (steps_before path l)) steps)) (sym (entries-listed circuit))
 
 -- and those of the item at it
-pub counted_own : (circuit : List OneItem) (path behind : Path) (first end : ℕ) (all left : List Step) (own : StepCounts) → check_of (listed circuit) ≡ None → behind ≡ place_behind path
-    → first ≡ min (length (steps_before path circuit)) steps_cap → end ≡ min (length (steps_before behind circuit)) steps_cap → all ≡ unroll (listed circuit)
+pub counted_own : (circuit : List OneItem) (path following : Path) (first end : ℕ) (all left : List Step) (own : StepCounts) → check_of (listed circuit) ≡ None → following ≡ place_after path
+    → first ≡ min (length (steps_before path circuit)) steps_cap → end ≡ min (length (steps_before following circuit)) steps_cap → all ≡ unroll (listed circuit)
     → left ≡ drop first all → own ≡ counts_of (take (end - first) left)
     → own ≡ counts_of (steps_at path (listed circuit))
-counted_own circuit path behind first end all left own checked next at until same passed counted =
+counted_own circuit path following first end all left own checked next at until same passed counted =
     let steps = unroll (listed circuit) in
     let n = length (steps_before path circuit) in
-    let ends : end ≡ min (length (steps_before (place_behind path) circuit)) steps_cap = until ∙ ap (λ (p : Path). min (length (steps_before p circuit)) steps_cap) next in
-    let m = length (steps_before (place_behind path) circuit) in
+    let ends : end ≡ min (length (steps_before (place_after path) circuit)) steps_cap = until ∙ ap (λ (p : Path). min (length (steps_before p circuit)) steps_cap) next in
+    let m = length (steps_before (place_after path) circuit) in
     counted
     ∙ ap (λ l. counts_of (take (end - first) l)) passed
     ∙ ap (λ l. counts_of (take (end - first) (drop first l))) same
     ∙ ap (λ k. counts_of (take (end - k) (drop k steps))) at
     ∙ ap (λ k. counts_of (take (k - min n steps_cap) (drop (min n steps_cap) steps))) ends
     ∙ ap counts_of (between_capped n m steps_cap steps (within_cap circuit checked))
-    ∙ ap (λ l. counts_of (drop (length (steps_before path l)) (take (length (steps_before (place_behind path) l)) steps))) (sym (entries-listed circuit))
+    ∙ ap (λ l. counts_of (drop (length (steps_before path l)) (take (length (steps_before (place_after path) l)) steps))) (sym (entries-listed circuit))
 
 -- if there is no item at a place, no line is shown
 pub no_place : (circuit : List OneItem) (place : Path) (r : Refusal) (result : Result ReplyBytes Refusal) → IsErrAnd result (λ x. x ≡ r) → item_at place circuit ≡ Err r
@@ -85,15 +85,15 @@ place_unshown given r (Ok reply) is memory = absurd is
 place_unshown given r (Err x) is memory = inl (is ∙ memory)
 
 -- if there is one, its line is
-pub place_told : (circuit : List OneItem) (place : Path) (x : OneItem) (before own : StepCounts) (made : Result ReplyBytes Fault) (result : Result ReplyBytes Refusal) → item_at place circuit ≡ Ok x
+pub place_reported : (circuit : List OneItem) (place : Path) (x : OneItem) (before own : StepCounts) (made : Result ReplyBytes Fault) (result : Result ReplyBytes Refusal) → item_at place circuit ≡ Ok x
     → before ≡ counts_of (steps_up_to place (listed circuit)) → own ≡ counts_of (steps_at place (listed circuit)) → IfOk made (λ r. r.written ≡ place_line before own)
     → IfOk result (λ r. made ≡ Ok r) → IfErr result (λ r. r ≡ OutOfMemory) → GivesText result (text_found (λ (x : OneItem). place_text place (listed circuit)) (item_at place circuit))
-place_told circuit place x before own made (Ok reply) found is_before is_own written same err =
+place_reported circuit place x before own made (Ok reply) found is_before is_own written same err =
     let text : reply.written ≡ place_line before own = subst (λ (m : Result ReplyBytes Fault). IfOk m (λ r. r.written ≡ place_line before own)) same written in
     let counted : place_line before own ≡ place_line (counts_of (steps_up_to place (listed circuit))) (counts_of (steps_at place (listed circuit))) =
     ap (λ b. place_line b own) is_before ∙ ap (λ o. place_line (counts_of (steps_up_to place (listed circuit))) o) is_own in
     ap (text_found (λ (x : OneItem). place_text place (listed circuit))) found ∙ ap Ok (sym (text ∙ counted))
-place_told circuit place x before own made (Err r) found is_before is_own written same err = inl err
+place_reported circuit place x before own made (Err r) found is_before is_own written same err = inl err
 
 -- the items of a session are those of its circuit
 pub place_of_session : (circuit : List OneItem) (items : Items) (place : Path) (result : Result ReplyBytes Refusal) → listed circuit ≡ items

@@ -1,5 +1,5 @@
 -- Laws of reading a script: it is read in pieces as it is read whole, and a byte opens at most one block.
-use Rattle.stab_script.proofs.Names.{◌≡◌, ◌≤◌, ◌<◌, ℕ, ◌+◌, Bool, true, false, ◌==◌, List, [], ◌∷◌, ◌++◌, length, take, drop, get_or, refl, sym, ap, ◌∙◌, arith, append_assoc, Option, Some, None, if◌then◌else◌, append-nil, take_more, take-append-drop, content_of, ends_with_byte, Gathered, Request, begin, put, delete, show, ask, deterministic, distance, refuse, request_of, ScriptReader, Gathering, Reading, silent, line_ended, begun, line_alone, opened_behind, gathered_with, gathering_ended, line_gathered, line_behind, read_line, read_byte, then_read, read, opened_in}
+use Rattle.stab_script.proofs.Names.{◌≡◌, ◌≤◌, ◌<◌, ℕ, ◌+◌, Bool, true, false, ◌==◌, List, [], ◌∷◌, ◌++◌, length, take, drop, get_or, refl, sym, ap, ◌∙◌, arith, append_assoc, Option, Some, None, if◌then◌else◌, append-nil, take_more, take-append-drop, content_of, ends_with_byte, Gathered, Request, begin, put, delete, show, ask, deterministic, distance, refuse, request_of, ScriptReader, Gathering, Reading, silent, line_ended, begun, line_alone, opened_after, gathered_with, gathering_ended, line_gathered, line_after, read_line, read_byte, then_read, read, opened_in}
 
 -- one reading after another, as a whole
 abbrev reading : ScriptReader → List Request → Reading
@@ -43,12 +43,12 @@ first_requests reader bytes n = (
 abbrev opened_by : Reading → ℕ
 opened_by r = opened_in r.reader.gathering
 
-opened_behind_le : (opened : ℕ) (content : List ℕ) → opened_behind opened content ≤ opened + 1
-opened_behind_le opened content = grind arith
+opened_after_le : (opened : ℕ) (content : List ℕ) → opened_after opened content ≤ opened + 1
+opened_after_le opened content = grind arith
 
 opened_with : (g : Gathering) (line : Gathered) → (gathered_with g line).opened ≤ g.opened + 1
 opened_with g None = omega arith
-opened_with g (Some line) = opened_behind_le g.opened (content_of line)
+opened_with g (Some line) = opened_after_le g.opened (content_of line)
 
 opened_choice : (b : Bool) (x y : Reading) (n : ℕ) → opened_by x ≤ n → opened_by y ≤ n → opened_by (if b then x else y) ≤ n
 opened_choice true x y n p q = p
@@ -71,7 +71,7 @@ opened_alone : (line : Gathered) → opened_by (line_alone line) ≤ 1
 opened_alone None = omega arith
 opened_alone (Some line) = opened_choice (length (content_of line) == 0) (line_ended None []) (begun (request_of (content_of line))) 1 (omega arith) (opened_begun (request_of (content_of line)))
 
-opened_line : (gathering : Option Gathering) (line : Gathered) → opened_by (line_behind gathering line) ≤ opened_in gathering + 1
+opened_line : (gathering : Option Gathering) (line : Gathered) → opened_by (line_after gathering line) ≤ opened_in gathering + 1
 opened_line None line = let one = opened_alone line in omega (arith, one)
 opened_line (Some g) line = let one = opened_gathered (gathered_with g line) in let two = opened_with g line in omega (arith, one, two)
 

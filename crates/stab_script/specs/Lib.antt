@@ -1,6 +1,6 @@
 pub mod ScriptWords
-pub mod FramedRequests
-pub mod FramedReplies
+pub mod CountedRequests
+pub mod CountedReplies
 pub mod Changes
 pub mod PlaceCounts
 pub mod CoinReplies
@@ -8,7 +8,7 @@ pub mod Signs
 pub mod Scripts
 pub mod Requests
 pub mod Replies
-pub mod FramedAnswers
+pub mod CountedAnswers
 pub mod Editors
 pub mod Watchers
 pub mod LoggedInputs

@@ -13,8 +13,8 @@ abbrev pub counts_of : List Step → StepCounts
 counts_of xs = record { steps = length xs; records = records_of xs; detectors = detectors_of xs; coins = all_coins_of xs }
 
 -- the place after another in its list
-abbrev pub place_behind : Path → Path
-place_behind path = record path { place = path.place + 1 }
+abbrev pub place_after : Path → Path
+place_after path = record path { place = path.place + 1 }
 
 -- the unrolled steps before a place, in the first round of each block around it
 abbrev pub steps_up_to : Path → Items → List Step
@@ -22,11 +22,11 @@ steps_up_to path items = take (length (steps_before path (entries items))) (unro
 
 -- the steps of the item at a place, in that round
 abbrev pub steps_at : Path → Items → List Step
-steps_at path items = drop (length (steps_before path (entries items))) (steps_up_to (place_behind path) items)
+steps_at path items = drop (length (steps_before path (entries items))) (steps_up_to (place_after path) items)
 
 -- two numbers with a space between them, and a text after them
-abbrev pub two_numbers : (first second : ℕ) → (behind : List ℕ) → List ℕ
-two_numbers first second behind = decimal first ++ (codes " " ++ (decimal second ++ behind))
+abbrev pub two_numbers : (first second : ℕ) → (following : List ℕ) → List ℕ
+two_numbers first second following = decimal first ++ (codes " " ++ (decimal second ++ following))
 
 -- the line of the steps before a place and of those at it: of steps, records, detectors and coins the number of the first, and how many
 abbrev pub place_line : (before own : StepCounts) → List ℕ

@@ -2,29 +2,29 @@
 -- Source: this project's own.
 use Rattle.std.specs.Prelude.{List, ℕ, [], ◌∷◌, Option, Some, None}
 use Rattle.stab_script.specs.Scripts.{Request, begin, put, delete, show, ask, deterministic, distance, refuse, Gathering}
-use Rattle.stab_script.specs.FramedRequests.{FramedRequest, mark, split, numbers, changed, changed_records, sign, item, counts, coin_table, why}
-use Rattle.stab_script.specs.declared.framed.FramedRequest.{FramedRequest as FramedAsked}
-use Rattle.stab_script.specs.declared.framed.FramedRequest.TheVariants as framed_asks
+use Rattle.stab_script.specs.CountedRequests.{CountedRequest, mark, split, numbers, changed, changed_records, sign, item, counts, coin_table, why}
+use Rattle.stab_script.specs.declared.counted.CountedRequest.{CountedRequest as CountedAsked}
+use Rattle.stab_script.specs.declared.counted.CountedRequest.TheVariants as counted_asks
 use Rattle.stab_script.specs.declared.request.Request.{Request as Asked}
 use Rattle.stab_script.specs.declared.request.Request.TheVariants as asks
 
--- what the code's request of a framed script asks for
-abbrev pub framed_asked : FramedAsked → FramedRequest
-framed_asked framed_asks.Mark = mark
-framed_asked (framed_asks.Split place round) = split place round
-framed_asked framed_asks.Numbers = numbers
-framed_asked framed_asks.Changed = changed
-framed_asked framed_asks.ChangedRecords = changed_records
-framed_asked (framed_asks.Sign word) = sign word.items
-framed_asked (framed_asks.Item place) = item place
-framed_asked (framed_asks.Place place) = counts place
-framed_asked framed_asks.Coins = coin_table
-framed_asked (framed_asks.Why bit) = why bit
+-- what the code's request of a counted script asks for
+abbrev pub counted_asked : CountedAsked → CountedRequest
+counted_asked counted_asks.Mark = mark
+counted_asked (counted_asks.Split place round) = split place round
+counted_asked counted_asks.Numbers = numbers
+counted_asked counted_asks.Changed = changed
+counted_asked counted_asks.ChangedRecords = changed_records
+counted_asked (counted_asks.Sign word) = sign word.items
+counted_asked (counted_asks.Item place) = item place
+counted_asked (counted_asks.Place place) = counts place
+counted_asked counted_asks.Coins = coin_table
+counted_asked (counted_asks.Why bit) = why bit
 
 -- the same, if there is one
-abbrev pub framed_if_any : Option FramedAsked → Option FramedRequest
-framed_if_any None = None
-framed_if_any (Some request) = Some (framed_asked request)
+abbrev pub counted_if_any : Option CountedAsked → Option CountedRequest
+counted_if_any None = None
+counted_if_any (Some request) = Some (counted_asked request)
 
 -- what the code's request asks for
 abbrev pub request_asked : Asked → Request
@@ -32,7 +32,7 @@ request_asked asks.Begin = begin
 request_asked (asks.Put edit place text) = put edit place text.items
 request_asked (asks.Delete place) = delete place
 request_asked (asks.Show what) = show what
-request_asked (asks.Framed request) = ask (framed_asked request)
+request_asked (asks.Counted request) = ask (counted_asked request)
 request_asked asks.Deterministic = deterministic
 request_asked (asks.Distance everywhere most) = distance everywhere most
 request_asked (asks.Refuse r) = refuse r

@@ -11,8 +11,8 @@ abbrev pub first_word : List ℕ → List ℕ
 first_word text = before_first is_spacing text
 
 -- what follows the first word, without the spacing in front
-abbrev pub behind_word : List ℕ → List ℕ
-behind_word text = trimmed_front (drop (position_or_len is_spacing text) text)
+abbrev pub after_word : List ℕ → List ℕ
+after_word text = trimmed_front (drop (position_or_len is_spacing text) text)
 
 -- whether the word is a number of a place: 1 to 18 digits
 abbrev pub is_place_number : List ℕ → Bool
@@ -23,17 +23,17 @@ abbrev pub most_numbers : ℕ
 most_numbers = 17
 
 -- the numbers of a place whose first numbers are these, if the words are numbers and none is too many
-abbrev pub numbers_behind : List ℕ → List (List ℕ) → Option (List ℕ)
-numbers_behind numbers words = if list_all is_place_number words && nat_le (length numbers + length words) most_numbers then Some (numbers ++ map value words) else None
+abbrev pub numbers_after : List ℕ → List (List ℕ) → Option (List ℕ)
+numbers_after numbers words = if list_all is_place_number words && nat_le (length numbers + length words) most_numbers then Some (numbers ++ map value words) else None
 
 -- the path of numbers, of which the last is the place, if there are any
 abbrev pub path_if_any : Option (List ℕ) → Option Path
 path_if_any None = None
 path_if_any (Some numbers) = Some (record { blocks = take (length numbers - 1) numbers; place = slice_index_or numbers (length numbers - 1) 0 })
 
--- a place: 1 to 17 numbers joined by /, the last in the body of the block that those before it lead to
+-- a place: 1 to 17 numbers joined by /, the last in the body of the block that those before it come to
 unfoldable pub place_of : List ℕ → Option Path
-place_of word = path_if_any (numbers_behind [] (slice_split (is_byte 47) word))
+place_of word = path_if_any (numbers_after [] (slice_split (is_byte 47) word))
 
 -- a text that is gathered: its bytes, or None if it went over its limit
 abbrev pub Gathered : Type 0

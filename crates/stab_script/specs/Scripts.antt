@@ -28,10 +28,10 @@ use Rattle.stab_jobs.specs.declared.job.DistanceOptions.{DistanceOptions}
 use Rattle.stab_jobs.specs.declared.job.ErrorLetters.TheVariants.{All}
 use Rattle.stab_edits.specs.Places.{item_at}
 use Rattle.stab_edits.specs.Splits.{split}
-use Rattle.stab_script.specs.ScriptWords.{first_word, behind_word, place_of, Gathered, more, is_nothing}
-use Rattle.stab_script.specs.FramedRequests as framed_asks
-use Rattle.stab_script.specs.FramedRequests.{FramedRequest, alone, mark, numbers, changed, changed_records, sign, round_of, framed_split, framed_show}
-use Rattle.stab_script.specs.FramedReplies.{text_found, reply_text, made_text, greeting, session_numbers, numbers_line}
+use Rattle.stab_script.specs.ScriptWords.{first_word, after_word, place_of, Gathered, more, is_nothing}
+use Rattle.stab_script.specs.CountedRequests as counted_asks
+use Rattle.stab_script.specs.CountedRequests.{CountedRequest, alone, mark, numbers, changed, changed_records, sign, round_number_of, counted_split, counted_show}
+use Rattle.stab_script.specs.CountedReplies.{text_found, reply_text, made_text, greeting, session_numbers, numbers_line}
 use Rattle.stab_script.specs.Changes.{no_mark, changed_text, changed_records_text}
 use Rattle.stab_script.specs.PlaceCounts.{place_text}
 use Rattle.stab_script.specs.CoinReplies.{coins_shown, why_shown}
@@ -42,14 +42,14 @@ use Rattle.stab_script.specs.declared.request.Show.{Show}
 use Rattle.stab_script.specs.declared.request.Show.TheVariants.{Measurements, Free, Detectors, Observables, Stabilisers, Circuit}
 
 -- what a script asks for: that it begins; that the item of a text is put in at a place, or that the item at a place is deleted, or that
--- something is shown; what only a framed script asks for, which may be the bits that are the same for all random bits, or the distance up to
+-- something is shown; what only a counted script asks for, which may be the bits that are the same for all random bits, or the distance up to
 -- this many errors; or nothing, if a line is refused
 pub data Request : Type 0 where
   begin : Request
   put : ItemEdit → (place : Path) → (text : List ℕ) → Request
   delete : (place : Path) → Request
   show : Show → Request
-  ask : FramedRequest → Request
+  ask : CountedRequest → Request
   deterministic : Request
   distance : (everywhere : Bool) → (most : ℕ) → Request
   refuse : Refusal → Request
@@ -64,19 +64,19 @@ abbrev pub delete_at : Option Path → (text : List ℕ) → Request
 delete_at None text = refuse BadCommand
 delete_at (Some place) text = if length text == 0 then delete place else refuse BadCommand
 
--- what only a framed script asks for, if it asks for anything
-abbrev pub framed_of : Option FramedRequest → Request
-framed_of None = refuse BadCommand
-framed_of (Some request) = ask request
+-- what only a counted script asks for, if it asks for anything
+abbrev pub counted_of : Option CountedRequest → Request
+counted_of None = refuse BadCommand
+counted_of (Some request) = ask request
 
 -- the distance up to a number of errors: where the circuit marks them, or everywhere
 abbrev pub distance_of : Option ℕ → (rest : List ℕ) → Request
 distance_of None rest = refuse BadCommand
 distance_of (Some most) rest = if length rest == 0 then distance false most else if bytes_eq rest (codes "everywhere") then distance true most else refuse BadCommand
 
--- what only a framed script may be shown, by the first word after `show` and the rest after that
+-- what only a counted script may be shown, by the first word after `show` and the rest after that
 abbrev pub show_by : (word rest : List ℕ) → Request
-show_by word rest = if bytes_eq word (codes "distance") then distance_of (round_of (first_word rest)) (behind_word rest) else framed_of (framed_show word rest)
+show_by word rest = if bytes_eq word (codes "distance") then distance_of (round_number_of (first_word rest)) (after_word rest) else counted_of (counted_show word rest)
 
 -- what the words after `show` ask for
 abbrev pub show_of : List ℕ → Request
@@ -88,22 +88,22 @@ show_of word =
     else if bytes_eq word (codes "stabilisers") then show Stabilisers
     else if bytes_eq word (codes "circuit") then show Circuit
     else if bytes_eq word (codes "deterministic") then deterministic
-    else show_by (first_word word) (behind_word word)
+    else show_by (first_word word) (after_word word)
 
 -- what a first word and the rest after it ask for
 abbrev pub request_by : (word rest : List ℕ) → Request
 request_by word rest =
-    if bytes_eq word (codes "insert") then put_at Insert (place_of (first_word rest)) (behind_word rest)
-    else if bytes_eq word (codes "replace") then put_at Replace (place_of (first_word rest)) (behind_word rest)
-    else if bytes_eq word (codes "delete") then delete_at (place_of (first_word rest)) (behind_word rest)
+    if bytes_eq word (codes "insert") then put_at Insert (place_of (first_word rest)) (after_word rest)
+    else if bytes_eq word (codes "replace") then put_at Replace (place_of (first_word rest)) (after_word rest)
+    else if bytes_eq word (codes "delete") then delete_at (place_of (first_word rest)) (after_word rest)
     else if bytes_eq word (codes "show") then show_of rest
-    else if bytes_eq word (codes "mark") then framed_of (alone rest mark)
-    else if bytes_eq word (codes "split") then framed_of (framed_split rest)
+    else if bytes_eq word (codes "mark") then counted_of (alone rest mark)
+    else if bytes_eq word (codes "split") then counted_of (counted_split rest)
     else refuse BadCommand
 
 -- what a content asks for that is not blank
 unfoldable pub request_of : List ℕ → Request
-request_of content = request_by (first_word content) (behind_word content)
+request_of content = request_by (first_word content) (after_word content)
 
 -- the most bytes of a line
 abbrev pub most_line : ℕ
@@ -160,26 +160,26 @@ line_alone None = line_ended None (refuse TooLong ∷ [])
 line_alone (Some line) = if length (content_of line) == 0 then line_ended None [] else begun (request_of (content_of line))
 
 -- how many blocks are open after a content
-abbrev pub opened_behind : ℕ → List ℕ → ℕ
-opened_behind opened content = if is_close content then opened - 1 else if ends_with_byte content 123 then opened + 1 else opened
+abbrev pub opened_after : ℕ → List ℕ → ℕ
+opened_after opened content = if is_close content then opened - 1 else if ends_with_byte content 123 then opened + 1 else opened
 
 -- what is gathered with one more line after it; a line over its limit neither opens nor closes, and the text is over its limit
 abbrev pub gathered_with : Gathering → Gathered → Gathering
 gathered_with g None = record g { text = None }
-gathered_with g (Some line) = record g { opened = opened_behind g.opened (content_of line); text = more most_bytes (more most_bytes g.text (10 ∷ [])) (content_of line) }
+gathered_with g (Some line) = record g { opened = opened_after g.opened (content_of line); text = more most_bytes (more most_bytes g.text (10 ∷ [])) (content_of line) }
 
 -- what is gathered ends if its last block is closed
 abbrev pub line_gathered : Gathering → Reading
 line_gathered g = if g.opened == 0 then gathering_ended g else line_ended (Some g) []
 
 -- a line, if this is gathered
-abbrev pub line_behind : Option Gathering → Gathered → Reading
-line_behind None line = line_alone line
-line_behind (Some g) line = line_gathered (gathered_with g line)
+abbrev pub line_after : Option Gathering → Gathered → Reading
+line_after None line = line_alone line
+line_after (Some g) line = line_gathered (gathered_with g line)
 
 -- the line so far ends
 unfoldable pub read_line : ScriptReader → Reading
-read_line reader = line_behind reader.gathering reader.line
+read_line reader = line_after reader.gathering reader.line
 
 -- a byte: LF ends the line, and any other is of it
 abbrev pub read_byte : ScriptReader → ℕ → Reading
@@ -219,9 +219,9 @@ requests_in bytes = begin ∷ (read empty_reader bytes).requests
 abbrev pub requests_of : List ℕ → List Request
 requests_of script = begin ∷ (then_read (read empty_reader script) read_end).requests
 
--- what requests are answered by: whether the script is framed, the number of qubits and the coins
-pub record Setting : Type 0 where
-  pub framed : Bool
+-- what requests are answered by: whether the script is counted, the number of qubits and the coins
+pub record Environment : Type 0 where
+  pub counted : Bool
   pub qubits : ℕ
   pub coins : ℕ → Bool
 
@@ -231,17 +231,17 @@ pub record Held : Type 0 where
   pub mark : ShotBits
 
 -- the run of what is held
-abbrev pub run_held : Setting → Held → State
+abbrev pub run_held : Environment → Held → State
 run_held s held = run_of s.qubits s.coins held.items
 
--- the mark before a script, which only a framed one has
-abbrev pub first_mark : (framed : Bool) → State → ShotBits
+-- the mark before a script, which only a counted one has
+abbrev pub first_mark : (counted : Bool) → State → ShotBits
 first_mark false run = no_mark
 first_mark true run = bits_of run
 
 -- what is held before a script
-abbrev pub opened : Setting → Items → Held
-opened s items = record { items = items; mark = first_mark s.framed (run_of s.qubits s.coins items) }
+abbrev pub opened : Environment → Items → Held
+opened s items = record { items = items; mark = first_mark s.counted (run_of s.qubits s.coins items) }
 
 -- the edit that puts an item in at a place
 abbrev pub edit_of : ItemEdit → Path → OneItem → Edit
@@ -277,15 +277,15 @@ abbrev pub refusing : Held → Refusal → Answer
 refusing held r = record { held = held; reply = refused_text r; refused = true }
 
 -- an edit is made, or refused
-abbrev pub decided : (framed : Bool) → Held → Result Items Refusal → Answer
-decided framed held (Ok after) = record { held = record held { items = after }; reply = made_text framed; refused = false }
-decided framed held (Err r) = refusing held r
+abbrev pub decided : (counted : Bool) → Held → Result Items Refusal → Answer
+decided counted held (Ok after) = record { held = record held { items = after }; reply = made_text counted; refused = false }
+decided counted held (Err r) = refusing held r
 
 -- the item's text has a fault, or it stands for an item, and the edit with that is made or refused
-abbrev pub IsPut : (framed : Bool) → Held → (OneItem → Result Items Refusal) → (text : List ℕ) → Answer → Type 0
-IsPut framed held after text a =
+abbrev pub IsPut : (counted : Bool) → Held → (OneItem → Result Items Refusal) → (text : List ℕ) → Answer → Type 0
+IsPut counted held after text a =
     ((fault : Fault) × (item_fault text ≡ Some fault) × (a ≡ refusing held fault.refusal))
-    ⊎ ((item : OneItem) × StandsForOne text item × (a ≡ decided framed held (after item)))
+    ⊎ ((item : OneItem) × StandsForOne text item × (a ≡ decided counted held (after item)))
 
 -- what is shown of items and their run
 abbrev pub Shows : ℕ → State → Items → Show → List ℕ → Type 0
@@ -296,18 +296,18 @@ Shows n run items Observables text = text ≡ f01_bytes run.observables
 Shows n run items Stabilisers text = IsStabilisersText n run text
 Shows n run items Circuit text = text ≡ printed items
 
--- what only a framed script is shown of what is held and its run, or why not
-abbrev pub framed_shown : ℕ → State → Held → FramedRequest → Result (List ℕ) Refusal
-framed_shown n run held mark = Ok []
-framed_shown n run held (framed_asks.split place round) = text_found (λ list. []) (split place round (entries held.items))
-framed_shown n run held numbers = Ok (numbers_line (session_numbers n run held.items))
-framed_shown n run held changed = Ok (changed_text held.mark run)
-framed_shown n run held changed_records = Ok (changed_records_text held.mark run)
-framed_shown n run held (sign word) = text_found (λ p. sign_line (sign_in (member run.trace) p)) (string_of_word n word)
-framed_shown n run held (framed_asks.item place) = text_found (λ x. printed (before x done)) (item_at place (entries held.items))
-framed_shown n run held (framed_asks.counts place) = text_found (λ x. place_text place held.items) (item_at place (entries held.items))
-framed_shown n run held framed_asks.coin_table = Ok (coins_shown held.items)
-framed_shown n run held (framed_asks.why bit) = why_shown held.items bit
+-- what only a counted script is shown of what is held and its run, or why not
+abbrev pub counted_shown : ℕ → State → Held → CountedRequest → Result (List ℕ) Refusal
+counted_shown n run held mark = Ok []
+counted_shown n run held (counted_asks.split place round) = text_found (λ list. []) (split place round (entries held.items))
+counted_shown n run held numbers = Ok (numbers_line (session_numbers n run held.items))
+counted_shown n run held changed = Ok (changed_text held.mark run)
+counted_shown n run held changed_records = Ok (changed_records_text held.mark run)
+counted_shown n run held (sign word) = text_found (λ p. sign_line (sign_in (member run.trace) p)) (string_of_word n word)
+counted_shown n run held (counted_asks.item place) = text_found (λ x. printed (before x done)) (item_at place (entries held.items))
+counted_shown n run held (counted_asks.counts place) = text_found (λ x. place_text place held.items) (item_at place (entries held.items))
+counted_shown n run held counted_asks.coin_table = Ok (coins_shown held.items)
+counted_shown n run held (counted_asks.why bit) = why_shown held.items bit
 
 -- what is held with such a list, or as before if the split was refused
 abbrev pub held_split : Held → Result (List OneItem) Refusal → Held
@@ -315,24 +315,24 @@ held_split held (Ok list) = record held { items = listed list }
 held_split held (Err r) = held
 
 -- what is held after it: `mark` and a split alone change that
-abbrev pub held_behind : State → Held → FramedRequest → Held
-held_behind run held mark = record held { mark = bits_of run }
-held_behind run held (framed_asks.split place round) = held_split held (split place round (entries held.items))
-held_behind run held request = held
+abbrev pub held_after : State → Held → CountedRequest → Held
+held_after run held mark = record held { mark = bits_of run }
+held_after run held (counted_asks.split place round) = held_split held (split place round (entries held.items))
+held_after run held request = held
 
 -- a text is shown, or refused
-abbrev pub shown_or_refused : (framed : Bool) → (held behind : Held) → Result (List ℕ) Refusal → Answer
-shown_or_refused framed held behind (Ok text) = record { held = behind; reply = reply_text framed text; refused = false }
-shown_or_refused framed held behind (Err r) = refusing held r
+abbrev pub shown_or_refused : (counted : Bool) → (held following : Held) → Result (List ℕ) Refusal → Answer
+shown_or_refused counted held following (Ok text) = record { held = following; reply = reply_text counted text; refused = false }
+shown_or_refused counted held following (Err r) = refusing held r
 
--- the answer to what only a framed script may ask for
-abbrev pub framed_answer : (framed : Bool) → ℕ → State → Held → FramedRequest → Answer
-framed_answer false n run held request = refusing held BadCommand
-framed_answer true n run held request = shown_or_refused true held (held_behind run held request) (framed_shown n run held request)
+-- the answer to what only a counted script may ask for
+abbrev pub counted_answer : (counted : Bool) → ℕ → State → Held → CountedRequest → Answer
+counted_answer false n run held request = refusing held BadCommand
+counted_answer true n run held request = shown_or_refused true held (held_after run held request) (counted_shown n run held request)
 
--- the answer to what says which detectors and observables are the same for all random bits, as the command `deterministic` does: a framed
+-- the answer to what says which detectors and observables are the same for all random bits, as the command `deterministic` does: a counted
 -- script is shown them, and no other
-abbrev pub IsDeterministicAnswer : (framed : Bool) → Held → Answer → Type 0
+abbrev pub IsDeterministicAnswer : (counted : Bool) → Held → Answer → Type 0
 IsDeterministicAnswer false held a = a ≡ refusing held BadCommand
 IsDeterministicAnswer true held a = (text : List ℕ) × IsDeterministicText F01 held.items text × (a ≡ replying held (reply_text true text))
 
@@ -340,30 +340,30 @@ IsDeterministicAnswer true held a = (text : List ℕ) × IsDeterministicText F01
 abbrev pub options_asked : (everywhere : Bool) → (most : ℕ) → DistanceOptions
 options_asked everywhere most = record { everywhere = everywhere; letters = All; graphlike = false; observable = None; most = Some most; deterministic_only = false; progress = false }
 
--- the answer to what asks for a distance, as the command `distance` does: a framed script is shown it, or refused for a bit that is not the
+-- the answer to what asks for a distance, as the command `distance` does: a counted script is shown it, or refused for a bit that is not the
 -- same for all random bits
-abbrev pub IsDistanceAnswer : (framed : Bool) → Held → DistanceOptions → Answer → Type 0
+abbrev pub IsDistanceAnswer : (counted : Bool) → Held → DistanceOptions → Answer → Type 0
 IsDistanceAnswer false held options a = a ≡ refusing held BadCommand
 IsDistanceAnswer true held options a =
     ((text : List ℕ) × IsDistanceText options held.items text × (a ≡ replying held (reply_text true text)))
     ⊎ ((u : Random) × IsFirstRandom held.items u × (a ≡ refusing held NotDeterministic))
 
--- the answer to a request of a script that is not framed, if this is held: nothing is said before it, and what only a framed one may ask for
+-- the answer to a request of a script that is not counted, if this is held: nothing is said before it, and what only a counted one may ask for
 -- is refused
-abbrev pub IsPlainAnswer : Setting → Held → Request → Answer → Type 0
+abbrev pub IsPlainAnswer : Environment → Held → Request → Answer → Type 0
 IsPlainAnswer s held begin a = a ≡ replying held []
-IsPlainAnswer s held (put how place text) a = IsPut s.framed held (λ item. edited_items s.qubits (edit_of how place item) held.items) text a
-IsPlainAnswer s held (delete place) a = a ≡ decided s.framed held (edited_items s.qubits (circuit_edit.Delete place) held.items)
-IsPlainAnswer s held (show what) a = (text : List ℕ) × Shows s.qubits (run_held s held) held.items what text × (a ≡ replying held (reply_text s.framed text))
+IsPlainAnswer s held (put how place text) a = IsPut s.counted held (λ item. edited_items s.qubits (edit_of how place item) held.items) text a
+IsPlainAnswer s held (delete place) a = a ≡ decided s.counted held (edited_items s.qubits (circuit_edit.Delete place) held.items)
+IsPlainAnswer s held (show what) a = (text : List ℕ) × Shows s.qubits (run_held s held) held.items what text × (a ≡ replying held (reply_text s.counted text))
 IsPlainAnswer s held (refuse r) a = a ≡ refusing held r
 IsPlainAnswer s held request a = a ≡ refusing held BadCommand
 
--- the answer to a request of either kind of script: a framed one is greeted, and may ask for more
-abbrev pub IsAnswer : Setting → Held → Request → Answer → Type 0
-IsAnswer s held begin a = a ≡ replying held (greeting s.framed (session_numbers s.qubits (run_held s held) held.items))
-IsAnswer s held (ask request) a = a ≡ framed_answer s.framed s.qubits (run_held s held) held request
-IsAnswer s held deterministic a = IsDeterministicAnswer s.framed held a
-IsAnswer s held (distance everywhere most) a = IsDistanceAnswer s.framed held (options_asked everywhere most) a
+-- the answer to a request of either kind of script: a counted one is greeted, and may ask for more
+abbrev pub IsAnswer : Environment → Held → Request → Answer → Type 0
+IsAnswer s held begin a = a ≡ replying held (greeting s.counted (session_numbers s.qubits (run_held s held) held.items))
+IsAnswer s held (ask request) a = a ≡ counted_answer s.counted s.qubits (run_held s held) held request
+IsAnswer s held deterministic a = IsDeterministicAnswer s.counted held a
+IsAnswer s held (distance everywhere most) a = IsDistanceAnswer s.counted held (options_asked everywhere most) a
 IsAnswer s held request a = IsPlainAnswer s held request a
 
 -- first one answer, then the other
@@ -376,9 +376,9 @@ AreAnswers answers held [] a = a ≡ replying held []
 AreAnswers answers held (r ∷ rs) a = (first rest : Answer) × answers held r first × AreAnswers answers first.held rs rest × (a ≡ both first rest)
 
 -- the answer to requests of either kind of script
-abbrev pub IsAnswerToAll : Setting → Held → List Request → Answer → Type 0
+abbrev pub IsAnswerToAll : Environment → Held → List Request → Answer → Type 0
 IsAnswerToAll s held requests a = AreAnswers (IsAnswer s) held requests a
 
 -- the answer to a whole script, if these are the items at first
-abbrev pub IsAnswerToScript : Setting → Items → (script : List ℕ) → Answer → Type 0
+abbrev pub IsAnswerToScript : Environment → Items → (script : List ℕ) → Answer → Type 0
 IsAnswerToScript s items script a = IsAnswerToAll s (opened s items) (requests_of script) a

@@ -2,9 +2,9 @@
 ghost use Rattle.std.specs.Prelude.{◌≡◌, ◌+◌, ◌<◌, ◌^◌, ◌∷◌, ◌||◌, [], false, length, IfOk, IfErr, OnOk};
 ghost use Rattle.stab_io.specs.Refusals.{whole};
 ghost use Rattle.stab_io.specs.declared.refusal.Refusal.TheVariants.{OutOfMemory};
-ghost use Rattle.stab_script.specs.Scripts.{Setting, Held, IsAnswer, empty_reader, read_byte, read, read_end};
+ghost use Rattle.stab_script.specs.Scripts.{Environment, Held, IsAnswer, empty_reader, read_byte, read, read_end};
 ghost use Rattle.stab_script.specs.Requests.{request_asked, asked_if_any, opened_in};
-ghost use Rattle.stab_script.specs.Editors.{AnswersRequests, Finishes, sitting};
+ghost use Rattle.stab_script.specs.Editors.{AnswersRequests, Finishes, progress};
 
 use crate::reader::ScriptReader;
 use crate::reply::Reply;
@@ -23,15 +23,15 @@ pub struct Answered {
 /// What answers requests: it keeps the items of a circuit and the bits at a mark, and edits and shows them.
 pub trait Answer: Drop {
     // What answers are made by, besides what is held.
-    ghost setting: { Self → Setting };
+    ghost environment: { Self → Environment };
 
     // What is held now.
     ghost held: { Self → Held };
 
     /// Answers a request; fault `OutOfMemory` alone.
     fn answer(&mut self, request: Request) -> Result<Answered, Fault>
-        ensures setting { OnOk result (setting self.new ≡ setting self.old) }
-        ensures answers { IfOk result (λ a. IsAnswer (setting self.old) (held self.old) (request_asked request) (record { held = held self.new; reply = a.reply.written; refused = a.refused })) }
+        ensures environment { OnOk result (environment self.new ≡ environment self.old) }
+        ensures answers { IfOk result (λ a. IsAnswer (environment self.old) (held self.old) (request_asked request) (record { held = held self.new; reply = a.reply.written; refused = a.refused })) }
         ensures err { IfErr result (λ f. f ≡ whole OutOfMemory) };
 }
 
@@ -66,7 +66,7 @@ impl<A: Answer> Editor<A> {
     /// An editor before a script.
     pub fn new(alloc: Global, answers: A) -> Editor<A>
         ensures reader { result.reader ≡ empty_reader }
-        ensures sitting { sitting A.setting A.held result ≡ record { setting = A.setting answers; held = A.held answers; refused = false } }
+        ensures progress { progress A.environment A.held result ≡ record { environment = A.environment answers; held = A.held answers; refused = false } }
     {
         Editor {
             reader: ScriptReader::new(alloc),
@@ -78,9 +78,9 @@ impl<A: Answer> Editor<A> {
     /// Answers a request, and writes the reply in one go.
     ///
     /// Fault `WriteFault` if the output failed, and `OutOfMemory`.
-    pub fn tell_request<O: Output>(&mut self, out: &mut O, request: Request) -> Result<(), Fault>
+    pub fn report_request<O: Output>(&mut self, out: &mut O, request: Request) -> Result<(), Fault>
         ensures reader { self.new.reader ≡ self.old.reader }
-        ensures tells { AnswersRequests (sitting A.setting A.held self.old) (sitting A.setting A.held self.new) (request_asked request ∷ []) (O.seen out.old) (O.seen out.new) result }
+        ensures reports { AnswersRequests (progress A.environment A.held self.old) (progress A.environment A.held self.new) (request_asked request ∷ []) (O.seen out.old) (O.seen out.new) result }
     {
         let Answered { reply, refused } = self.answers.answer(request)?;
         self.refused = either(self.refused, refused);
@@ -91,13 +91,13 @@ impl<A: Answer> Editor<A> {
     }
 
     /// Answers a request, if there is one.
-    fn tell<O: Output>(&mut self, out: &mut O, request: Option<Request>) -> Result<(), Fault>
+    fn report<O: Output>(&mut self, out: &mut O, request: Option<Request>) -> Result<(), Fault>
         ensures reader { self.new.reader ≡ self.old.reader }
-        ensures tells { AnswersRequests (sitting A.setting A.held self.old) (sitting A.setting A.held self.new) (asked_if_any request) (O.seen out.old) (O.seen out.new) result }
+        ensures reports { AnswersRequests (progress A.environment A.held self.old) (progress A.environment A.held self.new) (asked_if_any request) (O.seen out.old) (O.seen out.new) result }
     {
         match request {
             None => Ok(()),
-            Some(request) => self.tell_request(out, request),
+            Some(request) => self.report_request(out, request),
         }
     }
 
@@ -105,10 +105,10 @@ impl<A: Answer> Editor<A> {
     fn take_byte<O: Output>(&mut self, out: &mut O, byte: u8) -> Result<(), Fault>
         requires few { opened_in self.old.reader.gathering < 2 ^ 63 }
         ensures reader { OnOk result (self.new.reader ≡ (read_byte self.old.reader byte).reader) }
-        ensures tells { AnswersRequests (sitting A.setting A.held self.old) (sitting A.setting A.held self.new) (read_byte self.old.reader byte).requests (O.seen out.old) (O.seen out.new) result }
+        ensures reports { AnswersRequests (progress A.environment A.held self.old) (progress A.environment A.held self.new) (read_byte self.old.reader byte).requests (O.seen out.old) (O.seen out.new) result }
     {
         let request = self.reader.take_byte(byte)?;
-        self.tell(out, request)
+        self.report(out, request)
     }
 
     /// Takes bytes; what they ask for has been answered when this returns.
@@ -117,7 +117,7 @@ impl<A: Answer> Editor<A> {
     pub fn take<O: Output>(&mut self, out: &mut O, piece: &[u8]) -> Result<(), Fault>
         requires few { opened_in self.old.reader.gathering + length piece.now < 2 ^ 63 }
         ensures reader { OnOk result (self.new.reader ≡ (read self.old.reader piece.now).reader) }
-        ensures tells { AnswersRequests (sitting A.setting A.held self.old) (sitting A.setting A.held self.new) (read self.old.reader piece.now).requests (O.seen out.old) (O.seen out.new) result }
+        ensures reports { AnswersRequests (progress A.environment A.held self.old) (progress A.environment A.held self.new) (read self.old.reader piece.now).requests (O.seen out.old) (O.seen out.new) result }
     {
         for byte in piece {
             self.take_byte(out, *byte)?;
@@ -127,14 +127,14 @@ impl<A: Answer> Editor<A> {
 
     /// Answers what the end of a script asks for: a last line without a line end, and then what is
     /// gathered.
-    fn tell_last<O: Output>(&mut self, out: &mut O) -> Result<(), Fault>
+    fn report_last<O: Output>(&mut self, out: &mut O) -> Result<(), Fault>
         requires few { opened_in self.old.reader.gathering < 2 ^ 63 }
-        ensures tells { AnswersRequests (sitting A.setting A.held self.old) (sitting A.setting A.held self.new) (read_end self.old.reader).requests (O.seen out.old) (O.seen out.new) result }
+        ensures reports { AnswersRequests (progress A.environment A.held self.old) (progress A.environment A.held self.new) (read_end self.old.reader).requests (O.seen out.old) (O.seen out.new) result }
     {
         let last = self.reader.end_last()?;
-        self.tell(out, last)?;
+        self.report(out, last)?;
         let rest = self.reader.close();
-        self.tell(out, rest)
+        self.report(out, rest)
     }
 
     /// Ends the script and flushes, and says whether a line was refused.
@@ -142,9 +142,9 @@ impl<A: Answer> Editor<A> {
     /// Fault `WriteFault` if the output failed, and `OutOfMemory`.
     pub fn end<O: Output>(&mut self, out: &mut O) -> Result<bool, Fault>
         requires few { opened_in self.old.reader.gathering < 2 ^ 63 }
-        ensures finishes { Finishes (sitting A.setting A.held self.old) (read_end self.old.reader).requests (O.seen out.old) (O.seen out.new) result }
+        ensures finishes { Finishes (progress A.environment A.held self.old) (read_end self.old.reader).requests (O.seen out.old) (O.seen out.new) result }
     {
-        self.tell_last(out)?;
+        self.report_last(out)?;
         finish(out)?;
         Ok(self.refused)
     }

@@ -4,7 +4,7 @@
 //!
 //! - `gathered`: texts that are gathered up to a limit.
 //! - `place`: places, and the numbers that stand for them.
-//! - `framed`: what only a framed script asks for.
+//! - `counted`: what only a counted script asks for.
 //! - `request`: what a line asks for.
 //! - `reader`: what is known between two bytes of a script.
 //! - `reply`: replies to requests.
@@ -23,13 +23,13 @@
 //! Proved: the bytes that an `Editor` takes ask for the requests that `specs/Scripts.antt` gives, and when
 //! the call returns exactly the replies to them are written, each as `IsAnswer` there says; if the output
 //! failed or the answer is 20, a first part of these (`specs/Editors.antt`). Replies have the texts
-//! that `FramedReplies`, `Changes`, `PlaceCounts` and `Signs` of `specs/` give. `specs/inner/` has what only
+//! that `CountedReplies`, `Changes`, `PlaceCounts` and `Signs` of `specs/` give. `specs/inner/` has what only
 //! private contracts cite.
 #![tactic(auto)]
 
 mod changes;
+mod counted;
 mod editor;
-mod framed;
 mod gathered;
 mod logged_input;
 mod place;
@@ -41,8 +41,8 @@ mod signs;
 mod watcher;
 
 pub use changes::{MarkedBits, push_changes};
+pub use counted::{CountedRequest, read_round};
 pub use editor::{Answer, Answered, Editor};
-pub use framed::{FramedRequest, read_round};
 pub use logged_input::{KeepsLog, LoggedInput, LoggedRead};
 pub use place::read_place;
 pub use place_counts::show_place;

@@ -3,7 +3,7 @@ ghost use Rattle.std.specs.Prelude.{◌≡◌, ◌≤◌, true, false, length, S
 ghost use Rattle.std.specs.List.{position_or_len};
 ghost use Rattle.stab_lines.specs.Lines.{is_spacing as spacing};
 ghost use Rattle.stab_lines.specs.Words.{value};
-ghost use Rattle.stab_script.specs.ScriptWords.{first_word as first_of, behind_word, is_place_number, place_of};
+ghost use Rattle.stab_script.specs.ScriptWords.{first_word as first_of, after_word, is_place_number, place_of};
 
 use stab_circuit::Path;
 use stab_line_reader::{capped_value, is_number};
@@ -23,7 +23,7 @@ fn word_len(text: &[u8]) -> usize
 /// spacing in front.
 pub(crate) fn first_word(text: &[u8]) -> (&[u8], &[u8])
     ensures word { result.0.now ≡ first_of text.now }
-    ensures rest { result.1.now ≡ behind_word text.now }
+    ensures rest { result.1.now ≡ after_word text.now }
 {
     let (word, rest) = text.split_at(word_len(text));
     (word, without_spacing_in_front(rest))

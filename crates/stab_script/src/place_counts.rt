@@ -6,10 +6,10 @@ ghost use Rattle.stab_circuit.specs.Steps.{check_of, makes, detectors_in as dete
 ghost use Rattle.stab_edits.specs.Views.{circuit_items};
 ghost use Rattle.stab_edits.specs.Cursors.{step_shown};
 ghost use Rattle.stab_run.specs.Points.{coins_of};
-ghost use Rattle.stab_script.specs.PlaceCounts.{counts_of, place_behind as behind_of, steps_up_to, steps_at, place_text};
-ghost use Rattle.stab_script.specs.FramedReplies.{text_found};
+ghost use Rattle.stab_script.specs.PlaceCounts.{counts_of, place_after as after_of, steps_up_to, steps_at, place_text};
+ghost use Rattle.stab_script.specs.CountedReplies.{text_found};
 ghost use Rattle.stab_script.specs.inner.StepCounts.{counted_with, IsOfSteps};
-ghost use Rattle.stab_script.specs.FramedAnswers.{GivesText};
+ghost use Rattle.stab_script.specs.CountedAnswers.{GivesText};
 
 use crate::reply::{Reply, StepCounts, memory};
 use stab_circuit::{Circuit, Cursor, Path, Step};
@@ -100,8 +100,8 @@ fn count_steps(cursor: &mut Cursor, most: usize) -> StepCounts
 }
 
 /// The place after that of a path, if there can be one.
-fn place_behind(path: &Path) -> Option<Path>
-    ensures value { IfSome result (λ p. p ≡ behind_of path.now) }
+fn place_after(path: &Path) -> Option<Path>
+    ensures value { IfSome result (λ p. p ≡ after_of path.now) }
 {
     let blocks = path.blocks();
     let depth = blocks.len();
@@ -127,11 +127,11 @@ fn place_counts(
     ensures own { IfOk result (λ c. c.1 ≡ counts_of (steps_at path.now (circuit_items circuit.now))) }
     ensures err { IfErr result (λ r. r ≡ OutOfMemory) }
 {
-    let Some(behind) = place_behind(path) else {
+    let Some(following) = place_after(path) else {
         return Err(Refusal::OutOfMemory);
     };
     let first = circuit.steps_before(*path);
-    let end = circuit.steps_before(behind);
+    let end = circuit.steps_before(following);
     let mut cursor = Cursor::at(alloc, circuit, 0)?;
     let before = count_steps(&mut cursor, first);
     let own = count_steps(&mut cursor, end.saturating_sub(first));

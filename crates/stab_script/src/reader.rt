@@ -3,7 +3,7 @@ ghost use Rattle.std.specs.Prelude.{◌≡◌, ◌<◌, ◌≤◌, ◌+◌, ◌^
 ghost use Rattle.stab_io.specs.Refusals.{whole};
 ghost use Rattle.stab_io.specs.declared.refusal.Refusal.TheVariants.{OutOfMemory};
 ghost use Rattle.stab_script.specs.ScriptWords.{Gathered as Text};
-ghost use Rattle.stab_script.specs.Scripts.{ScriptReader as ScriptReaderState, Gathering as GatheringState, put_gathered as put_of, begun as begun_of, line_alone, opened_behind as opened_of, gathered_with, line_gathered, read_line, read_byte, read_last, closed, empty_reader};
+ghost use Rattle.stab_script.specs.Scripts.{ScriptReader as ScriptReaderState, Gathering as GatheringState, put_gathered as put_of, begun as begun_of, line_alone, opened_after as opened_of, gathered_with, line_gathered, read_line, read_byte, read_last, closed, empty_reader};
 ghost use Rattle.stab_script.specs.Requests.{request_asked, asked_if_any, opened_in};
 
 use crate::gathered::Gathered;
@@ -36,7 +36,7 @@ impl Model for Gathering {
 }
 
 /// How many blocks are open after a content.
-fn opened_behind(opened: u64, content: &[u8]) -> u64
+fn opened_after(opened: u64, content: &[u8]) -> u64
     requires few { opened < 2 ^ 63 }
     ensures value { result ≡ opened_of opened content.now }
     ensures few { result ≤ opened + 1 }
@@ -65,7 +65,7 @@ impl Gathering {
                 let content = content(line);
                 self.text.add(MOST_TEXT, b"\n")?;
                 self.text.add(MOST_TEXT, content)?;
-                self.opened = opened_behind(self.opened, content);
+                self.opened = opened_after(self.opened, content);
             }
         }
         Ok(())
@@ -140,7 +140,7 @@ impl ScriptReader {
             Request::Delete { place } => Some(Request::Delete { place }),
             Request::Begin => Some(Request::Begin),
             Request::Show(what) => Some(Request::Show(what)),
-            Request::Framed(what) => Some(Request::Framed(what)),
+            Request::Counted(what) => Some(Request::Counted(what)),
             Request::Deterministic => Some(Request::Deterministic),
             Request::Distance { everywhere, most } => Some(Request::Distance { everywhere, most }),
             Request::Refuse(refusal) => Some(Request::Refuse(refusal)),

@@ -12,7 +12,7 @@ ghost use Rattle.stab_texts.specs.FaultLines.{refused_text};
 ghost use Rattle.stab_texts.specs.Rows.{lines_of};
 ghost use Rattle.stab_script.specs.Changes.{count_line, entries_line};
 ghost use Rattle.stab_script.specs.PlaceCounts.{place_line, two_numbers};
-ghost use Rattle.stab_script.specs.FramedReplies.{greeting as greeting_of, lines_in, made_text, numbers_line, reply_text};
+ghost use Rattle.stab_script.specs.CountedReplies.{greeting as greeting_of, lines_in, made_text, numbers_line, reply_text};
 ghost use Rattle.stab_script.specs.Signs.{sign_line};
 ghost use Rattle.stab_texts.specs.Texts.{texts_joined};
 ghost use Rattle.stab_script.specs.Replies.{ReplyBytes, no_reply, reply_output};
@@ -128,24 +128,24 @@ impl Reply {
     }
 
     /// The reply to an edit that was made.
-    pub fn ok(alloc: Global, framed: bool) -> Result<Reply, Fault>
-        ensures written { IfOk result (λ r. r.written ≡ made_text framed) }
+    pub fn ok(alloc: Global, counted: bool) -> Result<Reply, Fault>
+        ensures written { IfOk result (λ r. r.written ≡ made_text counted) }
         ensures err { IfErr result (λ f. f ≡ whole OutOfMemory) }
     {
-        if framed {
+        if counted {
             Reply::of(alloc, &[b"ok 0\n"])
         } else {
             Reply::of(alloc, &[b"ok\n"])
         }
     }
 
-    /// The reply that is no refusal with this text: a framed one says first how many lines it has.
-    #[tactic(auto, using(crate::proofs::FramedReplyLaws::told_text))]
-    pub fn told(self, alloc: Global, framed: bool) -> Result<Reply, Fault>
-        ensures written { IfOk result (λ r. r.written ≡ reply_text framed self.written) }
+    /// The reply that is no refusal with this text: a counted one says first how many lines it has.
+    #[tactic(auto, using(crate::proofs::CountedReplyLaws::reported_text))]
+    pub fn reported(self, alloc: Global, counted: bool) -> Result<Reply, Fault>
+        ensures written { IfOk result (λ r. r.written ≡ reply_text counted self.written) }
         ensures err { IfErr result (λ f. f ≡ whole OutOfMemory) }
     {
-        if !framed {
+        if !counted {
             return Ok(self);
         }
         let mut number = itoa::Buffer::new();
@@ -153,13 +153,13 @@ impl Reply {
         Reply::of(alloc, &[b"ok ", number, b"\n", self.bytes()])
     }
 
-    /// The first line of a framed script's replies, which no other has.
-    #[tactic(auto, using(crate::proofs::FramedReplyLaws::greeting_text))]
-    pub fn greeting(alloc: Global, framed: bool, numbers: SessionNumbers) -> Result<Reply, Fault>
-        ensures written { IfOk result (λ r. r.written ≡ greeting_of framed numbers) }
+    /// The first line of a counted script's replies, which no other has.
+    #[tactic(auto, using(crate::proofs::CountedReplyLaws::greeting_text))]
+    pub fn greeting(alloc: Global, counted: bool, numbers: SessionNumbers) -> Result<Reply, Fault>
+        ensures written { IfOk result (λ r. r.written ≡ greeting_of counted numbers) }
         ensures err { IfErr result (λ f. f ≡ whole OutOfMemory) }
     {
-        if !framed {
+        if !counted {
             return Ok(Reply::new(alloc));
         }
         let line = Reply::numbers(alloc, numbers)?;
@@ -194,16 +194,16 @@ impl Reply {
     }
 
     /// Appends two numbers with a space between them, and a text after them.
-    #[tactic(auto, using(crate::proofs::FramedReplyLaws::two_numbers_text))]
-    fn add_numbers(&mut self, first: usize, second: usize, behind: &[u8]) -> Result<(), Fault>
-        ensures written { OnOk result (self.new.written ≡ self.old.written ++ two_numbers first second behind.now) }
+    #[tactic(auto, using(crate::proofs::CountedReplyLaws::two_numbers_text))]
+    fn add_numbers(&mut self, first: usize, second: usize, following: &[u8]) -> Result<(), Fault>
+        ensures written { OnOk result (self.new.written ≡ self.old.written ++ two_numbers first second following.now) }
         ensures err { IfErr result (λ f. f ≡ whole OutOfMemory) }
     {
         let mut before = itoa::Buffer::new();
         let mut after = itoa::Buffer::new();
         let before = before.format(first).as_bytes();
         let after = after.format(second).as_bytes();
-        match write_texts(self, &[before, b" ", after, behind]) {
+        match write_texts(self, &[before, b" ", after, following]) {
             Ok(()) => Ok(()),
             Err(_) => Err(Fault::whole(Refusal::OutOfMemory)),
         }
@@ -260,7 +260,7 @@ impl Reply {
     }
 
     /// A line of the entries of 1 bits.
-    #[tactic(auto, using(crate::proofs::FramedReplyLaws::one_text_joined, crate::proofs::FramedReplyLaws::no_entry, crate::proofs::FramedReplyLaws::some_entry))]
+    #[tactic(auto, using(crate::proofs::CountedReplyLaws::one_text_joined, crate::proofs::CountedReplyLaws::no_entry, crate::proofs::CountedReplyLaws::some_entry))]
     pub fn entries(alloc: Global, kinds: Kinds, bits: &[bool]) -> Result<Reply, Fault>
         requires within { detectors_of kinds ≤ length bits.now }
         ensures written { IfOk result (λ r. r.written ≡ entries_line kinds bits.now) }
@@ -268,16 +268,16 @@ impl Reply {
     {
         let shot = Reply::dets(alloc, kinds, bits)?;
         // After `shot`, a space comes before each entry, and a line end alone if there is none.
-        let behind = shot.bytes().split_at(4).1;
-        if behind.len() == 1 {
-            Reply::of(alloc, &[behind])
+        let following = shot.bytes().split_at(4).1;
+        if following.len() == 1 {
+            Reply::of(alloc, &[following])
         } else {
-            Reply::of(alloc, &[behind.split_at(1).1])
+            Reply::of(alloc, &[following.split_at(1).1])
         }
     }
 
     /// Appends a line of two numbers of bits, if these differ.
-    #[tactic(auto, using(crate::proofs::FramedReplyLaws::nothing_behind))]
+    #[tactic(auto, using(crate::proofs::CountedReplyLaws::nothing_after))]
     pub fn add_count(&mut self, name: &[u8], old: &[bool], new: &[bool]) -> Result<(), Fault>
         ensures written { OnOk result (self.new.written ≡ self.old.written ++ count_line name.now old.now new.now) }
         ensures err { IfErr result (λ f. f ≡ whole OutOfMemory) }

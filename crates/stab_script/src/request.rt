@@ -2,12 +2,12 @@
 ghost use Rattle.std.specs.Prelude.{◌≡◌, Some, IfOk, IfErr};
 ghost use Rattle.stab_io.specs.Refusals.{whole};
 ghost use Rattle.stab_io.specs.declared.refusal.Refusal.TheVariants.{OutOfMemory};
-ghost use Rattle.stab_script.specs.FramedRequests.{round_of};
-ghost use Rattle.stab_script.specs.ScriptWords.{first_word as first_of, behind_word, place_of};
-ghost use Rattle.stab_script.specs.Scripts.{put_at as put_of, delete_at as delete_of, distance_of, framed_of, show_by, show_of, request_by as by_word, request_of};
-ghost use Rattle.stab_script.specs.Requests.{request_asked, framed_if_any};
+ghost use Rattle.stab_script.specs.CountedRequests.{round_number_of};
+ghost use Rattle.stab_script.specs.ScriptWords.{first_word as first_of, after_word, place_of};
+ghost use Rattle.stab_script.specs.Scripts.{put_at as put_of, delete_at as delete_of, distance_of, counted_of, show_by, show_of, request_by as by_word, request_of};
+ghost use Rattle.stab_script.specs.Requests.{request_asked, counted_if_any};
 
-use crate::framed::{FramedRequest, alone, read_framed_show, read_split};
+use crate::counted::{CountedRequest, alone, read_counted_show, read_split};
 use crate::place::{first_word, place_number, read_place};
 use stab_circuit::Path;
 use stab_io::{Fault, Refusal};
@@ -56,11 +56,11 @@ pub enum Request {
     },
     /// That something is shown.
     Show(Show),
-    /// What only a framed script asks for.
-    Framed(FramedRequest),
-    /// Which detectors and observables are the same for all random bits, for a framed script.
+    /// What only a counted script asks for.
+    Counted(CountedRequest),
+    /// Which detectors and observables are the same for all random bits, for a counted script.
     Deterministic,
-    /// The distance up to a number of errors, for a framed script: of errors everywhere, or where the
+    /// The distance up to a number of errors, for a counted script: of errors everywhere, or where the
     /// circuit marks them.
     Distance {
         everywhere: bool,
@@ -72,7 +72,7 @@ pub enum Request {
 
 /// An edit that puts an item in, by what follows its word: a place and a text.
 fn put_at(alloc: Global, edit: ItemEdit, rest: &[u8]) -> Result<Request, Fault>
-    ensures gives { IfOk result (λ r. request_asked r ≡ put_of edit (place_of (first_of rest.now)) (behind_word rest.now)) }
+    ensures gives { IfOk result (λ r. request_asked r ≡ put_of edit (place_of (first_of rest.now)) (after_word rest.now)) }
     ensures err { IfErr result (λ f. f ≡ whole OutOfMemory) }
 {
     let (word, text) = first_word(rest);
@@ -90,7 +90,7 @@ fn put_at(alloc: Global, edit: ItemEdit, rest: &[u8]) -> Result<Request, Fault>
 
 /// A deletion, by what follows its word: a place alone.
 fn delete_at(rest: &[u8]) -> Request
-    ensures value { request_asked result ≡ delete_of (place_of (first_of rest.now)) (behind_word rest.now) }
+    ensures value { request_asked result ≡ delete_of (place_of (first_of rest.now)) (after_word rest.now) }
 {
     let (word, text) = first_word(rest);
     match read_place(word) {
@@ -105,13 +105,13 @@ fn delete_at(rest: &[u8]) -> Request
     }
 }
 
-/// What only a framed script asks for, if it asks for anything.
-fn framed_if_some(request: Option<FramedRequest>) -> Request
-    ensures value { request_asked result ≡ framed_of (framed_if_any request) }
+/// What only a counted script asks for, if it asks for anything.
+fn counted_if_some(request: Option<CountedRequest>) -> Request
+    ensures value { request_asked result ≡ counted_of (counted_if_any request) }
 {
     match request {
         None => Request::Refuse(Refusal::BadCommand),
-        Some(request) => Request::Framed(request),
+        Some(request) => Request::Counted(request),
     }
 }
 
@@ -136,7 +136,7 @@ fn distance_up_to(most: usize, rest: &[u8]) -> Request
 
 /// The distance, by the words after `show distance`.
 fn read_distance(rest: &[u8]) -> Request
-    ensures value { request_asked result ≡ distance_of (round_of (first_of rest.now)) (behind_word rest.now) }
+    ensures value { request_asked result ≡ distance_of (round_number_of (first_of rest.now)) (after_word rest.now) }
 {
     let (word, rest) = first_word(rest);
     match place_number(word) {
@@ -145,7 +145,7 @@ fn read_distance(rest: &[u8]) -> Request
     }
 }
 
-/// What only a framed script may be shown, by the first word after `show` and the rest after that.
+/// What only a counted script may be shown, by the first word after `show` and the rest after that.
 fn read_show_by(alloc: Global, word: &[u8], rest: &[u8]) -> Result<Request, Fault>
     ensures gives { IfOk result (λ r. request_asked r ≡ show_by word.now rest.now) }
     ensures err { IfErr result (λ f. f ≡ whole OutOfMemory) }
@@ -153,8 +153,8 @@ fn read_show_by(alloc: Global, word: &[u8], rest: &[u8]) -> Result<Request, Faul
     if word == b"distance".as_slice() {
         return Ok(read_distance(rest));
     }
-    let request = read_framed_show(alloc, word, rest)?;
-    Ok(framed_if_some(request))
+    let request = read_counted_show(alloc, word, rest)?;
+    Ok(counted_if_some(request))
 }
 
 /// What the words after `show` ask for.
@@ -196,9 +196,9 @@ fn request_by(alloc: Global, word: &[u8], rest: &[u8]) -> Result<Request, Fault>
     } else if word == b"show".as_slice() {
         read_show(alloc, rest)
     } else if word == b"mark".as_slice() {
-        Ok(framed_if_some(alone(rest, FramedRequest::Mark)))
+        Ok(counted_if_some(alone(rest, CountedRequest::Mark)))
     } else if word == b"split".as_slice() {
-        Ok(framed_if_some(read_split(rest)))
+        Ok(counted_if_some(read_split(rest)))
     } else {
         Ok(Request::Refuse(Refusal::BadCommand))
     }

@@ -1,5 +1,5 @@
 -- Edited sessions: from an edit that was begun and run to the statement of the session, and to what the edit cost.
-use Rattle.stab_session.proofs.Names.{◌≡◌, ◌≤◌, ℕ, ◌+◌, ◌-◌, ◌*◌, sym, ◌∙◌, ap, subst, arith, Bool, List, [], ◌∷◌, length, take, drop, All, None, Result, Ok, slice_get, Refusal, OutOfMemory, Fault, whole, IsCallFault, OneItem, listed, entries, Step, unroll, observables_of, check_within, IsApart, edit_path, edited, verdict, put_item, first_changed, old_end, new_end, entries-listed, Recording, Span, Edit, Pending, run, start, origin, point_after, point_of, AgreeAt, SessionState, IsEditedBy, steps_of_item, steps_from_change, steps_behind, unless_refused, most_refused_asks, steps_put, steps_near_change, most_tried, check-steps, check-whole, IsCountOf, AgreeBehind, AgreeBackBehind, IsCounted, AgreeAsFarAsLooked, session_of, IsRecorded, finished, IsBegun, IsRecording, AgreeBehindSpan, AgreeBackBehindSpan, run-state, Repeat, AreRepeats}
+use Rattle.stab_session.proofs.Names.{◌≡◌, ◌≤◌, ℕ, ◌+◌, ◌-◌, ◌*◌, sym, ◌∙◌, ap, subst, arith, Bool, List, [], ◌∷◌, length, take, drop, All, None, Result, Ok, slice_get, Refusal, OutOfMemory, Fault, whole, IsCallFault, OneItem, listed, entries, Step, unroll, observables_of, check_within, HasDistinctQubits, edit_path, edited, verdict, put_item, first_changed, old_end, new_end, entries-listed, Recording, Span, Edit, Pending, run, start, origin, point_after, point_of, AgreeAt, SessionState, IsEditedBy, steps_of_item, steps_from_change, steps_after, unless_refused, most_refused_asks, steps_put, steps_near_change, most_tried, check-steps, check-whole, IsCountOf, AgreeAfter, AgreeBackAfter, IsCounted, AgreeAsFarAsLooked, session_of, IsRecorded, finished, IsBegun, IsRecording, AgreeAfterSpan, AgreeBackAfterSpan, run-state, Repeat, AreRepeats}
 use Rattle.stab_session.proofs.SessionLemmas.{session-recorded}
 use Rattle.stab_session.proofs.PendingLemmas.{verdict-checked}
 use Rattle.stab_session.proofs.SpanLemmas.{put-within}
@@ -15,7 +15,7 @@ session-verdict s e n items is qubits = λ i. verdict (sym qubits i) e (same i)
     same : items ≡ entries s.items
     same = sym (ap entries is ∙ entries-listed items)
 
--- the run of steps ends at the point where they lead
+-- the run of steps ends at the point where they end
 run-point : (n count : ℕ) (bits : ℕ → Bool) (xs : List Step) → point_of (run n bits xs (start count)) ≡ point_after n bits xs origin
 run-point n count bits xs = ap point_of (run-state n bits xs (start count))
 
@@ -36,20 +36,20 @@ same_agree_back n m k bits others xs us ys vs i a j c em ek eb ex ey ei ej =
 pub followed : (n m : ℕ) (bits others : ℕ → Bool) (K : ℕ) (xs : List Step) (count : ℕ) (r : Recording) → n ≡ m → bits ≡ others → IsRecording m bits K xs count r → IsRecording n others K xs count r
 followed n m bits others K xs count r e f is = subst (λ k. IsRecording k others K xs count r) (sym e) (subst (λ k. IsRecording m k K xs count r) f is)
 
-pub agreed : (n m : ℕ) (bits others : ℕ → Bool) (xs ys : List Step) (s : Span) (far : ℕ) → n ≡ m → bits ≡ others → AgreeBehindSpan n others xs ys s far → AgreeBehindSpan m bits xs ys s far
-agreed n m bits others xs ys s far e f is = subst (λ k. AgreeBehindSpan k bits xs ys s far) e (subst (λ k. AgreeBehindSpan n k xs ys s far) (sym f) is)
+pub agreed : (n m : ℕ) (bits others : ℕ → Bool) (xs ys : List Step) (s : Span) (far : ℕ) → n ≡ m → bits ≡ others → AgreeAfterSpan n others xs ys s far → AgreeAfterSpan m bits xs ys s far
+agreed n m bits others xs ys s far e f is = subst (λ k. AgreeAfterSpan k bits xs ys s far) e (subst (λ k. AgreeAfterSpan n k xs ys s far) (sym f) is)
 
-pub counted_same : (n m : ℕ) (bits others : ℕ → Bool) (xs ys : List Step) (s : Span) (copies : List ℕ) (total applied : ℕ) → n ≡ m → bits ≡ others
-    → IsCounted (AgreeBehindSpan m bits xs ys s) (AgreeBackBehindSpan m bits xs ys s) copies s.first s.old_end s.new_end total applied
-    → IsCounted (AgreeBehindSpan n others xs ys s) (AgreeBackBehindSpan n others xs ys s) copies s.first s.old_end s.new_end total applied
-counted_same n m bits others xs ys s copies total applied e f h =
-    subst (λ t. t) (λ i. IsCounted (AgreeBehindSpan (sym e i) (f i) xs ys s) (AgreeBackBehindSpan (sym e i) (f i) xs ys s) copies s.first s.old_end s.new_end total applied) h
+pub counted_same : (n m : ℕ) (bits others : ℕ → Bool) (xs ys : List Step) (s : Span) (checkpoints : List ℕ) (total applied : ℕ) → n ≡ m → bits ≡ others
+    → IsCounted (AgreeAfterSpan m bits xs ys s) (AgreeBackAfterSpan m bits xs ys s) checkpoints s.first s.old_end s.new_end total applied
+    → IsCounted (AgreeAfterSpan n others xs ys s) (AgreeBackAfterSpan n others xs ys s) checkpoints s.first s.old_end s.new_end total applied
+counted_same n m bits others xs ys s checkpoints total applied e f h =
+    subst (λ t. t) (λ i. IsCounted (AgreeAfterSpan (sym e i) (f i) xs ys s) (AgreeBackAfterSpan (sym e i) (f i) xs ys s) checkpoints s.first s.old_end s.new_end total applied) h
 
 -- how many steps an edit puts in, by the items that it leaves
 abbrev steps_put_in : Edit → List OneItem → ℕ
 steps_put_in e new = steps_of_item (elim (edit_path e).blocks [ [] ↦ put_item e | b ∷ bs ↦ slice_get new b ])
 
--- an edit of a session that was begun, leads to other steps than its run is of, and was finished
+-- an edit of a session that was begun and finished, and makes other steps than those of its run
 module _ {C : Type 0} (sequence : C → ℕ → Bool) (e : Edit) (s : SessionState C) (n : ℕ) (old mid : List OneItem) (pending : Pending) (span : Span)
     (b : IsBegun n e old mid pending span) (items : s.items ≡ listed old) (qubits : s.qubits ≡ n) where
   accepted : verdict s.qubits e (entries s.items) ≡ None
@@ -69,8 +69,8 @@ module _ {C : Type 0} (sequence : C → ℕ → Bool) (e : Edit) (s : SessionSta
   pub refused-asks : (K before after : ℕ) → K ≡ s.stride → after ≤ before + ((length (unroll (listed mid)) - span.first) + K) → after ≤ before + most_refused_asks e s
   refused-asks K before after stride asked =
       let most : most_refused_asks e s ≡ (length (unroll (listed b.new)) - first_changed e old) + s.stride =
-      (λ i. unless_refused (accepted i) (steps_behind (first_changed e (old_items i)) s.stride (edited e (old_items i))))
-      ∙ ap (steps_behind (first_changed e old) s.stride) b.edited in
+      (λ i. unless_refused (accepted i) (steps_after (first_changed e (old_items i)) s.stride (edited e (old_items i))))
+      ∙ ap (steps_after (first_changed e old) s.stride) b.edited in
       omega (arith, asked, most, stride, b.span.first, ap length b.same_runs.steps)
 
   module _ (new : List OneItem) (ahead : finished pending mid ≡ Ok new) (stride : ℕ) (coins : C) (run : Recording) (same_stride : stride ≡ s.stride) (same_coins : sequence coins ≡ sequence s.coins)
@@ -89,10 +89,10 @@ module _ {C : Type 0} (sequence : C → ℕ → Bool) (e : Edit) (s : SessionSta
         (subst (λ xs. IsRecording n (sequence s.coins) stride xs (observables_of (listed mid)) run) new_steps is)
 
     -- the session is recorded again
-    pub edited-recorded : All IsApart (unroll (listed mid)) → n ≤ 1024 → 1 ≤ stride → stride ≤ 65536 → IsRecorded sequence (session_of (listed new) stride coins run) run
-    edited-recorded apart few above within =
+    pub edited-recorded : All HasDistinctQubits (unroll (listed mid)) → n ≤ 1024 → 1 ≤ stride → stride ≤ 65536 → IsRecorded sequence (session_of (listed new) stride coins run) run
+    edited-recorded distinct few above within =
         session-recorded sequence (listed new) stride coins run n (sequence s.coins) same_coins new-run
-        (subst (λ xs. check_within n (listed xs) ≡ None) new-is (verdict-checked n e old b.new b.edited b.accepted)) (subst (All IsApart) new_steps apart) few above within
+        (subst (λ xs. check_within n (listed xs) ≡ None) new-is (verdict-checked n e old b.new b.edited b.accepted)) (subst (All HasDistinctQubits) new_steps distinct) few above within
 
     -- where its steps come again
     pub edited-repeats : (rs : List Repeat) → AreRepeats 0 (unroll (listed mid)) rs → AreRepeats 0 (unroll (listed new)) rs
@@ -133,8 +133,8 @@ module _ {C : Type 0} (sequence : C → ℕ → Bool) (e : Edit) (s : SessionSta
     new_end_is = b.span.new_end ∙ ap (new_end e) new_items
 
     -- it agrees with the old run after what was changed, whichever way this is said
-    agreement : (far : ℕ) → AgreeBehind sequence e s (session_of (listed new) stride coins run) far
-        ≡ AgreeBehindSpan n (sequence s.coins) (unroll (listed old)) (unroll (listed mid)) span far
+    agreement : (far : ℕ) → AgreeAfter sequence e s (session_of (listed new) stride coins run) far
+        ≡ AgreeAfterSpan n (sequence s.coins) (unroll (listed old)) (unroll (listed mid)) span far
     agreement far =
         (λ i. AgreeAt run.tableau.qubits (run-point s.qubits (observables_of s.items) (sequence s.coins) (take (old_end e (entries s.items) + far) (unroll s.items)) i)
         (run-point run.tableau.qubits (observables_of (listed new)) (sequence coins) (take (new_end e (entries (listed new)) + far) (unroll (listed new))) i))
@@ -142,8 +142,8 @@ module _ {C : Type 0} (sequence : C → ℕ → Bool) (e : Edit) (s : SessionSta
         (old_end e (entries s.items) + far) (span.new_end + far) (new_end e (entries (listed new)) + far) qubits is.qubits same_coins (ap unroll items)
         (sym new_steps) (ap (λ k. k + far) (sym old_end_is)) (ap (λ k. k + far) (sym new_end_is))
 
-    agreement-back : (far : ℕ) → AgreeBackBehind sequence e s (session_of (listed new) stride coins run) far
-        ≡ AgreeBackBehindSpan n (sequence s.coins) (unroll (listed old)) (unroll (listed mid)) span far
+    agreement-back : (far : ℕ) → AgreeBackAfter sequence e s (session_of (listed new) stride coins run) far
+        ≡ AgreeBackAfterSpan n (sequence s.coins) (unroll (listed old)) (unroll (listed mid)) span far
     agreement-back far =
         (λ i. AgreeAsFarAsLooked run.tableau.qubits (sequence s.coins) (drop (new_end e (entries (listed new)) + far) (unroll (listed new)))
         (run-point s.qubits (observables_of s.items) (sequence s.coins) (take (old_end e (entries s.items) + far) (unroll s.items)) i)
@@ -153,11 +153,11 @@ module _ {C : Type 0} (sequence : C → ℕ → Bool) (e : Edit) (s : SessionSta
         (sym new_steps) (ap (λ k. k + far) (sym old_end_is)) (ap (λ k. k + far) (sym new_end_is))
 
     -- so it cost just this many
-    pub edited-counted : (applied passed : ℕ) (copies : List ℕ) → applied ≡ passed → copies ≡ s.checkpoints
-        → IsCounted (AgreeBehindSpan n (sequence s.coins) (unroll (listed old)) (unroll (listed mid)) span)
-        (AgreeBackBehindSpan n (sequence s.coins) (unroll (listed old)) (unroll (listed mid)) span) copies span.first span.old_end span.new_end (length (unroll (listed mid))) applied
+    pub edited-counted : (applied passed : ℕ) (checkpoints : List ℕ) → applied ≡ passed → checkpoints ≡ s.checkpoints
+        → IsCounted (AgreeAfterSpan n (sequence s.coins) (unroll (listed old)) (unroll (listed mid)) span)
+        (AgreeBackAfterSpan n (sequence s.coins) (unroll (listed old)) (unroll (listed mid)) span) checkpoints span.first span.old_end span.new_end (length (unroll (listed mid))) applied
         → IsCountOf sequence e s (session_of (listed new) stride coins run) passed
-    edited-counted applied passed copies count same h =
+    edited-counted applied passed checkpoints count same h =
         subst (λ t. t) (λ i. IsCounted (λ far. sym (agreement far) i) (λ far. sym (agreement-back far) i) (same i) (first_is i) (old_end_is i) (new_end_is i) (length (new_steps i)) (count i)) h
 
     -- if the runs agree this many steps after what was changed, it cost no more than what was put in, two strides, and as many
@@ -168,6 +168,6 @@ module _ {C : Type 0} (sequence : C → ℕ → Bool) (e : Edit) (s : SessionSta
         (omega (arith, b.span.new_end, b.span.first, put-within e (edit_path e).blocks old b.new b.edited))
 
     pub edited-early : (applied far : ℕ)
-        → (AgreeBehindSpan n (sequence s.coins) (unroll (listed old)) (unroll (listed mid)) span far → applied ≤ ((span.new_end - span.first) + 2 * stride) + far)
-        → AgreeBehind sequence e s (session_of (listed new) stride coins run) far → applied ≤ steps_near_change e (session_of (listed new) stride coins run) + far
+        → (AgreeAfterSpan n (sequence s.coins) (unroll (listed old)) (unroll (listed mid)) span far → applied ≤ ((span.new_end - span.first) + 2 * stride) + far)
+        → AgreeAfter sequence e s (session_of (listed new) stride coins run) far → applied ≤ steps_near_change e (session_of (listed new) stride coins run) + far
     edited-early applied far near h = omega (arith, near (subst (λ t. t) (agreement far) h), put_is)

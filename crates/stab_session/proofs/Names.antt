@@ -10,9 +10,9 @@ pub use Rattle.stab_edits.proofs.EditLemmas.{entries-listed, edits_leave, change
 pub use Rattle.stab_edits.proofs.EditingLemmas.{replaced}
 pub use Rattle.stab_edits.proofs.PlaceLemmas.{found_taken, taken_named}
 pub use Rattle.stab_edits.proofs.UndoLemmas.{replace-retaken, insert-undone, insert-retaken, replace-undone, new_parts, front_size}
-pub use Rattle.stab_edits.specs.Cursors.{IsApart}
+pub use Rattle.stab_edits.specs.Cursors.{HasDistinctQubits}
 pub use Rattle.stab_edits.specs.Editings.{IsSpanOf}
-pub use Rattle.stab_edits.specs.Edits.{edit_path, edited, verdict, put_item, first_changed, old_end, new_end, taken_at, taken, steps_before, behind_taken, behind_put, outermost, list_refusal, list_verdict, edited_in, inner, steps_in}
+pub use Rattle.stab_edits.specs.Edits.{edit_path, edited, verdict, put_item, first_changed, old_end, new_end, taken_at, taken, steps_before, after_taken, after_put, outermost, list_refusal, list_verdict, edited_in, inner, steps_in}
 pub use Rattle.stab_circuit.specs.Items.{OneItem, listed, entries, depth, Items, repeat}
 pub use Rattle.stab_circuit.specs.Laws.{AreAlike, SplitsLeaveTheSteps}
 pub use Rattle.stab_circuit.specs.Nothings.{IsNothing}
@@ -40,7 +40,7 @@ pub use Rattle.stab_splices.proofs.SpacingLemmas.{count-spaced}
 pub use Rattle.stab_recording.specs.Checkpoints.{checkpoint_steps}
 pub use Rattle.stab_splices.specs.Counts.{IsCounted, AgreeAsFarAsLooked}
 pub use Rattle.stab_splices.specs.PauliSpans.{DifferByPaulis}
-pub use Rattle.stab_splices.specs.Recordings.{IsRecording, AgreeBehindSpan, AgreeBackBehindSpan}
+pub use Rattle.stab_splices.specs.Recordings.{IsRecording, AgreeAfterSpan, AgreeBackAfterSpan}
 pub use Rattle.stab_splices.specs.declared.recording.Recording.{Recording}
 pub use Rattle.stab_run.proofs.FitLemmas.{check-qubits, check-whole, check-steps}
 pub use Rattle.stab_run.proofs.PointLemmas.{records-are-records}
@@ -57,7 +57,7 @@ pub use Rattle.stab_tableau.specs.Groups.{SameGroup}
 pub use Rattle.stab_tableau.specs.Reduced.{AreReduced}
 pub use Rattle.stab_tableau.specs.Tableaus.{stabilises}
 pub use Rattle.stab_tableau.specs.Traces.{member}
-pub use Rattle.stab_session.specs.Bounds.{steps_of_item, steps_from_change, steps_behind, unless_refused, most_refused_asks, steps_put, steps_near_change, most_tried, IsCountOf, AgreeBehind, AgreeBackBehind, most_checkpoints}
+pub use Rattle.stab_session.specs.Bounds.{steps_of_item, steps_from_change, steps_after, unless_refused, most_refused_asks, steps_put, steps_near_change, most_tried, IsCountOf, AgreeAfter, AgreeBackAfter, most_checkpoints}
 pub use Rattle.stab_session.specs.Headline.{IsRunOfItems}
 pub use Rattle.stab_session.specs.SessionEdits.{IsEditedBy, IsSplit}
 pub use Rattle.stab_session.specs.Sessions.{SessionState, IsSignIn}

@@ -1,12 +1,9 @@
 -- Pending edits: what each of the three ways to begin an edit gives.
-use Rattle.stab_session.proofs.Names.{◌≡◌, ◌≤◌, refl, ap, sym, ◌∙◌, ℕ, Bool, true, false, List, length, nat_lt, if◌then◌else◌, arith, Option, Some, None, Ok, Refusal, TooDeep, OneItem, listed, depth, unroll, check_within, Path, edited, list_refusal, list_verdict, verdict, taken, IsSpanOf, IsNothing, Edit, Insert, Replace, Delete, Span, insert-undone, insert-retaken, replace-undone, replace-retaken, steps-cleared, observables-cleared, delete-instead, deleted-ok, verdict-instead, Inserted, Replaced, Deleted, IsSpanNow, IsBegun, check-whole, check-steps}
-use Rattle.stab_session.proofs.SpanLemmas.{span-told, span-deleted}
+use Rattle.stab_session.proofs.Names.{◌≡◌, ◌≤◌, refl, ap, sym, ◌∙◌, ℕ, Bool, false, List, length, nat_lt, if◌then◌else◌, arith, Some, None, Ok, TooDeep, OneItem, listed, depth, unroll, check_within, Path, edited, list_refusal, list_verdict, verdict, taken, IsSpanOf, IsNothing, Edit, Insert, Replace, Delete, Span, insert-undone, insert-retaken, replace-undone, replace-retaken, steps-cleared, observables-cleared, delete-instead, deleted-ok, verdict-instead, Inserted, Replaced, Deleted, IsSpanNow, IsBegun, check-whole, check-steps}
+use Rattle.stab_session.proofs.SpanLemmas.{span-reported, span-deleted}
+use Rattle.stab_run.proofs.FitLemmas.{chosen}
 
 -- what a verdict of none says
-
-chosen_none : (c : Bool) (r : Refusal) (rest : Option Refusal) → (if c then Some r else rest) ≡ None → (c ≡ false) × (rest ≡ None)
-chosen_none true r rest e = absurd (cc)
-chosen_none false r rest e = (refl, e)
 
 allowed_where : (c : Bool) → c ≡ false → (if c then Some TooDeep else None) ≡ None
 allowed_where c e = ap (λ b. if b then Some TooDeep else None) e
@@ -15,11 +12,11 @@ verdict_listed : (n : ℕ) (edit : Edit) (old xs : List OneItem) → edited edit
 verdict_listed n edit old xs e v = sym (ap (list_verdict n) e) ∙ v
 
 verdict-allowed : (n : ℕ) (xs : List OneItem) → list_verdict n (Ok xs) ≡ None → list_refusal (Ok xs) ≡ None
-verdict-allowed n xs e = allowed_where (nat_lt 16 (depth (listed xs))) (chosen_none (nat_lt 16 (depth (listed xs))) TooDeep (check_within n (listed xs)) e).0
+verdict-allowed n xs e = allowed_where (nat_lt 16 (depth (listed xs))) (chosen (nat_lt 16 (depth (listed xs))) TooDeep (check_within n (listed xs)) e).0
 
 pub verdict-checked : (n : ℕ) (edit : Edit) (old xs : List OneItem) → edited edit old ≡ Ok xs → verdict n edit old ≡ None → check_within n (listed xs) ≡ None
 verdict-checked n edit old xs e v =
-    (chosen_none (nat_lt 16 (depth (listed xs))) TooDeep (check_within n (listed xs)) (verdict_listed n edit old xs e v)).1
+    (chosen (nat_lt 16 (depth (listed xs))) TooDeep (check_within n (listed xs)) (verdict_listed n edit old xs e v)).1
 
 not_deep : (d : ℕ) → d ≤ 16 → nat_lt 16 d ≡ false
 not_deep d h = grind arith
@@ -34,7 +31,7 @@ few n xs e = check-steps (listed xs) (check-whole n (listed xs) e)
 
 module _ (n : ℕ) (at : Path) (old now : List OneItem) (shallow : depth (listed old) ≤ 16) (was_checked : check_within n (listed old) ≡ None) (s : Span) where
   changed_span : (edit : Edit) → edited edit old ≡ Ok now → verdict n edit old ≡ None → IsSpanOf edit old now s → IsSpanNow edit old now now s
-  changed_span edit e v t = span-told edit old now s e t (few n old was_checked) (few n now (verdict-checked n edit old now e v))
+  changed_span edit e v t = span-reported edit old now s e t (few n old was_checked) (few n now (verdict-checked n edit old now e v))
 
   pub begun-insert : (x : OneItem) → edited (Insert at x) old ≡ Ok now → verdict n (Insert at x) old ≡ None → IsSpanOf (Insert at x) old now s
       → IsBegun n (Insert at x) old now (Inserted at) s

@@ -1,5 +1,5 @@
 -- Sessions: the statement of a session, from the run of its items that is recording.
-use Rattle.stab_session.proofs.Names.{◌≡◌, ◌∙◌, ◌≤◌, ap, ℕ, sym, subst, Bool, false, Option, All, None, arith, length, replicate, Signed, with_sign, member, SameGroup, stabilises, same-free, Items, unroll, observables_of, check_within, IsApart, Recording, State, start, run_of, RunOutput, origin, point_after, outputs, with_additions, state_at, DependsOnCoinsAt, IsRunOfItems, IsSignIn, most_checkpoints, checkpoint_steps, IsRecording, session_of, IsRecorded, run-state, run_of-same, records-are-records, count-spaced}
+use Rattle.stab_session.proofs.Names.{◌≡◌, ◌∙◌, ◌≤◌, ap, ℕ, sym, subst, Bool, false, Option, All, None, arith, length, replicate, Signed, with_sign, member, SameGroup, stabilises, same-free, Items, unroll, observables_of, check_within, HasDistinctQubits, Recording, State, start, run_of, RunOutput, origin, point_after, outputs, with_additions, state_at, DependsOnCoinsAt, IsRunOfItems, IsSignIn, most_checkpoints, checkpoint_steps, IsRecording, session_of, IsRecorded, run-state, run_of-same, records-are-records, count-spaced}
 
 -- in the same group a string has the same sign
 pub same-sign : (n : ℕ) (u v : Signed → Bool) (p : Signed) (sign : Option Bool) → length p.letters ≡ n → SameGroup n u v → IsSignIn u p sign → IsSignIn v p sign
@@ -9,17 +9,17 @@ same-sign n u v p sign size same h = (
 )
 
 -- the state after the run of items
-behind_all : (n : ℕ) (bits : ℕ → Bool) (items : Items)
+after_all : (n : ℕ) (bits : ℕ → Bool) (items : Items)
     → run_of n bits items ≡ state_at (point_after n bits (unroll items) origin) (outputs n bits (unroll items) origin) (start (observables_of items))
 unfolding run_of
-behind_all n bits items = run-state n bits (unroll items) (start (observables_of items))
+after_all n bits items = run-state n bits (unroll items) (start (observables_of items))
 
 module _ {C : Type 0} (sequence : C → ℕ → Bool) (items : Items) (stride : ℕ) (coins : C) (recording : Recording) where
   same_statement : IsRecording recording.tableau.qubits (sequence coins) stride (unroll items) (observables_of items) recording → IsRunOfItems sequence (session_of items stride coins recording)
   same_statement is =
       let n = recording.tableau.qubits in
       let bits = sequence coins in
-      let all = behind_all n bits items in
+      let all = after_all n bits items in
       let count = observables_of items in
       let free : recording.outputs.free.items ≡ (run_of n bits items).free = ap (λ (o : RunOutput). o.free) is.run.output ∙ sym (ap (λ (s : State). s.free) all) in
       record {
@@ -38,7 +38,7 @@ module _ {C : Type 0} (sequence : C → ℕ → Bool) (items : Items) (stride : 
       → SameGroup recording.tableau.qubits (stabilises recording.tableau) (member (run_of recording.tableau.qubits (sequence coins) items).trace)
   recording-group is =
       let n = recording.tableau.qubits in
-      subst (λ (s : State). SameGroup n (stabilises recording.tableau) (member s.trace)) (sym (behind_all n (sequence coins) items)) is.run.group
+      subst (λ (s : State). SameGroup n (stabilises recording.tableau) (member s.trace)) (sym (after_all n (sequence coins) items)) is.run.group
 
   -- it is recording, if the run of its items is recording with its coins on its qubits
   module _ (n : ℕ) (bits : ℕ → Bool) (same : sequence coins ≡ bits) (is : IsRecording n bits stride (unroll items) (observables_of items) recording) where
@@ -50,13 +50,13 @@ module _ {C : Type 0} (sequence : C → ℕ → Bool) (items : Items) (stride : 
     pub statement : IsRunOfItems sequence (session_of items stride coins recording)
     statement = same_statement moved_run
 
-    pub session-recorded : check_within n items ≡ None → All IsApart (unroll items) → n ≤ 1024 → 1 ≤ stride → stride ≤ 65536
+    pub session-recorded : check_within n items ≡ None → All HasDistinctQubits (unroll items) → n ≤ 1024 → 1 ≤ stride → stride ≤ 65536
         → IsRecorded sequence (session_of items stride coins recording) recording
-    session-recorded checked apart few above within = record {
+    session-recorded checked distinct few above within = record {
       statement = statement;
       run = moved_run;
       checked = subst (λ m. check_within m items ≡ None) (sym is.qubits) checked;
-      apart = apart;
+      distinct = distinct;
       few = subst (λ m. m ≤ 1024) (sym is.qubits) few;
       stride_above = above;
       stride_within = within;

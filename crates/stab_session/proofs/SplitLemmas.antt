@@ -1,5 +1,5 @@
 -- Splits: a session whose circuit had a round split off keeps the run that it had.
-use Rattle.stab_session.proofs.Names.{◌≡◌, ◌∙◌, ap, sym, subst, refl, ℕ, Bool, List, length, nat_lt, All, if◌then◌else◌, Some, None, Result, Ok, Err, OnOk, OnErr, QubitOutOfRange, LookbackTooFar, TooManySteps, Items, OneItem, listed, Step, unroll, looks_too_far, named_qubits, named_observables, qubits_of, observables_of, most_steps, check_of, check_within, IsApart, Path, split, AreAlike, SplitsLeaveTheSteps, entries-listed, Recording, SessionState, IsSplit, IsRecording, session_of, IsRecorded, Repeat, AreRepeats}
+use Rattle.stab_session.proofs.Names.{◌≡◌, ◌∙◌, ap, sym, subst, refl, ℕ, Bool, List, length, nat_lt, All, if◌then◌else◌, Some, None, Result, Ok, Err, OnOk, OnErr, QubitOutOfRange, LookbackTooFar, TooManySteps, Items, OneItem, listed, Step, unroll, looks_too_far, named_qubits, named_observables, qubits_of, observables_of, most_steps, check_of, check_within, HasDistinctQubits, Path, split, AreAlike, SplitsLeaveTheSteps, entries-listed, Recording, SessionState, IsSplit, IsRecording, session_of, IsRecorded, Repeat, AreRepeats}
 use Rattle.stab_session.proofs.SessionLemmas.{session-recorded}
 
 -- what refuses items on n qubits refuses those that are like them
@@ -24,7 +24,7 @@ module _ {C : Type 0} (sequence : C → ℕ → Bool) (stride : ℕ) (coins : C)
       let run : IsRecording n bits stride (unroll new) (observables_of new) recording =
       subst (λ xs. IsRecording n bits stride xs (observables_of new) recording) (sym a.steps)
       (subst (λ count. IsRecording n bits stride (unroll old) count recording) (sym (a.named named_observables)) is.run) in
-      session-recorded sequence new stride coins recording n bits refl run (alike-checked n old new a ∙ is.checked) (subst (All IsApart) (sym a.steps) is.apart) is.few is.stride_above is.stride_within
+      session-recorded sequence new stride coins recording n bits refl run (alike-checked n old new a ∙ is.checked) (subst (All HasDistinctQubits) (sym a.steps) is.distinct) is.few is.stride_above is.stride_within
 
   -- however the call ended, the session keeps the run of its items
   pub still-recorded : {A E : Type 0} (result : Result A E) (path : Path) (round : ℕ) (old new : List OneItem)

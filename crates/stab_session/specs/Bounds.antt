@@ -1,4 +1,4 @@
--- Bounds: what an edit of a session may cost, in steps that are carried out and copies of the state that are kept.
+-- Bounds: what an edit of a session may cost, in steps that are carried out and checkpoints of the state that are kept.
 -- Source: this project's own.
 use Rattle.std.specs.Prelude.{ℕ, ◌+◌, ◌-◌, ◌*◌, ◌/◌, Bool, List, [], ◌∷◌, Option, Some, None, Result, Ok, Err, length, take, drop, slice_get}
 use Rattle.stab_io.specs.declared.refusal.Refusal.{Refusal}
@@ -16,7 +16,7 @@ use Rattle.stab_session.specs.Sessions.{SessionState}
 abbrev pub number_of_steps : {C : Type 0} → SessionState C → ℕ
 number_of_steps s = length (unroll s.items)
 
--- at most this many copies are kept: two for each stride of steps, and two more
+-- at most this many checkpoints are kept: two for each stride of steps, and two more
 abbrev pub most_checkpoints : {C : Type 0} → SessionState C → ℕ
 most_checkpoints s = 2 * (number_of_steps s / s.stride) + 2
 
@@ -29,9 +29,9 @@ abbrev pub most_tried : {C : Type 0} → Edit → SessionState C → SessionStat
 most_tried e old new = 3 * (number_of_steps new - first_changed e (entries old.items))
 
 -- the steps of an edited list after its first ones, as many as this, and a stride; none if there is no such list
-abbrev pub steps_behind : ℕ → ℕ → Result (List OneItem) Refusal → ℕ
-steps_behind first K (Ok items) = (length (unroll (listed items)) - first) + K
-steps_behind first K (Err refusal) = 0
+abbrev pub steps_after : ℕ → ℕ → Result (List OneItem) Refusal → ℕ
+steps_after first K (Ok items) = (length (unroll (listed items)) - first) + K
+steps_after first K (Err refusal) = 0
 
 -- this many, and none if a verdict refuses
 abbrev pub unless_refused : Option Refusal → ℕ → ℕ
@@ -43,7 +43,7 @@ unless_refused (Some refusal) count = 0
 abbrev pub most_refused_asks : {C : Type 0} → Edit → SessionState C → ℕ
 most_refused_asks e s =
     unless_refused (verdict s.qubits e (entries s.items))
-    (steps_behind (first_changed e (entries s.items)) s.stride (edited e (entries s.items)))
+    (steps_after (first_changed e (entries s.items)) s.stride (edited e (entries s.items)))
 
 -- how many steps an item has, or none if there is no item
 abbrev pub steps_of_item : Option OneItem → ℕ
@@ -66,21 +66,21 @@ point_at sequence s k = point_of (run s.qubits (sequence s.coins) (take k (unrol
 
 -- this many steps after what an edit took out and what it put in, the old run and the new one have the same group, number of the next
 -- coin and records
-abbrev pub AgreeBehind : {C : Type 0} → (C → ℕ → Bool) → Edit → SessionState C → SessionState C → ℕ → Type 0
-AgreeBehind sequence e old new far =
+abbrev pub AgreeAfter : {C : Type 0} → (C → ℕ → Bool) → Edit → SessionState C → SessionState C → ℕ → Type 0
+AgreeAfter sequence e old new far =
     AgreeAt new.qubits (point_at sequence old (old_end e (entries old.items) + far))
     (point_at sequence new (new_end e (entries new.items) + far))
 
 -- this many steps after they have the same group, number of the next coin unless none decides any more, and records as far back as the
 -- steps from there on look
-abbrev pub AgreeBackBehind : {C : Type 0} → (C → ℕ → Bool) → Edit → SessionState C → SessionState C → ℕ → Type 0
-AgreeBackBehind sequence e old new far =
+abbrev pub AgreeBackAfter : {C : Type 0} → (C → ℕ → Bool) → Edit → SessionState C → SessionState C → ℕ → Type 0
+AgreeBackAfter sequence e old new far =
     AgreeAsFarAsLooked new.qubits (sequence old.coins) (drop (new_end e (entries new.items) + far) (unroll new.items))
     (point_at sequence old (old_end e (entries old.items) + far)) (point_at sequence new (new_end e (entries new.items) + far))
 
--- an edit of a session went past this many steps, carried out or not: from the last old copy at or before the first changed step
+-- an edit of a session went past this many steps, carried out or not: from the last old checkpoint at or before the first changed step
 -- to one after the edit at which the runs agree as far back as the steps after look, or to the end
 abbrev pub IsCountOf : {C : Type 0} → (C → ℕ → Bool) → Edit → SessionState C → SessionState C → ℕ → Type 0
 IsCountOf sequence e old new applied =
-    IsCounted (AgreeBehind sequence e old new) (AgreeBackBehind sequence e old new) old.checkpoints (first_changed e (entries old.items))
+    IsCounted (AgreeAfter sequence e old new) (AgreeBackAfter sequence e old new) old.checkpoints (first_changed e (entries old.items))
     (old_end e (entries old.items)) (new_end e (entries new.items)) (number_of_steps new) applied

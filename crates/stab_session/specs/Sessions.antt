@@ -5,7 +5,7 @@ use Rattle.stab_pauli.specs.Paulis.{Signed, with_sign}
 use Rattle.stab_tableau.specs.Rules.{is_free_by}
 use Rattle.stab_circuit.specs.Items.{Items}
 
--- the items, the number of qubits, the stride, the source of coins, the four lists, and the steps before which copies of the state of the
+-- the items, the number of qubits, the stride, the source of coins, the four lists, and the steps before which checkpoints of the state of the
 -- qubits are kept
 pub record SessionState (C : Type 0) : Type 0 where
   pub items : Items

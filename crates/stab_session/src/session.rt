@@ -15,7 +15,7 @@ use std::marker::Model;
 /// A circuit with what its run gives, to be read and edited.
 ///
 /// Contracts see its items, its number of qubits, its stride, its coins, the four lists of bits, and the
-/// steps before which it keeps copies of the state of its qubits. The statement of `specs/Headline.antt`, which
+/// steps before which it keeps checkpoints of the state of its qubits. The statement of `specs/Headline.antt`, which
 /// each call that gives or takes a session repeats, holds for all of these: they are those of the run of the
 /// items from the first step on.
 pub struct Session<C: Coins> {

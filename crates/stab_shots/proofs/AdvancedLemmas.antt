@@ -1,12 +1,7 @@
 -- Advanced lanes: lanes that are again as they were at a checkpoint go over the rounds that are left as they went over those since.
-use Rattle.stab_shots.proofs.Names.{◌≡◌, ℕ, ◌+◌, ◌-◌, ◌*◌, ◌<◌, ◌≤◌, refl, sym, ◌∙◌, ap, subst, Bool, false, List, ◌++◌, length, take, get_or, arith, None, if◌then◌else◌, take_at, Letter, Step, rounds, Repeat, round_of, IsRepeat, Lengths, joined-assoc, looked_up, ones, RunOutput, joined, all_coins_of, rest_of, copies, behind_rounds, more-rounds, coins-append, rounds-rounds, rounds-within, RunPivots, frame_over, flips_over, pivot_at, frame-append, flips-append, Difference, frame_of_difference, next_coin, Follows, no_difference, IsKeptAfter, [], drop, drop_at, drop_all, lengths_of, without_outcomes}
-use Rattle.std.proofs.Common.{slice_get}
+use Rattle.stab_shots.proofs.Names.{◌≡◌, ℕ, ◌+◌, ◌-◌, ◌*◌, ◌<◌, ◌≤◌, refl, sym, ◌∙◌, ap, subst, List, ◌++◌, length, take, arith, take_at, Letter, Step, rounds, Repeat, round_of, IsRepeat, Lengths, joined-assoc, looked_up, RunOutput, joined, all_coins_of, rest_of, copies, after_rounds, more-rounds, coins-append, rounds-rounds, rounds-within, RunPivots, frame_over, flips_over, frame-append, flips-append, Difference, frame_of_difference, next_coin, Follows, no_difference, IsKeptAfter, [], drop, drop_at, drop_all, lengths_of, without_outcomes}
 use Rattle.stab_lanes.proofs.FollowLemmas.{follows-append}
 use Rattle.stab_shots.proofs.FoldLemmas.{HasNone, follows-again}
-
--- a deterministic outcome has no string
-pub without_pivots : (strings : List (List Letter)) (free : List Bool) (t : ℕ) → get_or free t false ≡ false → pivot_at strings free t ≡ None
-without_pivots strings free t off = ap (λ b. if b then slice_get strings (ones (take t free)) else None) off
 
 -- the last of some steps, by all of them and the first
 follows-rest : (n : ℕ) (pivots : RunPivots) (xs ys : List Step) (a b c : Difference) → Follows n pivots (xs ++ ys) a c → Follows n pivots xs a b → Follows n pivots ys b c
@@ -38,11 +33,11 @@ rest-kept a b none = λ i. record {
 
 module _ (n : ℕ) (pivots : RunPivots) (steps : List Step) (r : Repeat) (is : IsRepeat steps r) (early done times : ℕ) (later : early < done)
     (within : done + times * (done - early) ≤ r.rounds) (letters : List Letter) (lengths : Lengths)
-    (checkpoint : IsKeptAfter n pivots (take (behind_rounds r early) steps) letters lengths) (now : Difference)
-    (advanced : Follows n pivots (take (behind_rounds r done) steps) (no_difference n) now) (same : letters ≡ now.letters)
+    (checkpoint : IsKeptAfter n pivots (take (after_rounds r early) steps) letters lengths) (now : Difference)
+    (advanced : Follows n pivots (take (after_rounds r done) steps) (no_difference n) now) (same : letters ≡ now.letters)
     (back : (k : ℕ) → k ≤ r.window → looked_up (take lengths.records now.flips.records) k ≡ looked_up now.flips.records k) where
   abbrev first : List Step
-  first = take (behind_rounds r early) steps
+  first = take (after_rounds r early) steps
 
   abbrev since : List Step
   since = rounds (done - early) (round_of r steps)
@@ -50,9 +45,9 @@ module _ (n : ℕ) (pivots : RunPivots) (steps : List Step) (r : Repeat) (is : I
   abbrev before : Difference
   before = checkpoint.before
 
-  steps_now : take (behind_rounds r done) steps ≡ first ++ since
+  steps_now : take (after_rounds r done) steps ≡ first ++ since
   steps_now =
-      ap (λ k. take (behind_rounds r k) steps) {x = done} {y = early + (done - early)} (omega (arith, later))
+      ap (λ k. take (after_rounds r k) steps) {x = done} {y = early + (done - early)} (omega (arith, later))
       ∙ more-rounds steps r is early (done - early) (omega (arith, later, within))
 
   passed : Follows n pivots since before now
@@ -77,10 +72,10 @@ module _ (n : ℕ) (pivots : RunPivots) (steps : List Step) (r : Repeat) (is : I
 
   pub advanced-again : (coins : ℕ) (new : Difference) → coins ≡ next_coin now - lengths.free → HasNone pivots lengths.free (coins * (times + 1))
       → new ≡ record { letters = now.letters; flips = joined now.flips (copies times (rest_of lengths now.flips)) }
-      → Follows n pivots (take (behind_rounds r (done + times * (done - early))) steps) (no_difference n) new
+      → Follows n pivots (take (after_rounds r (done + times * (done - early))) steps) (no_difference n) new
   advanced-again coins new counted none is_new =
       subst (λ xs. Follows n pivots xs (no_difference n) new) (sym steps_then)
-      (follows-append n pivots (take (behind_rounds r done) steps) (rounds times since) (no_difference n) now new advanced
+      (follows-append n pivots (take (after_rounds r done) steps) (rounds times since) (no_difference n) now new advanced
       (subst (Follows n pivots (rounds times since) now) (sym made)
       (follows-again n r.window pivots since before now (rounds-within r.window (done - early) (round_of r steps) is.within) passed
       (sym checkpoint.same ∙ same) alike_back none_then times now
@@ -105,7 +100,7 @@ module _ (n : ℕ) (pivots : RunPivots) (steps : List Step) (r : Repeat) (is : I
       made : new ≡ record { letters = now.letters; flips = joined now.flips (copies times (without_outcomes (flips_over n pivots since (next_coin before) (frame_of_difference before)))) }
       made = is_new ∙ ap (λ o. record { letters = now.letters; flips = joined now.flips (copies times o) }) rest_is
 
-      steps_then : take (behind_rounds r (done + times * (done - early))) steps ≡ take (behind_rounds r done) steps ++ rounds times since
+      steps_then : take (after_rounds r (done + times * (done - early))) steps ≡ take (after_rounds r done) steps ++ rounds times since
       steps_then =
           more-rounds steps r is done (times * (done - early)) within
-          ∙ ap (λ xs. take (behind_rounds r done) steps ++ xs) (sym (rounds-rounds times (done - early) (round_of r steps)))
+          ∙ ap (λ xs. take (after_rounds r done) steps ++ xs) (sym (rounds-rounds times (done - early) (round_of r steps)))

@@ -1,4 +1,4 @@
--- Checkpoints: lists that are given again, flags of which none is 1, and letters that are the same one by one.
+-- Checkpoints: lists that are repeated, flags of which none is 1, and letters that are the same one by one.
 use Rattle.stab_shots.proofs.Names.{◌≡◌, ℕ, zero, suc, ◌+◌, ◌-◌, ◌*◌, ◌<◌, ◌≤◌, refl, sym, ◌∙◌, ap, subst, Bool, true, false, List, [], ◌∷◌, ◌++◌, append-nil, append_assoc, length, take, drop, map, get_or, inl, inr, arith, cases_lt, length-append, length-map, length-drop, map-append, drop-map, drop-append-le, drop_all, take_at, get_or-map, get_or-drop, ext_get_or, I, ones, RunOutput, joined, copies, rest_of, Lengths, ones-split, Letters, Lanes, lane_letters, letter_in, lane_output, times}
 use Rattle.std.proofs.Common.{◌⊎◌}
 
@@ -24,13 +24,13 @@ length-times (suc k) xs = length-append xs (times k xs) ∙ ap (λ n. length xs 
     one_more k n = omega arith
 
 -- once more, from where it begins
-pub appended-more : {X : Type 0} (items now more : List X) (from k behind : ℕ) → from < behind → behind ≡ length items → now ≡ items ++ times k (drop from items)
-    → more ≡ now ++ take (behind - from) (drop from now) → more ≡ items ++ times (k + 1) (drop from items)
-appended-more {X} items now more from k behind lt all is put =
+pub appended-more : {X : Type 0} (items now more : List X) (from k following : ℕ) → from < following → following ≡ length items → now ≡ items ++ times k (drop from items)
+    → more ≡ now ++ take (following - from) (drop from now) → more ≡ items ++ times (k + 1) (drop from items)
+appended-more {X} items now more from k following lt all is put =
     put
-    ∙ ap (λ l. l ++ take (behind - from) (drop from l)) is
-    ∙ ap (λ l. (items ++ ys) ++ take (behind - from) l) (drop-append-le from items ys (omega (arith, lt, all)))
-    ∙ ap (λ l. (items ++ ys) ++ l) (take_at xs ys (behind - from) length-left)
+    ∙ ap (λ l. l ++ take (following - from) (drop from l)) is
+    ∙ ap (λ l. (items ++ ys) ++ take (following - from) l) (drop-append-le from items ys (omega (arith, lt, all)))
+    ∙ ap (λ l. (items ++ ys) ++ l) (take_at xs ys (following - from) length-left)
     ∙ append_assoc items ys xs
     ∙ ap (λ l. items ++ l) (times-back k xs)
     ∙ ap (λ n. items ++ times n xs) {x = suc k} {y = k + 1} (omega arith)
@@ -41,7 +41,7 @@ appended-more {X} items now more from k behind lt all is put =
     ys : List X
     ys = times k xs
 
-    length-left : length xs ≡ behind - from
+    length-left : length xs ≡ following - from
     length-left = omega (arith, all, length-drop from items)
 
 pub appended-none : {X : Type 0} (items : List X) (from k : ℕ) → length items ≤ from → items ≡ items ++ times k (drop from items)
@@ -94,7 +94,7 @@ pub ones-further : (c k : ℕ) (bits : List Bool) → ((t : ℕ) → t < k → g
 ones-further c k bits none =
     omega (arith, ones-split c k bits, ones-none k (drop c bits) (λ t lt. get_or-drop c bits t false ∙ none t lt))
 
--- with flags given again this often, if none is 1 among those and as many as are added
+-- with flags repeated this often, if none is 1 among those and as many as are added
 pub counted-again : (bits old new : List Bool) (from k period : ℕ) → period ≡ length old - from → new ≡ old ++ times k (drop from old)
     → ((t : ℕ) → t < period * (k + 1) → get_or bits (from + t) false ≡ false) → ones (take (length new) bits) ≡ ones (take (length old) bits)
 counted-again bits old new from k period size is none = by_period (cases_lt 0 period)

@@ -1,7 +1,9 @@
--- Folding: frames that steps can't tell apart flip the same, and so do lanes that are again as they were, if nothing is drawn.
-use Rattle.stab_shots.proofs.Names.{◌≡◌, ℕ, zero, suc, ◌+◌, ◌*◌, ◌<◌, ◌≤◌, refl, sym, ◌∙◌, ap, subst, true, false, ◌&&◌, List, [], ◌∷◌, ◌++◌, append-nil, append_assoc, length, nat_lt, arith, None, list_any, length-append, length-replicate, Signed, single, strings_anticommute, image, image_pair, Step, rounds, one, two, controlled, collapse, product, detector, observable, makes, lookbacks, looks_too_far, looked_up, when, flip_of, string_of, RunOutput, nothing, joined, coins_of, all_coins_of, copies, joined-nothing, joined-assoc, looked_up-more, parity-same, or-left, or-right, plus, Frame, times_where, RunPivots, flipped_by, letters_by, flips_outcome, letters_measured, letters_after, flips_given, frame_after, frame_over, flips_over, Difference, frame_of_difference, next_coin, Follows, without_outcomes}
+-- Folding: frames that steps can't distinguish flip the same, and so do lanes that are again as they were, if nothing is drawn.
+use Rattle.stab_shots.proofs.Names.{◌≡◌, ℕ, zero, suc, ◌+◌, ◌*◌, ◌<◌, ◌≤◌, refl, sym, ◌∙◌, ap, subst, true, false, ◌&&◌, List, [], ◌∷◌, ◌++◌, append-nil, append_assoc, length, nat_lt, arith, None, list_any, length-append, length-replicate, single, image, image_pair, Step, rounds, one, two, controlled, collapse, product, detector, observable, makes, lookbacks, looks_too_far, looked_up, flip_of, string_of, RunOutput, nothing, joined, coins_of, all_coins_of, copies, joined-nothing, joined-assoc, looked_up-more, parity-same, or-left, or-right, plus, Frame, times_where, RunPivots, flips_outcome, letters_measured, letters_after, flips_given, frame_after, frame_over, flips_over, Difference, frame_of_difference, next_coin, Follows, without_outcomes}
 use Rattle.stab_lanes.proofs.FollowLemmas.{follows-none, follows-append}
-use Rattle.stab_shots.proofs.LaneRunLemmas.{still-over}
+use Rattle.stab_recording.proofs.FlippedLemmas.{flips-free}
+use Rattle.stab_frames.proofs.TreatedLemmas.{IsTreatedAlike, letters-treated, given-treated}
+use Rattle.stab_frames.specs.FrameSteps.{flip_by, letters_for, one_flipped}
 
 -- two frames have the same letters, and flip the same as far back as rec[-m]
 pub record AreAlike (m : ℕ) (f g : Frame) : Type 0 where
@@ -15,59 +17,47 @@ HasNone pivots coin count = (t : ℕ) → t < count → pivots.strings (coin + t
 -- what a step makes of such frames, whatever the numbers of its coins
 
 module _ (n m : ℕ) (pivots : RunPivots) (c d : ℕ) (f g : Frame) (same : AreAlike m f g) where
-  outcome-alike : (s : Signed) → pivots.strings (c + 0) ≡ None → pivots.strings (d + 0) ≡ None
-      → flips_outcome pivots c s f.letters ≡ flips_outcome pivots d s g.letters
-  outcome-alike s here there =
-      ap (λ t. flips_outcome pivots t s f.letters) (more c)
-      ∙ ap (λ o. flipped_by o (pivots.changes (c + 0)) s f.letters) here
-      ∙ ap (λ l. strings_anticommute l s.letters) same.letters
-      ∙ sym (ap (λ o. flipped_by o (pivots.changes (d + 0)) s g.letters) there)
-      ∙ sym (ap (λ t. flips_outcome pivots t s g.letters) (more d))
+  treated : pivots.strings (c + 0) ≡ None → pivots.strings (d + 0) ≡ None → IsTreatedAlike pivots pivots c d
+  treated here there anticommuting = (
+    ap (λ o. flip_by o (pivots.changes c) anticommuting) (at c here) ∙ sym (ap (λ o. flip_by o (pivots.changes d) anticommuting) (at d there)),
+    λ h. ap (λ o. letters_for o (pivots.changes c) anticommuting h) (at c here) ∙ sym (ap (λ o. letters_for o (pivots.changes d) anticommuting h) (at d there)),
+  )
     where
-      more : (t : ℕ) → t ≡ t + 0
-      more t = omega arith
+      at : (t : ℕ) → pivots.strings (t + 0) ≡ None → pivots.strings t ≡ None
+      at t none = ap pivots.strings {x = t} {y = t + 0} (omega arith) ∙ none
 
-  measured-alike : (s : Signed) → pivots.strings (c + 0) ≡ None → pivots.strings (d + 0) ≡ None
-      → letters_measured pivots c s f.letters ≡ letters_measured pivots d s g.letters
-  measured-alike s here there =
-      ap (λ t. letters_measured pivots t s f.letters) (more c)
-      ∙ ap (λ o. letters_by o (pivots.changes (c + 0)) s f.letters) here
-      ∙ same.letters
-      ∙ sym (ap (λ o. letters_by o (pivots.changes (d + 0)) s g.letters) there)
-      ∙ sym (ap (λ t. letters_measured pivots t s g.letters) (more d))
-    where
-      more : (t : ℕ) → t ≡ t + 0
-      more t = omega arith
+  both : (x : Step) → HasNone pivots c (coins_of x) → HasNone pivots d (coins_of x) → coins_of x ≡ 1 → IsTreatedAlike pivots pivots c d
+  both x here there some = treated (here 0 (omega (arith, some))) (there 0 (omega (arith, some)))
 
-  letters-alike : (x : Step) → list_any (nat_lt m) (lookbacks x) ≡ false → HasNone pivots c (coins_of x) → HasNone pivots d (coins_of x)
-      → letters_after n pivots x c f ≡ letters_after n pivots x d g
-  letters-alike (one h q) near here there = ap (λ l. (image h q (plus l)).letters) same.letters
-  letters-alike (two h p q) near here there = ap (λ l. (image_pair h p q (plus l)).letters) same.letters
-  letters-alike (controlled l k q) near here there =
-      λ i. times_where (same.flips k (within (or-left (nat_lt m k) false near)) i) (single n q l).letters (same.letters i)
+  letters-seen : (x : Step) → list_any (nat_lt m) (lookbacks x) ≡ false → letters_after n pivots x d f ≡ letters_after n pivots x d g
+  letters-seen (one h q) near = ap (λ l. (image h q (plus l)).letters) same.letters
+  letters-seen (two h p q) near = ap (λ l. (image_pair h p q (plus l)).letters) same.letters
+  letters-seen (controlled l k q) near = λ i. times_where (same.flips k (within (or-left (nat_lt m k) false near)) i) (single n q l).letters (same.letters i)
     where
       within : nat_lt m k ≡ false → k ≤ m
       within e = grind arith
-  letters-alike (collapse l q recorded inverted resets) near here there =
-      let outcome = outcome-alike (single n q l) (here 0 (omega arith)) (there 0 (omega arith)) in
-      let letters = measured-alike (single n q l) (here 0 (omega arith)) (there 0 (omega arith)) in
-      λ i. times_where (resets && outcome i) (single n q (flip_of l)).letters (letters i)
-  letters-alike (product factors inverted) near here there = measured-alike (string_of n factors) (here 0 (omega arith)) (there 0 (omega arith))
-  letters-alike (detector ks) near here there = same.letters
-  letters-alike (observable j ks) near here there = same.letters
+  letters-seen (collapse l q recorded inverted resets) near =
+      ap (λ s. times_where (resets && flips_outcome pivots d (single n q l) s) (single n q (flip_of l)).letters (letters_measured pivots d (single n q l) s)) same.letters
+  letters-seen (product factors inverted) near = ap (letters_measured pivots d (string_of n factors)) same.letters
+  letters-seen (detector ks) near = same.letters
+  letters-seen (observable j ks) near = same.letters
+
+  letters-alike : (x : Step) → list_any (nat_lt m) (lookbacks x) ≡ false → HasNone pivots c (coins_of x) → HasNone pivots d (coins_of x)
+      → letters_after n pivots x c f ≡ letters_after n pivots x d g
+  letters-alike x near here there = letters-treated n pivots pivots c d f x (both x here there) ∙ letters-seen x near
+
+  given-seen : (x : Step) → list_any (nat_lt m) (lookbacks x) ≡ false → flips_given n pivots x d f ≡ flips_given n pivots x d g
+  given-seen (one h q) near = refl
+  given-seen (two h p q) near = refl
+  given-seen (controlled l k q) near = refl
+  given-seen (collapse l q recorded inverted resets) near = ap (λ s. one_flipped recorded (flips_outcome pivots d (single n q l) s)) same.letters
+  given-seen (product factors inverted) near = ap (λ s. one_flipped true (flips_outcome pivots d (string_of n factors) s)) same.letters
+  given-seen (detector ks) near = ap (λ b. record nothing { detectors = b ∷ [] }) (parity-same m f.flips g.flips same.flips ks near)
+  given-seen (observable j ks) near = ap (λ b. record nothing { additions = record { observable = j; bit = b } ∷ [] }) (parity-same m f.flips g.flips same.flips ks near)
 
   given-alike : (x : Step) → list_any (nat_lt m) (lookbacks x) ≡ false → HasNone pivots c (coins_of x) → HasNone pivots d (coins_of x)
       → flips_given n pivots x c f ≡ flips_given n pivots x d g
-  given-alike (one h q) near here there = refl
-  given-alike (two h p q) near here there = refl
-  given-alike (controlled l k q) near here there = refl
-  given-alike (collapse l q recorded inverted resets) near here there =
-      ap (λ b. record nothing { records = when recorded b; free = false ∷ []; outcomes = b ∷ [] }) (outcome-alike (single n q l) (here 0 (omega arith)) (there 0 (omega arith)))
-  given-alike (product factors inverted) near here there =
-      ap (λ b. record nothing { records = b ∷ []; free = false ∷ []; outcomes = b ∷ [] }) (outcome-alike (string_of n factors) (here 0 (omega arith)) (there 0 (omega arith)))
-  given-alike (detector ks) near here there = ap (λ b. record nothing { detectors = b ∷ [] }) (parity-same m f.flips g.flips same.flips ks near)
-  given-alike (observable j ks) near here there =
-      ap (λ b. record nothing { additions = record { observable = j; bit = b } ∷ [] }) (parity-same m f.flips g.flips same.flips ks near)
+  given-alike x near here there = given-treated n pivots pivots c d f x (both x here there) ∙ given-seen x near
 
 given-makes : (n : ℕ) (pivots : RunPivots) (x : Step) (c : ℕ) (f : Frame) → length (flips_given n pivots x c f).records ≡ makes x
 given-makes n pivots (one g q) c f = refl
@@ -87,7 +77,7 @@ over-alike n m pivots [] c d f g near same here there = (refl, same.letters)
 over-alike n m pivots (x ∷ xs) c d f g near same here there =
     let later =
     over-alike n (m + makes x) pivots xs (c + coins_of x) (d + coins_of x) (frame_after n pivots x c f) (frame_after n pivots x d g)
-    (or-right (list_any (nat_lt m) (lookbacks x)) (looks_too_far (m + makes x) xs) near) next (behind c here) (behind d there) in
+    (or-right (list_any (nat_lt m) (lookbacks x)) (looks_too_far (m + makes x) xs) near) next (following c here) (following d there) in
     ((λ i. joined (given i) (later.0 i)), later.1)
   where
     first : list_any (nat_lt m) (lookbacks x) ≡ false
@@ -96,8 +86,8 @@ over-alike n m pivots (x ∷ xs) c d f g near same here there =
     before : (b : ℕ) → HasNone pivots b (coins_of x + all_coins_of xs) → HasNone pivots b (coins_of x)
     before b none t lt = none t (omega (arith, lt))
 
-    behind : (b : ℕ) → HasNone pivots b (coins_of x + all_coins_of xs) → HasNone pivots (b + coins_of x) (all_coins_of xs)
-    behind b none t lt = ap pivots.strings {x = (b + coins_of x) + t} {y = b + (coins_of x + t)} (omega arith) ∙ none (coins_of x + t) (omega (arith, lt))
+    following : (b : ℕ) → HasNone pivots b (coins_of x + all_coins_of xs) → HasNone pivots (b + coins_of x) (all_coins_of xs)
+    following b none t lt = ap pivots.strings {x = (b + coins_of x) + t} {y = b + (coins_of x + t)} (omega arith) ∙ none (coins_of x + t) (omega (arith, lt))
 
     given : flips_given n pivots x c f ≡ flips_given n pivots x d g
     given = given-alike n m pivots c d f g same x first (before c here) (before d there)
@@ -135,7 +125,7 @@ module _ (n m : ℕ) (pivots : RunPivots) (xs : List Step) (a b : Difference) (n
   coins-once : (d : Difference) → next_coin (once d) ≡ next_coin d + all_coins_of xs
   coins-once d =
       length-append d.flips.free flipped.free
-      ∙ ap (λ k. next_coin d + k) (ap length (still-over n pivots xs (next_coin a) (frame_of_difference a)) ∙ length-replicate (all_coins_of xs) false)
+      ∙ ap (λ k. next_coin d + k) (ap length (flips-free n pivots xs (next_coin a) (frame_of_difference a)) ∙ length-replicate (all_coins_of xs) false)
 
   module _ (d : Difference) (alike : AreAlike m (frame_of_difference d) (frame_of_difference a)) where
     over : HasNone pivots (next_coin d) (all_coins_of xs)

@@ -1,32 +1,8 @@
 -- Runs of lanes: lanes that are propagated over the steps of a run with all coins 0, stretch by stretch, are runs.
-use Rattle.stab_shots.proofs.Names.{◌≡◌, ℕ, zero, suc, ◌+◌, refl, sym, ◌∙◌, ap, subst, Bool, false, List, [], ◌∷◌, ◌++◌, length, replicate, set, get_or, arith, Option, length-replicate, length-set, replicate-append-replicate, Letter, I, ◌⊕◌, parity-false, Items, Step, one, two, controlled, collapse, product, detector, observable, unroll, observables_of, Addition, Shot, State, start, run, run_of, RunOutput, nothing, origin, joined, point_after, outputs, all_coins_of, with_additions, state_at, StepFits, run-state, records-are-records, flipped, Frame, AreFronts, RunPivots, pivots_of, changed, AreRight, AreEnough, frame_after, frame_over, flips_over, right-enough, coins-append, coins-are, framed-same, fronts-outputs, fronts-matches, fronts-framed, records-flipped, flags-flipped, detectors-flipped, observables-flipped, Shots, AreRuns, IsShot, zero_coins, Difference, frame_of_difference, next_coin, Follows, IsLane, IsAsLong, AreFlipped, without_outcomes}
+use Rattle.stab_shots.proofs.Names.{◌≡◌, ℕ, ◌+◌, refl, sym, ◌∙◌, ap, subst, Bool, false, List, [], ◌∷◌, ◌++◌, length, replicate, set, get_or, arith, Option, length-replicate, length-set, replicate-append-replicate, Letter, I, ◌⊕◌, parity-false, Items, Step, observable, unroll, observables_of, Addition, Shot, State, start, run, run_of, RunOutput, nothing, origin, joined, point_after, outputs, all_coins_of, with_additions, state_at, StepFits, run-state, records-are-records, flipped, Frame, AreFronts, RunPivots, pivots_of, changed, AreRight, AreEnough, frame_over, flips_over, right-enough, coins-append, coins-are, by_frame-same, fronts-outputs, fronts-matches, fronts-by_frame, records-flipped, flags-flipped, detectors-flipped, observables-flipped, Shots, AreRuns, IsShot, zero_coins, Difference, frame_of_difference, next_coin, Follows, IsLane, IsAsLong, AreFlipped, without_outcomes}
 use Rattle.std.specs.Prelude.{All}
 use Rattle.stab_shots.proofs.RecordingLemmas.{run-items}
-
--- which outcomes are random is flipped nowhere
-
-no-more : (k : ℕ) → replicate k false ≡ replicate (0 + k) false
-no-more k = ap (λ m. replicate m false) {x = k} {y = 0 + k} (omega arith)
-
-one-more : (k : ℕ) → false ∷ replicate k false ≡ replicate (1 + k) false
-one-more k = ap (λ m. replicate m false) {x = suc k} {y = 1 + k} (omega arith)
-
-pub still-over : (n : ℕ) (pivots : RunPivots) (xs : List Step) (c : ℕ) (f : Frame) → (flips_over n pivots xs c f).free ≡ replicate (all_coins_of xs) false
-still-over n pivots [] c f = refl
-still-over n pivots (one g q ∷ xs) c f = still-over n pivots xs (c + 0) (frame_after n pivots (one g q) c f) ∙ no-more (all_coins_of xs)
-still-over n pivots (two g p q ∷ xs) c f = still-over n pivots xs (c + 0) (frame_after n pivots (two g p q) c f) ∙ no-more (all_coins_of xs)
-still-over n pivots (controlled l k q ∷ xs) c f = still-over n pivots xs (c + 0) (frame_after n pivots (controlled l k q) c f) ∙ no-more (all_coins_of xs)
-still-over n pivots (collapse l q recorded inverted resets ∷ xs) c f =
-    ap (λ r. false ∷ r) (still-over n pivots xs (c + 1) (frame_after n pivots (collapse l q recorded inverted resets) c f)) ∙ one-more (all_coins_of xs)
-still-over n pivots (product factors inverted ∷ xs) c f =
-    ap (λ r. false ∷ r) (still-over n pivots xs (c + 1) (frame_after n pivots (product factors inverted) c f)) ∙ one-more (all_coins_of xs)
-still-over n pivots (detector ks ∷ xs) c f = still-over n pivots xs (c + 0) (frame_after n pivots (detector ks) c f) ∙ no-more (all_coins_of xs)
-still-over n pivots (observable j ks ∷ xs) c f = still-over n pivots xs (c + 0) (frame_after n pivots (observable j ks) c f) ∙ no-more (all_coins_of xs)
-
-flipped-nowhere : (bits : List Bool) (k : ℕ) → flipped bits (replicate k false) ≡ bits
-flipped-nowhere [] k = refl
-flipped-nowhere (b ∷ bits) zero = refl
-flipped-nowhere (b ∷ bits) (suc k) = ap (λ r. b ∷ r) (flipped-nowhere bits k)
+use Rattle.stab_recording.proofs.FlippedLemmas.{flips-free, flipped-zeros}
 
 -- a lane before the first step
 pub lane-first : (n : ℕ) (coins : ℕ → Bool) (d : Difference) → d.letters ≡ replicate n I → d.flips ≡ nothing → IsLane n coins [] d
@@ -35,7 +11,7 @@ lane-first n coins d blank empty =
       flips = nothing;
       kept = refl;
       fronts = record {
-        framed = framed-same n origin;
+        by_frame = by_frame-same n origin;
         given = refl;
         matches = record { records = refl; free = refl; outcomes = refl; detectors = refl; observables = refl };
       };
@@ -76,7 +52,7 @@ module _ (n : ℕ) (coins : ℕ → Bool) (xs ys : List Step) (fits : All (StepF
 
   further : AreFronts n zero_coins (changed zero_coins coins) (xs ++ ys) (xs ++ ys) (frame_over n pivots ys p f) (joined lane.flips (flips_over n pivots ys p f))
   further = record {
-    framed = fronts-framed n zero_coins pivots xs xs ys f lane.flips fits later lane.fronts enough;
+    by_frame = fronts-by_frame n zero_coins pivots xs xs ys f lane.flips fits later lane.fronts enough;
     given = fronts-outputs n zero_coins pivots xs xs ys f lane.flips fits later lane.fronts enough;
     matches = fronts-matches n zero_coins pivots xs xs ys f lane.flips fits later lane.fronts enough;
   }
@@ -88,7 +64,7 @@ module _ (n : ℕ) (coins : ℕ → Bool) (xs ys : List Step) (fits : All (StepF
     kept = flips ∙ ap (λ o. joined o (without_outcomes (flips_over n pivots ys p f))) lane.kept;
     still =
         ap (λ (o : RunOutput). o.free) flips
-        ∙ (λ i. lane.still i ++ still-over n pivots ys p f i)
+        ∙ (λ i. lane.still i ++ flips-free n pivots ys p f i)
         ∙ replicate-append-replicate (all_coins_of xs) (all_coins_of ys) false
         ∙ ap (λ k. replicate k false) (sym (coins-append xs ys));
   }
@@ -115,20 +91,20 @@ module _ (n : ℕ) (coins : ℕ → Bool) (items : Items) (shot : Shot) (is : Is
   zero_state : run n zero_coins xs (start count) ≡ run_of n zero_coins items
   zero_state = run-items n zero_coins items xs count refl number
 
-  behind : run n zero_coins xs (start count) ≡ state_at (point_after n zero_coins xs origin) (outputs n zero_coins xs origin) (start count)
-  behind = run-state n zero_coins xs (start count)
+  following : run n zero_coins xs (start count) ≡ state_at (point_after n zero_coins xs origin) (outputs n zero_coins xs origin) (start count)
+  following = run-state n zero_coins xs (start count)
 
   pub as-long : IsAsLong count shot d.flips
   as-long = subst (IsAsLong count shot) (sym lane.kept) (record {
     records =
         lane.fronts.matches.records
-        ∙ ap length (records-are-records n zero_coins xs ∙ sym (ap (λ (s : State). s.records) behind) ∙ ap (λ (s : State). s.records) zero_state ∙ sym is.records);
+        ∙ ap length (records-are-records n zero_coins xs ∙ sym (ap (λ (s : State). s.records) following) ∙ ap (λ (s : State). s.records) zero_state ∙ sym is.records);
     detectors =
         lane.fronts.matches.detectors
-        ∙ ap length (sym (ap (λ (s : State). s.detectors) behind) ∙ ap (λ (s : State). s.detectors) zero_state ∙ sym is.detectors);
+        ∙ ap length (sym (ap (λ (s : State). s.detectors) following) ∙ ap (λ (s : State). s.detectors) zero_state ∙ sym is.detectors);
     observables =
         sym (length-added (outputs n zero_coins xs origin).additions (replicate count false) ∙ length-replicate count false)
-        ∙ ap length (sym (ap (λ (s : State). s.observables) behind) ∙ ap (λ (s : State). s.observables) zero_state ∙ sym is.observables);
+        ∙ ap length (sym (ap (λ (s : State). s.observables) following) ∙ ap (λ (s : State). s.observables) zero_state ∙ sym is.observables);
   })
 
   pub lane-runs : {W : Type 0} (at : W → ℕ → Bool) (l : ℕ) (shots : Shots W) → AreFlipped at l count shot d.flips shots → AreRuns at l n coins items shots
@@ -143,7 +119,7 @@ module _ (n : ℕ) (coins : ℕ → Bool) (items : Items) (shot : Shot) (is : Is
             are.free
             ∙ is.free
             ∙ sym (ap (λ (s : State). s.free) zero_state)
-            ∙ sym (flipped-nowhere (run n zero_coins xs (start count)).free (all_coins_of xs))
+            ∙ sym (flipped-zeros (run n zero_coins xs (start count)).free (all_coins_of xs))
             ∙ ap (flipped (run n zero_coins xs (start count)).free) (sym (ap (λ (o : RunOutput). o.free) (sym lane.kept) ∙ lane.still))
             ∙ sym (flags-flipped n zero_coins (changed zero_coins coins) xs xs count lane.flips lane.fronts.given lane.fronts.matches)
             ∙ ap (λ (s : State). s.free) lane_state;

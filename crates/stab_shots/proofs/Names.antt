@@ -16,12 +16,12 @@ pub use Rattle.stab_edits.specs.Repeats.{round_of, IsRepeat, AreRepeats}
 pub use Rattle.stab_items.specs.Steps.{Step, rounds, one, two, controlled, collapse, product, detector, observable, makes, lookbacks, looks_too_far, unroll, observables_of, check_within}
 pub use Rattle.stab_edits.specs.Views.{circuit_items}
 pub use Rattle.stab_edits.specs.declared.circuit.repeats.Repeat.{Repeat}
-pub use Rattle.stab_frames.proofs.FrontLemmas.{fronts-outputs, fronts-matches, fronts-framed, records-flipped, flags-flipped, detectors-flipped, observables-flipped}
+pub use Rattle.stab_frames.proofs.FrontLemmas.{fronts-outputs, fronts-matches, fronts-by_frame, records-flipped, flags-flipped, detectors-flipped, observables-flipped}
 pub use Rattle.stab_frames.proofs.FreeLemmas.{ones-split}
 pub use Rattle.stab_frames.proofs.OverLemmas.{frame-append, flips-append}
 pub use Rattle.stab_frames.proofs.PivotLemmas.{right-enough}
 pub use Rattle.stab_frames.proofs.PropagationLemmas.{ones-few}
-pub use Rattle.stab_frames.proofs.StartLemmas.{framed-same}
+pub use Rattle.stab_frames.proofs.StartLemmas.{by_frame-same}
 pub use Rattle.stab_frames.proofs.TrueLemmas.{true-none, true-rest}
 pub use Rattle.stab_frames.specs.Flips.{flipped}
 pub use Rattle.stab_frames.specs.FrameSteps.{frame_over, flips_over, flipped_by, letters_by, flips_outcome, letters_measured, letters_after, flips_given, frame_after}
@@ -37,10 +37,10 @@ pub use Rattle.stab_gates.specs.declared.letter.Letter.{Letter}
 pub use Rattle.stab_gates.specs.declared.letter.Letter.TheVariants.{I}
 pub use Rattle.stab_pauli.specs.Paulis.{Signed, single, strings_anticommute}
 pub use Rattle.stab_recording.proofs.AdvancedLemmas.{coins-on}
-pub use Rattle.stab_recording.proofs.AgainLemmas.{more-rounds, behind-later, repeat-here, repeats-behind, behind-more}
+pub use Rattle.stab_recording.proofs.AgainLemmas.{more-rounds, following-later, repeat-here, repeats-following, following-more}
 pub use Rattle.stab_recording.specs.RunsWithPivots.{IsRunWithPivots}
 pub use Rattle.stab_recording.specs.declared.whole_run.Shot.{Shot}
-pub use Rattle.stab_recording.specs.inner.Advanced.{behind_rounds}
+pub use Rattle.stab_recording.specs.inner.Advanced.{after_rounds}
 pub use Rattle.stab_run.proofs.CoinLemmas.{coins-append, coins-are, coins-steps}
 pub use Rattle.stab_run.proofs.FitLemmas.{check-fits, check-steps, check-whole, counted-steps}
 pub use Rattle.stab_run.proofs.LookbackLemmas.{looked_up-more, parity-same, or-left, or-right}
@@ -52,7 +52,7 @@ pub use Rattle.stab_run.proofs.StateLemmas.{run-state}
 pub use Rattle.stab_run.specs.Coins.{seed_coin, Listed, list_coin, zero_coins}
 pub use Rattle.stab_run.specs.Cuts.{lengths_of, rest_of}
 pub use Rattle.stab_run.specs.Points.{RunOutput, joined, all_coins_of, nothing, coins_of, with_additions, origin, point_after, outputs, state_at, Point}
-pub use Rattle.stab_run.specs.ProgramStates.{StepFits, ProgramState, IsAt, Leads, IsRun, program_state, output_of}
+pub use Rattle.stab_run.specs.ProgramStates.{StepFits, ProgramState, IsAt, ComesTo, IsRun, program_state, output_of}
 pub use Rattle.stab_run.specs.Records.{looked_up, ones}
 pub use Rattle.stab_run.specs.RoundLaws.{copies}
 pub use Rattle.stab_run.specs.Runs.{when, flip_of, string_of, State, start, run}

@@ -1,14 +1,11 @@
 -- Recordings: where a run goes over further steps, what it gives, and what is recorded of them.
-use Rattle.stab_shots.proofs.Names.{◌≡◌, ℕ, zero, suc, ◌+◌, ◌≤◌, min, refl, sym, ◌∙◌, ap, subst, Bool, true, false, List, [], ◌++◌, append-nil, length, take, drop, replicate, arith, Option, None, slice_get, if◌then◌else◌, take-append_seam, drop-append_seam, slice_get_past, Letter, Signed, Items, Step, unroll, observables_of, Shot, ones, State, start, run, run_of, Point, RunOutput, joined, origin, point_after, outputs, all_coins_of, with_additions, state_at, ProgramState, IsAt, Leads, IsRun, after-append, outputs-append, ones-append, run-state, records-are-records, coins-steps, coins-are, PivotsState, pivot_at, IsNumbered, AreTrue, KeepsTrue, AreRight, true-none, true-rest, ones-few, zero_coins, IsShot}
+use Rattle.stab_shots.proofs.Names.{◌≡◌, ℕ, zero, suc, ◌+◌, ◌≤◌, min, refl, sym, ◌∙◌, ap, subst, Bool, false, List, [], ◌++◌, append-nil, length, take, drop, replicate, arith, None, slice_get, take-append_seam, drop-append_seam, slice_get_past, Signed, Items, Step, unroll, observables_of, Shot, ones, State, start, run, run_of, Point, RunOutput, joined, origin, point_after, outputs, all_coins_of, with_additions, state_at, ProgramState, IsAt, ComesTo, IsRun, after-append, outputs-append, ones-append, run-state, records-are-records, coins-steps, coins-are, PivotsState, pivot_at, IsNumbered, AreTrue, KeepsTrue, AreRight, true-none, true-rest, ones-few, zero_coins, IsShot}
 use Rattle.std.proofs.Common.{length-append}
 use Rattle.std.specs.Prelude.{slice_index_or}
 use Rattle.stab_lanes.proofs.PivotLemmas.{right-from}
+use Rattle.stab_frames.proofs.PivotAtLemmas.{if-none}
 
 -- if no string is kept there is no pivot
-
-if-none : (b : Bool) (o : Option (List Letter)) → o ≡ None → (if b then o else None) ≡ None
-if-none true o e = e
-if-none false o e = refl
 
 no-pivot : (free : List Bool) (t : ℕ) → pivot_at [] free t ≡ None
 no-pivot free t = if-none (slice_index_or free t false) (slice_get [] (ones (take t free))) (slice_get_past [] (ones (take t free)) (omega arith))
@@ -35,7 +32,7 @@ module _ (n : ℕ) (xs ys : List Step) (u : Signed → Bool) (o : RunOutput) (ze
   begun : IsAt n mid p
   begun = record { group = here.group; coin = count ∙ here.coin; records = here.records }
 
-  advanced : Leads n zero_coins ys mid new p
+  advanced : ComesTo n zero_coins ys mid new p
   advanced = is p begun
 
   coin : length zeros ≡ all_coins_of xs
@@ -44,21 +41,21 @@ module _ (n : ℕ) (xs ys : List Step) (u : Signed → Bool) (o : RunOutput) (ze
   flags-new : new.output.free ≡ zeros ++ more.free
   flags-new = ap (λ (o : RunOutput). o.free) advanced.output
 
-  told-behind : drop (length zeros) new.output.free ≡ more.free
-  told-behind = ap (drop (length zeros)) flags-new ∙ drop-append_seam zeros more.free
+  determined-following : drop (length zeros) new.output.free ≡ more.free
+  determined-following = ap (drop (length zeros)) flags-new ∙ drop-append_seam zeros more.free
 
   pub arrives : IsAt n new (point_after n zero_coins (xs ++ ys) origin)
   arrives = subst (IsAt n new) (sym (after-append n zero_coins xs ys origin)) advanced.shows
 
-  pub gives : (told : List Bool) → told ≡ flags ++ drop (length zeros) new.output.free → record o { free = flags } ≡ outputs n zero_coins xs origin
-      → record new.output { free = told } ≡ outputs n zero_coins (xs ++ ys) origin
-  gives told is_told gave =
-      (λ i. record (advanced.output i) { free = (is_told ∙ ap (λ bits. flags ++ bits) told-behind) i })
+  pub gives : (determined : List Bool) → determined ≡ flags ++ drop (length zeros) new.output.free → record o { free = flags } ≡ outputs n zero_coins xs origin
+      → record new.output { free = determined } ≡ outputs n zero_coins (xs ++ ys) origin
+  gives determined is_determined gave =
+      (λ i. record (advanced.output i) { free = (is_determined ∙ ap (λ bits. flags ++ bits) determined-following) i })
       ∙ ap (λ (o : RunOutput). joined o more) gave
       ∙ sym (outputs-append n zero_coins xs ys origin)
 
-  pub told-free : drop (all_coins_of xs) new.output.free ≡ more.free
-  told-free = ap (λ k. drop k new.output.free) (sym coin) ∙ told-behind
+  pub determined-free : drop (all_coins_of xs) new.output.free ≡ more.free
+  determined-free = ap (λ k. drop k new.output.free) (sym coin) ∙ determined-following
 
   pub others-not : ones (take (all_coins_of xs) new.output.free) ≡ 0
   others-not =
@@ -74,24 +71,24 @@ module _ (n : ℕ) (xs ys : List Step) (u : Signed → Bool) (o : RunOutput) (ze
 
   -- if the strings of other steps were let go
 
-  module _ (kept behind : PivotsState) (empty : kept.strings ≡ []) (recorded_pivots : KeepsTrue n zero_coins ys kept behind mid new) where
+  module _ (kept following : PivotsState) (empty : kept.strings ≡ []) (recorded_pivots : KeepsTrue n zero_coins ys kept following mid new) where
     numbered : IsNumbered kept zeros
     numbered = let zero = ap length empty in omega (arith, zero, none)
 
     nothing-recorded_pivots : AreTrue n zero_coins (pivot_at kept.strings zeros) xs origin
     nothing-recorded_pivots = true-none n zero_coins (pivot_at kept.strings zeros) xs origin (λ t le. ap (λ s. pivot_at s zeros t) empty ∙ no-pivot zeros t)
 
-    true-behind : IsNumbered behind new.output.free × AreTrue n zero_coins (pivot_at behind.strings new.output.free) (xs ++ ys) origin
-    true-behind = recorded_pivots xs begun numbered nothing-recorded_pivots
+    true-following : IsNumbered following new.output.free × AreTrue n zero_coins (pivot_at following.strings new.output.free) (xs ++ ys) origin
+    true-following = recorded_pivots xs begun numbered nothing-recorded_pivots
 
-    pub strings-numbered : length behind.strings ≡ min (ones new.output.free) behind.most
-    strings-numbered = true-behind.0
+    pub strings-numbered : length following.strings ≡ min (ones new.output.free) following.most
+    strings-numbered = true-following.0
 
-    pub strings-right : length behind.strings ≡ ones new.output.free → AreRight n zero_coins (pivot_at behind.strings new.output.free) ys p
+    pub strings-right : length following.strings ≡ ones new.output.free → AreRight n zero_coins (pivot_at following.strings new.output.free) ys p
     strings-right all =
-        right-from n zero_coins behind.strings new.output.free all ys p
-        (true-rest n zero_coins (pivot_at behind.strings new.output.free) xs ys origin true-behind.1) []
-        (ap (λ k. drop k new.output.free) (sym begun.coin) ∙ told-behind ∙ sym (append-nil more.free))
+        right-from n zero_coins following.strings new.output.free all ys p
+        (true-rest n zero_coins (pivot_at following.strings new.output.free) xs ys origin true-following.1) []
+        (ap (λ k. drop k new.output.free) (sym begun.coin) ∙ determined-following ∙ sym (append-nil more.free))
 
 -- the run of all steps of items is the run of the items
 pub run-items : (n : ℕ) (coins : ℕ → Bool) (items : Items) (xs : List Step) (count : ℕ) → xs ≡ unroll items → count ≡ observables_of items

@@ -8,7 +8,7 @@ use Rattle.stab_edits.specs.Repeats.{IsRepeat}
 use Rattle.stab_run.specs.declared.records.Lengths.{Lengths}
 use Rattle.stab_run.specs.Records.{looked_up}
 use Rattle.stab_run.specs.Cuts.{lengths_of}
-use Rattle.stab_recording.specs.inner.Advanced.{behind_rounds}
+use Rattle.stab_recording.specs.inner.Advanced.{after_rounds}
 use Rattle.stab_frames.specs.RunPivots.{RunPivots}
 use Rattle.stab_lanes.specs.declared.lanes.Lanes.{Lanes}
 use Rattle.stab_shots.specs.declared.checkpoints.LaneCheckpoint.{LaneCheckpoint}
@@ -42,7 +42,7 @@ pub record IsKeptAfter (n : ℕ) (pivots : RunPivots) (xs : List Step) (letters 
 abbrev pub IsCheckpoint : {W : Type 0} → (W → ℕ → Bool) → ℕ → RecordedPivots → (ℕ → ℕ → Bool) → List Step → Repeat → LaneCheckpoint W → Type 0
 IsCheckpoint at count recorded_pivots coins steps r checkpoint =
     (l : ℕ) → l < count
-    → IsKeptAfter recorded_pivots.strings.now.qubits (lane_pivots recorded_pivots (coins l)) (take (behind_rounds r checkpoint.done) steps) (lane_letters at l checkpoint.letters.items) checkpoint.lengths
+    → IsKeptAfter recorded_pivots.strings.now.qubits (lane_pivots recorded_pivots (coins l)) (take (after_rounds r checkpoint.done) steps) (lane_letters at l checkpoint.letters.items) checkpoint.lengths
 
 -- the letters of a lane are those at a checkpoint, and its newest m records are flipped as they were then
 pub record IsAgain {W : Type 0} (at : W → ℕ → Bool) (l m : ℕ) (checkpoint : LaneCheckpoint W) (lanes : Lanes W) : Type 0 where
@@ -53,10 +53,10 @@ pub record IsAgain {W : Type 0} (at : W → ℕ → Bool) (l m : ℕ) (checkpoin
 abbrev pub GoOn : {W : Type 0} → (W → ℕ → Bool) → ℕ → RecordedPivots → Repeat → Option (LaneCheckpoint W) → (done now : ℕ) → (old new : Lanes W) → Type 0
 GoOn at count recorded_pivots r checkpoint done now old new =
     (coins : ℕ → ℕ → Bool) (steps : List Step) (number : ℕ) → IsRepeat steps r → IfSome checkpoint (IsCheckpoint at count recorded_pivots coins steps r)
-    → ArePropagated at count recorded_pivots coins (take (behind_rounds r done) steps) number old → ArePropagated at count recorded_pivots coins (take (behind_rounds r now) steps) number new
+    → ArePropagated at count recorded_pivots coins (take (after_rounds r done) steps) number old → ArePropagated at count recorded_pivots coins (take (after_rounds r now) steps) number new
 
 -- of lanes that went over these rounds a checkpoint is kept, or one that was kept before stays
 abbrev pub StaysKept : {W : Type 0} → (W → ℕ → Bool) → ℕ → Lanes W → Repeat → ℕ → (old new : Option (LaneCheckpoint W)) → Type 0
 StaysKept at count lanes r done old new =
-    (recorded_pivots : RecordedPivots) (coins : ℕ → ℕ → Bool) (steps : List Step) (number : ℕ) → ArePropagated at count recorded_pivots coins (take (behind_rounds r done) steps) number lanes
+    (recorded_pivots : RecordedPivots) (coins : ℕ → ℕ → Bool) (steps : List Step) (number : ℕ) → ArePropagated at count recorded_pivots coins (take (after_rounds r done) steps) number lanes
     → IfSome old (IsCheckpoint at count recorded_pivots coins steps r) → IfSome new (IsCheckpoint at count recorded_pivots coins steps r)

@@ -31,7 +31,7 @@ pub record IsPartRecording (n : ℕ) (xs : List Step) (r : PartRecording) : Type
 -- of the steps ys, after others, the random outcomes are reported, and no other; their strings are recorded as far as there may be as many,
 -- and right if all are
 pub record HasPivots (n : ℕ) (xs ys : List Step) (r : PartRecording) : Type 0 where
-  pub told : drop (all_coins_of xs) r.outputs.free.items ≡ (outputs n zero_coins ys (point_after n zero_coins xs origin)).free
+  pub determined : drop (all_coins_of xs) r.outputs.free.items ≡ (outputs n zero_coins ys (point_after n zero_coins xs origin)).free
   pub others : ones (take (all_coins_of xs) r.outputs.free.items) ≡ 0
   pub number : length r.pivots.strings.strings ≡ min (ones r.outputs.free.items) (most_strings n)
   pub few : ones r.outputs.free.items ≤ length ys

@@ -55,13 +55,13 @@ fn same_letters<W: Word>(letters: &[Letters<W>], others: &[Letters<W>]) -> bool
 }
 
 /// Whether the newest records are flipped as they were when there were this many.
-fn same_records<W: Word>(records: &[W], behind: usize, window: u32) -> bool
-    ensures same { IsTrue result → (l : ℕ) → l < W.lanes → (k : ℕ) → k ≤ window → looked_up_of (take behind (lane_bits W.at l records.now)) k ≡ looked_up_of (lane_bits W.at l records.now) k }
+fn same_records<W: Word>(records: &[W], following: usize, window: u32) -> bool
+    ensures same { IsTrue result → (l : ℕ) → l < W.lanes → (k : ℕ) → k ≤ window → looked_up_of (take following (lane_bits W.at l records.now)) k ≡ looked_up_of (lane_bits W.at l records.now) k }
 {
-    if behind > records.len() {
+    if following > records.len() {
         return false;
     }
-    let (earlier, _) = records.split_at(behind);
+    let (earlier, _) = records.split_at(following);
     for k in 0..=window {
         if !looked_up(earlier, k).is_same(&looked_up(records, k)) {
             return false;

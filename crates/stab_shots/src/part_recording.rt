@@ -94,7 +94,7 @@ impl PartRecording {
     {
         self.pivots.strings.truncate(0);
         clear_flags(&mut self.outputs.free);
-        let told = self.outputs.free.len();
+        let determined = self.outputs.free.len();
         let mut cursor = Cursor::at(alloc, circuit, from)?;
         let mut coins = ListCoins::new(&[]);
         let mut applied = 0;
@@ -109,7 +109,7 @@ impl PartRecording {
             &mut applied,
             &mut self.pivots,
         )?;
-        push_rest(&mut self.free, self.outputs.free.as_slice(), told)?;
+        push_rest(&mut self.free, self.outputs.free.as_slice(), determined)?;
         Ok(())
     }
 

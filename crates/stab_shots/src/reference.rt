@@ -20,7 +20,7 @@ use stab_recording::{RunWithPivots, Shot, run_with_pivots};
 use stab_run::ListCoins;
 use std::alloc::Global;
 
-/// The run of a circuit with all coins 0, and a string for each of its random outcomes that exchanges it for the other: by
+/// The run of a circuit with all coins 0, and a pivot for each of its random outcomes that exchanges it for the other: by
 /// these, shots with other coins are propagated without a tableau.
 pub struct Reference {
     shot: Shot,
@@ -81,8 +81,8 @@ impl Reference {
         Ok(Some(run))
     }
 
-    /// Runs a circuit that nothing refuses with all coins 0, and keeps the strings of its random outcomes, as far as a run may
-    /// keep any. Rounds that come again are given again.
+    /// Runs a circuit that nothing refuses with all coins 0, and keeps the pivots of its random outcomes, as far as a run may
+    /// keep any. Rounds that come again are repeated.
     fn run(alloc: Global, circuit: &Circuit, n: usize) -> Result<Reference, Refusal>
         requires in_range { n ≤ most_qubits }
         requires checked { check_within n (circuit_items circuit.now) ≡ None }

@@ -14,18 +14,18 @@ use std::alloc::AllocError;
 fn append_times<T: Copy>(items: &mut Vec<T>, from: usize, count: usize) -> Result<(), AllocError>
     ensures value { OnOk result (items.new.items ≡ items.old.items ++ times count (drop from items.old.items)) }
 {
-    let behind = items.len();
-    if from >= behind {
+    let following = items.len();
+    if from >= following {
         return Ok(());
     }
     for _ in 0..count {
-        items.extend_from_within(from..behind)?;
+        items.extend_from_within(from..following)?;
     }
     Ok(())
 }
 
 /// Appends what all lanes flipped after some lengths, this many times.
-pub fn flip_again<W: Word>(
+pub fn repeat_flips<W: Word>(
     lanes: &mut Lanes<W>,
     lengths: Lengths,
     count: usize,

@@ -6,13 +6,13 @@ ghost use Rattle.stab_items.specs.Steps.{unroll, check_within};
 ghost use Rattle.stab_edits.specs.Views.{circuit_items};
 ghost use Rattle.stab_edits.specs.Repeats.{IsRepeat, AreRepeats};
 ghost use Rattle.stab_run.specs.ProgramStates.{StepFits};
-ghost use Rattle.stab_recording.specs.inner.Advanced.{behind_rounds};
+ghost use Rattle.stab_recording.specs.inner.Advanced.{after_rounds};
 ghost use Rattle.stab_lanes.specs.RecordedPivots.{HasAll};
 ghost use Rattle.stab_shots.specs.LaneCheckpoints.{IsCheckpoint, GoOn, StaysKept};
 ghost use Rattle.stab_lanes.specs.Differences.{ArePropagated};
 
 use crate::checkpoints::{LaneCheckpoint, are_deterministic, comes_again};
-use crate::repeated_flips::flip_again;
+use crate::repeated_flips::repeat_flips;
 use stab_edits::{Circuit, Repeat};
 use stab_io::Refusal;
 use stab_lanes::{Draw, Lanes, RecordedPivots, Word, propagate_along};
@@ -20,7 +20,7 @@ use stab_recording::{MOST_SINGLE, is_long, taken_together};
 use stab_rounds::find_rounds;
 use std::alloc::{AllocError, Global};
 
-/// Gives what lanes flip in those rounds after the ones done in which they flip again what they flipped since a checkpoint: whole
+/// Repeats what lanes flip in those rounds after the ones done in which they flip what they flipped since a checkpoint: whole
 /// periods. Says how many rounds are done then.
 fn fold_rounds<W: Word>(
     recorded_pivots: RecordedPivots,
@@ -49,7 +49,7 @@ fn fold_rounds<W: Word>(
     if !are_deterministic(recorded_pivots.free, checkpoint.lengths.free, count) {
         return Ok(done);
     }
-    flip_again(lanes, checkpoint.lengths, times)?;
+    repeat_flips(lanes, checkpoint.lengths, times)?;
     Ok(done + times * period)
 }
 
@@ -97,12 +97,12 @@ fn propagate_round<W: Word, D: Draw<W>>(
     requires within { done < repeat.rounds }
     requires earlier { IfSome checkpoint.old (λ m. m.done ≤ done) }
     requires checkpoint { IfSome checkpoint.old (IsCheckpoint W.at W.lanes recorded_pivots (D.sequences draw.old) (unroll (circuit_items circuit.now)) repeat) }
-    requires advanced { ArePropagated W.at W.lanes recorded_pivots (D.sequences draw.old) (take (behind_rounds repeat done) (unroll (circuit_items circuit.now))) number.old lanes.old }
+    requires advanced { ArePropagated W.at W.lanes recorded_pivots (D.sequences draw.old) (take (after_rounds repeat done) (unroll (circuit_items circuit.now))) number.old lanes.old }
     ensures same_coins { D.sequences draw.new ≡ D.sequences draw.old }
     ensures more { IfOk result (λ now. (done < now) × (now ≤ repeat.rounds)) }
     ensures earlier { IfOk result (λ now. IfSome checkpoint.new (λ m. m.done ≤ now)) }
     ensures checkpoint { OnOk result (IfSome checkpoint.new (IsCheckpoint W.at W.lanes recorded_pivots.entry (D.sequences draw.old) (unroll (circuit_items circuit.now)) repeat)) }
-    ensures advanced { IfOk result (λ now. ArePropagated W.at W.lanes recorded_pivots.entry (D.sequences draw.old) (take (behind_rounds repeat now) (unroll (circuit_items circuit.now))) number.new lanes.new) }
+    ensures advanced { IfOk result (λ now. ArePropagated W.at W.lanes recorded_pivots.entry (D.sequences draw.old) (take (after_rounds repeat now) (unroll (circuit_items circuit.now))) number.new lanes.new) }
     ensures err { IfErr result (λ r. r ≡ OutOfMemory) }
 {
     let from = repeat.first + done * repeat.length;
@@ -139,7 +139,7 @@ fn propagate_rounds<W: Word, D: Draw<W>>(
     requires advanced { ArePropagated W.at W.lanes recorded_pivots (D.sequences draw.old) (take repeat.first (unroll (circuit_items circuit.now))) number.old lanes.old }
     ensures same_coins { D.sequences draw.new ≡ D.sequences draw.old }
     ensures within { IfOk result (λ done. done ≤ repeat.rounds) }
-    ensures advanced { IfOk result (λ done. ArePropagated W.at W.lanes recorded_pivots.entry (D.sequences draw.old) (take (behind_rounds repeat done) (unroll (circuit_items circuit.now))) number.new lanes.new) }
+    ensures advanced { IfOk result (λ done. ArePropagated W.at W.lanes recorded_pivots.entry (D.sequences draw.old) (take (after_rounds repeat done) (unroll (circuit_items circuit.now))) number.new lanes.new) }
     ensures err { IfErr result (λ r. r ≡ OutOfMemory) }
 {
     let most = repeat.rounds.min(MOST_SINGLE);
@@ -179,7 +179,7 @@ fn propagate_block<W: Word, D: Draw<W>>(
     requires repeat { IsRepeat (unroll (circuit_items circuit.now)) repeat }
     requires advanced { ArePropagated W.at W.lanes recorded_pivots (D.sequences draw.old) (take from (unroll (circuit_items circuit.now))) number.old lanes.old }
     ensures same_coins { D.sequences draw.new ≡ D.sequences draw.old }
-    ensures next { IfOk result (λ next. next ≤ behind_rounds repeat repeat.rounds) }
+    ensures next { IfOk result (λ next. next ≤ after_rounds repeat repeat.rounds) }
     ensures advanced { IfOk result (λ next. ArePropagated W.at W.lanes recorded_pivots.entry (D.sequences draw.old) (take next (unroll (circuit_items circuit.now))) number.new lanes.new) }
     ensures err { IfErr result (λ r. r ≡ OutOfMemory) }
 {

@@ -1,18 +1,18 @@
 -- The course of an edit that is followed: from what each call ensures to what is kept at the end.
-use Rattle.stab_splices.proofs.Names.{refl, ◌≡◌, ℕ, ◌+◌, ◌-◌, ◌*◌, ◌^◌, ◌<◌, ◌≤◌, inl, Some, max, sym, ◌∙◌, ap, subst, Bool, false, List, [], length, take, drop, All, None, replicate, arith, IfSome, length-drop, slice_get_within, same_Some, IfSome_then, Step, IsApart, Checkpoint, Replay, Plan, End, Last, Joined, Framed, Recording, Span, coins-steps, Prepared, Rest, ones, RunOutput, all_coins_of, with_additions, EndsAt, IsCounted, StepFits, output_of, PivotsState, checkpoint_steps, moved, PropagationState, TableauState, IsOldRun, IsRecording, IsSameRecording, Follows, AgreeBehindSpan, AgreeBackBehindSpan, KeepsPivots, IsReplay, Ascending, IsEnd, MeetsAt, IsFramed, EndsSoon, IsCount, Begins, HasCopy, IsRest, IsOldRest, IsPrepared, IsCommitted, copies_behind, end_of, no_frame, conjugated_end}
+use Rattle.stab_splices.proofs.Names.{refl, ◌≡◌, ℕ, ◌+◌, ◌-◌, ◌*◌, ◌^◌, ◌<◌, ◌≤◌, inl, Some, max, sym, ◌∙◌, ap, subst, Bool, false, List, [], length, take, drop, All, None, replicate, arith, IfSome, length-drop, slice_get_within, same_Some, IfSome_then, Step, HasDistinctQubits, Checkpoint, Replay, Plan, End, Last, Joined, Propagated, Recording, Span, coins-steps, Prepared, Rest, ones, RunOutput, all_coins_of, with_additions, EndsAt, IsCounted, StepFits, output_of, PivotsState, checkpoint_steps, moved, PropagationState, TableauState, IsOldRun, IsRecording, IsSameRecording, Follows, AgreeAfterSpan, AgreeBackAfterSpan, KeepsPivots, IsReplay, Ascending, IsEnd, MeetsAt, IsPropagated, EndsSoon, IsCount, Begins, HasCheckpoint, IsRest, IsOldRest, IsPrepared, IsCommitted, checkpoints_after, end_of, no_frame, conjugated_end}
 use Rattle.std.specs.Prelude.{slice_get}
 use Rattle.stab_splices.proofs.SpacingLemmas.{IsBefore}
-use Rattle.stab_splices.proofs.StateLemmas.{copies-long}
-use Rattle.stab_splices.proofs.FollowLemmas.{if-some, some-at, some-and, prepared-same, committed-same, before-first, begun, same-records, next-behind, all-ascending, all-qubits}
+use Rattle.stab_splices.proofs.StateLemmas.{checkpoints-long}
+use Rattle.stab_splices.proofs.FollowLemmas.{if-some, some-at, some-and, prepared-same, committed-same, before-first, begun, same-records, next-following, all-ascending, all-qubits}
 use Rattle.stab_splices.proofs.SpliceLemmas.{kept-end, end-flags}
-use Rattle.stab_splices.proofs.PropagatedEndLemmas.{stop-there, framed-agrees, framed-soon}
+use Rattle.stab_splices.proofs.PropagatedEndLemmas.{stop-there, by_frame-agrees, by_frame-soon}
 use Rattle.stab_splices.proofs.ConjugatingLemmas.{advanced-few}
 use Rattle.stab_splices.proofs.ConjugateSpacingLemmas.{in-order}
 use Rattle.stab_splices.proofs.CountLemmas.{applied-within, few-steps, stop-within, stop-ends, next-beyond, met-agrees, none-before, is-counted}
 
-pub count-of : (step : ℕ) (seen copies : List Checkpoint) (m : ℕ) → seen ≡ copies → m ≤ length seen → All (λ c. c.step < step) (take m seen)
-    → IfSome (slice_get seen m) (λ c. step ≤ c.step) → IsCount step copies m
-count-of step seen copies m is within before behind = subst (λ cs. IsCount step cs m) is (record { within = within; before = before; behind = behind })
+pub count-of : (step : ℕ) (seen checkpoints : List Checkpoint) (m : ℕ) → seen ≡ checkpoints → m ≤ length seen → All (λ c. c.step < step) (take m seen)
+    → IfSome (slice_get seen m) (λ c. step ≤ c.step) → IsCount step checkpoints m
+count-of step seen checkpoints m is within before following = subst (λ cs. IsCount step cs m) is (record { within = within; before = before; following = following })
 
 same-trans : (a b c : Recording) → IsSameRecording a b → IsSameRecording b c → IsSameRecording a c
 same-trans a b c f g = record {
@@ -24,147 +24,147 @@ same-trans a b c f g = record {
   checkpoints = f.checkpoints ∙ g.checkpoints;
 }
 
-has-copy : (n : ℕ) (p : Plan) (r : Replay) (copies : List Checkpoint) (o : RunOutput) (strings : PivotsState) (end : End) → r.tableau.qubits ≡ n → IsEnd n p r copies o strings end
-    → HasCopy n copies end
-has-copy n p r copies o strings Last qubits is = tt
-has-copy n p r copies o strings (Joined j) qubits is =
-    let found = some-and (MeetsAt n p r o.records o.free) (slice_get copies j) is.1 in
-    slice_get_within copies j found.0 found.1
-has-copy n p r copies o strings (Framed f) qubits is =
-    let found = some-and (IsFramed p r copies o strings f) (slice_get copies f.number) is.1 in
-    let within = slice_get_within copies f.number found.0 found.1 in (
+has-checkpoint : (n : ℕ) (p : Plan) (r : Replay) (checkpoints : List Checkpoint) (o : RunOutput) (strings : PivotsState) (end : End) → r.tableau.qubits ≡ n → IsEnd n p r checkpoints o strings end
+    → HasCheckpoint n checkpoints end
+has-checkpoint n p r checkpoints o strings Last qubits is = tt
+has-checkpoint n p r checkpoints o strings (Joined j) qubits is =
+    let found = some-and (MeetsAt n p r o.records o.free) (slice_get checkpoints j) is.1 in
+    slice_get_within checkpoints j found.0 found.1
+has-checkpoint n p r checkpoints o strings (Propagated f) qubits is =
+    let found = some-and (IsPropagated p r checkpoints o strings f) (slice_get checkpoints f.number) is.1 in
+    let within = slice_get_within checkpoints f.number found.0 found.1 in (
       within,
       omega (
         arith,
         within,
-        advanced-few r.tableau.qubits strings.strings o.free p.window (drop r.step r.cursor.all) found.0.step f.number copies f.conjugated.items found.2.start f.propagation found.2.advanced (omega (arith, within)),
+        advanced-few r.tableau.qubits strings.strings o.free p.window (drop r.step r.cursor.all) found.0.step f.number checkpoints f.conjugated.items found.2.start f.propagation found.2.advanced (omega (arith, within)),
       ),
       found.2.size ∙ qubits,
     )
 
--- a replay ended at copies that are those that were kept
-pub seen-end : (n : ℕ) (p : Plan) (r : Replay) {seen copies : List Checkpoint} (o : RunOutput) (strings : PivotsState) (end : End) → seen ≡ copies
-    → IsEnd n p r seen o strings end → IsEnd n p r copies o strings end
+-- a replay ended at checkpoints that are those that were kept
+pub seen-end : (n : ℕ) (p : Plan) (r : Replay) {seen checkpoints : List Checkpoint} (o : RunOutput) (strings : PivotsState) (end : End) → seen ≡ checkpoints
+    → IsEnd n p r seen o strings end → IsEnd n p r checkpoints o strings end
 seen-end n p r o strings end same is = subst (λ cs. IsEnd n p r cs o strings end) same is
 
-pub seen-soon : {n k : ℕ} (coins : ℕ → Bool) (p : Plan) {zs ys : List Step} {seen copies : List Checkpoint} {bits records : List Bool} (end : ℕ) → k ≡ n → zs ≡ ys
-    → seen ≡ copies → bits ≡ records → EndsSoon k coins p zs seen bits end → EndsSoon n coins p ys copies records end
-seen-soon {n} {k} coins p {zs} {ys} {seen} {copies} {bits} end qubits all same also is =
-    subst (λ records. EndsSoon n coins p ys copies records end) also
+pub seen-soon : {n k : ℕ} (coins : ℕ → Bool) (p : Plan) {zs ys : List Step} {seen checkpoints : List Checkpoint} {bits records : List Bool} (end : ℕ) → k ≡ n → zs ≡ ys
+    → seen ≡ checkpoints → bits ≡ records → EndsSoon k coins p zs seen bits end → EndsSoon n coins p ys checkpoints records end
+seen-soon {n} {k} coins p {zs} {ys} {seen} {checkpoints} {bits} end qubits all same also is =
+    subst (λ records. EndsSoon n coins p ys checkpoints records end) also
     (subst (λ cs. EndsSoon n coins p ys cs bits end) same
     (subst (λ steps. EndsSoon n coins p steps seen bits end) all
     (subst (λ m. EndsSoon m coins p zs seen bits end) qubits is)))
 
--- the old copies that come after a replay are after the first of them that may be met
+-- the old checkpoints that come after a replay are after the first of them that may be met
 rest-few : (old : Recording) (o : RunOutput) (has_pivots : PivotsState) (step number compared : ℕ) (w : PropagationState) (conjugated : List TableauState) (new : RunOutput) (strings : PivotsState)
     (rest : Rest) (c : Checkpoint) (m : ℕ) → m ≤ number → number < length old.checkpoints.items → IsOldRest old o has_pivots step number compared w conjugated new strings rest c
-    → m + length (copies_behind rest old.checkpoints.items) ≤ length old.checkpoints.items
+    → m + length (checkpoints_after rest old.checkpoints.items) ≤ length old.checkpoints.items
 rest-few old o has_pivots step number compared w conjugated new strings rest c m le lt is =
-    omega (arith, ap (λ x. length (copies_behind x old.checkpoints.items)) is.is, copies-long is.old old.checkpoints.items, is.from, le, lt)
+    omega (arith, ap (λ x. length (checkpoints_after x old.checkpoints.items)) is.is, checkpoints-long is.old old.checkpoints.items, is.from, le, lt)
 
-few-behind : (n : ℕ) (p : Plan) (r : Replay) (old : Recording) (end : End) (new : RunOutput) (strings : PivotsState) (rest : Rest) (m : ℕ) → m ≤ p.next → m ≤ length old.checkpoints.items
+few-following : (n : ℕ) (p : Plan) (r : Replay) (old : Recording) (end : End) (new : RunOutput) (strings : PivotsState) (rest : Rest) (m : ℕ) → m ≤ p.next → m ≤ length old.checkpoints.items
     → IsEnd n p r old.checkpoints.items (output_of old.outputs) old.strings end → IsRest old r.tableau (output_of r.outputs) r.pivots.strings r.step end new strings rest
-    → m + length (copies_behind rest old.checkpoints.items) ≤ length old.checkpoints.items
-few-behind n p r old Last new strings rest m next within end is = omega (arith, within, ap (λ x. length (copies_behind x old.checkpoints.items)) is.0)
-few-behind n p r old (Joined j) new strings rest m next within end is =
+    → m + length (checkpoints_after rest old.checkpoints.items) ≤ length old.checkpoints.items
+few-following n p r old Last new strings rest m next within end is = omega (arith, within, ap (λ x. length (checkpoints_after x old.checkpoints.items)) is.0)
+few-following n p r old (Joined j) new strings rest m next within end is =
     let found = some-and (MeetsAt n p r old.outputs.records.items old.outputs.free.items) (slice_get old.checkpoints.items j) end.1 in
     let d = found.0 in
     let later = end.0 in
     rest-few old (output_of r.outputs) r.pivots.strings r.step j 0 (no_frame old.tableau.qubits) [] new strings rest d m (omega (arith, later, next))
     (slice_get_within old.checkpoints.items j d found.1)
     (some-at (IsOldRest old (output_of r.outputs) r.pivots.strings r.step j 0 (no_frame old.tableau.qubits) [] new strings rest) old.checkpoints.items j d found.1 is)
-few-behind n p r old (Framed f) new strings rest m next within end is =
-    let found = some-and (IsFramed p r old.checkpoints.items (output_of old.outputs) old.strings f) (slice_get old.checkpoints.items f.number) end.1 in
+few-following n p r old (Propagated f) new strings rest m next within end is =
+    let found = some-and (IsPropagated p r old.checkpoints.items (output_of old.outputs) old.strings f) (slice_get old.checkpoints.items f.number) end.1 in
     let d = found.0 in
     let later = end.0 in
     rest-few old (output_of r.outputs) r.pivots.strings r.step f.number f.compared f.propagation f.conjugated.items new strings rest d m (omega (arith, later, next))
     (slice_get_within old.checkpoints.items f.number d found.1)
     (some-at (IsOldRest old (output_of r.outputs) r.pivots.strings r.step f.number f.compared f.propagation f.conjugated.items new strings rest) old.checkpoints.items f.number d found.1 is)
 
--- a replay that began has done nothing yet, and holds what the recording held at the copy that it began at
+-- a replay that began has done nothing yet, and holds what the recording held at the checkpoint that it began at
 pub record HasBegun (n : ℕ) (coins : ℕ → Bool) (K : ℕ) (ys : List Step) (old : Recording) (m : ℕ) (r : Replay) : Type 0 where
   pub qubits : r.tableau.qubits ≡ n
   pub all : r.cursor.all ≡ ys
   pub replay : IsReplay r.tableau.qubits coins K r.step r.cursor.all r
-  pub laid : r.laid.items ≡ []
+  pub saved : r.saved.items ≡ []
   pub applied : r.applied ≡ 0
-  pub framed : r.framed ≡ 0
-  pub apart : All IsApart ys
+  pub by_frame : r.by_frame ≡ 0
+  pub distinct : All HasDistinctQubits ys
   pub at : IfSome (slice_get old.checkpoints.items (m - 1)) (λ c. r.step ≡ c.step)
   pub strings : r.pivots.strings.qubits ≡ r.tableau.qubits
   pub window : r.pivots.window ≡ old.window
   pub records : take (length r.outputs.records.items) r.outputs.records.items ≡ take (length r.outputs.records.items) old.outputs.records.items
-  pub copies : All (λ c. c.tableau.qubits ≡ r.tableau.qubits) old.checkpoints.items
+  pub checkpoints : All (λ c. c.tableau.qubits ≡ r.tableau.qubits) old.checkpoints.items
 
 -- what was prepared can be put in place, and is the run of the new steps then
 pub record IsReady (n : ℕ) (coins : ℕ → Bool) (K : ℕ) (ys : List Step) (m : ℕ) (r : Replay) (mid : Recording) (observables : ℕ) (q : Prepared) : Type 0 where
-  pub behind : (there : Recording) → IsSameRecording there mid → m + length (copies_behind q.rest there.checkpoints.items) ≤ length there.checkpoints.items
+  pub following : (there : Recording) → IsSameRecording there mid → m + length (checkpoints_after q.rest there.checkpoints.items) ≤ length there.checkpoints.items
   pub kept : (there : Recording) → IsSameRecording there mid → All (StepFits n) ys → (new : Recording) → IsCommitted there q m K new → IsRecording n coins K ys observables new
   pub flags : (there : Recording) → IsSameRecording there mid → (new : Recording) → IsCommitted there q m K new → ones r.outputs.free.items ≤ ones new.outputs.free.items
 
 -- how many steps a replay took that has ended, and what is prepared from it
 pub record HasEnded (n : ℕ) (coins : ℕ → Bool) (K : ℕ) (ys : List Step) (s : Span) (old : Recording) (m : ℕ) (xs : List Step) (begin : ℕ) (p : Plan) (r : Replay) (end : End)
     : Type 0 where
-  pub copy : HasCopy n old.checkpoints.items end
+  pub checkpoint : HasCheckpoint n old.checkpoints.items end
   pub strings : r.pivots.strings.qubits ≡ old.strings.qubits
   pub order : r.step ≤ end_of s (length ys) r.step old.checkpoints.items end
   pub within : end_of s (length ys) r.step old.checkpoints.items end ≤ length ys
   pub applied : (applied : ℕ) → applied + begin ≡ end_of s (length ys) r.step old.checkpoints.items end → applied ≤ (length ys - s.first) + K
   pub few : (applied : ℕ) → applied + begin ≡ end_of s (length ys) r.step old.checkpoints.items end → EndsSoon n coins p ys old.checkpoints.items old.outputs.records.items r.step → (far : ℕ)
-      → AgreeBehindSpan n coins xs ys s far → applied ≤ ((s.new_end - s.first) + 2 * K) + far
+      → AgreeAfterSpan n coins xs ys s far → applied ≤ ((s.new_end - s.first) + 2 * K) + far
   pub counted : (applied : ℕ) → applied + begin ≡ end_of s (length ys) r.step old.checkpoints.items end → EndsSoon n coins p ys old.checkpoints.items old.outputs.records.items r.step
-      → IsCounted (AgreeBehindSpan n coins xs ys s) (AgreeBackBehindSpan n coins xs ys s) (checkpoint_steps old.checkpoints.items) s.first s.old_end s.new_end (length ys) applied
+      → IsCounted (AgreeAfterSpan n coins xs ys s) (AgreeBackAfterSpan n coins xs ys s) (checkpoint_steps old.checkpoints.items) s.first s.old_end s.new_end (length ys) applied
   pub ready : (mid : Recording) → IsSameRecording mid old → (observables : ℕ) (q : Prepared) → IsPrepared mid r observables end q → IsReady n coins K ys m r mid observables q
 
 module _ {n : ℕ} {coins : ℕ → Bool} {K : ℕ} {ys : List Step} {s : Span} {old : Recording} (f : Follows n coins K ys s None old) (few : length ys ≤ 1048576)
     {m : ℕ} (count : IsCount (s.first + 1) old.checkpoints.items m) where
   near : IsBefore K (length f.old) s.first m old.checkpoints.items
-  near = before-first n coins K f.old f.count old f.kept ys s f.span m count.within count.before count.behind
+  near = before-first n coins K f.old f.count old f.kept ys s f.span m count.within count.before count.following
 
   pub some-before : 1 ≤ m
   some-before = let o = near.some in omega arith
 
-  pub copy-within : IfSome (slice_get old.checkpoints.items (m - 1)) (λ c. c.step ≤ length ys)
-  copy-within =
+  pub checkpoint-within : IfSome (slice_get old.checkpoints.items (m - 1)) (λ c. c.step ≤ length ys)
+  checkpoint-within =
       subst (λ o. IfSome o (λ c. c.step ≤ length ys)) (sym near.here)
       (let w = near.within in let o = f.span.new_order in let e = f.span.new_within in omega arith)
 
   pub has-begun : (r : Replay) → IfSome (slice_get old.checkpoints.items (m - 1)) (λ c. Begins ys old c r) → HasBegun n coins K ys old m r
   has-begun r begins =
-      let here : Begins ys old near.copy r = some-at (λ c. Begins ys old c r) old.checkpoints.items (m - 1) near.copy near.here begins in
-      let at_first = begun n coins K f.old f.count old f.kept ys s f.span (m - 1) near.copy r near.here near.within here in
+      let here : Begins ys old near.checkpoint r = some-at (λ c. Begins ys old c r) old.checkpoints.items (m - 1) near.checkpoint near.here begins in
+      let at_first = begun n coins K f.old f.count old f.kept ys s f.span (m - 1) near.checkpoint r near.here near.within here in
       record {
         qubits = at_first.at_step.qubits;
         all = here.all;
         replay =
             subst (λ zs. IsReplay r.tableau.qubits coins K r.step zs r) (sym here.all)
             (subst (λ k. IsReplay k coins K r.step ys r) (sym at_first.at_step.qubits) at_first);
-        laid = here.laid;
+        saved = here.saved;
         applied = here.applied;
-        framed = here.framed;
-        apart = here.apart;
+        by_frame = here.by_frame;
+        distinct = here.distinct;
         at = IfSome_then (slice_get old.checkpoints.items (m - 1)) begins (λ c h. h.step);
         strings = at_first.at_step.has_pivots.size ∙ sym at_first.at_step.qubits;
         window = here.window;
-        records = same-records n coins K f.old f.count old f.kept ys s f.span near.copy r here;
-        copies = all-qubits n coins K f.old f.count old f.kept ys s f.span r.tableau.qubits at_first.at_step.qubits;
+        records = same-records n coins K f.old f.count old f.kept ys s f.span near.checkpoint r here;
+        checkpoints = all-qubits n coins K f.old f.count old f.kept ys s f.span r.tableau.qubits at_first.at_step.qubits;
       }
 
-  -- and asks for no more coins than there are steps from the copy on, which is a stride before the change at most
-  pub asked-behind : (r : Replay) → HasBegun n coins K ys old m r → (asks new : ℕ) → new ≤ asks + all_coins_of (drop r.step r.cursor.all)
+  -- and asks for no more coins than there are steps from the checkpoint on, which is a stride before the change at most
+  pub asked-following : (r : Replay) → HasBegun n coins K ys old m r → (asks new : ℕ) → new ≤ asks + all_coins_of (drop r.step r.cursor.all)
       → new ≤ asks + ((length ys - s.first) + K)
-  asked-behind r begins asks new asked =
-      let step : r.step ≡ near.copy.step = some-at (λ c. r.step ≡ c.step) old.checkpoints.items (m - 1) near.copy near.here begins.at in
+  asked-following r begins asks new asked =
+      let step : r.step ≡ near.checkpoint.step = some-at (λ c. r.step ≡ c.step) old.checkpoints.items (m - 1) near.checkpoint near.here begins.at in
       let from = near.near in
       omega (arith, asked, step, from, coins-steps (drop r.step r.cursor.all), length-drop r.step r.cursor.all, ap length begins.all)
 
-  module _ {r0 : Replay} (begins : HasBegun n coins K ys old m r0) {e : ℕ} (behind : IsCount s.old_end old.checkpoints.items e) (p : Plan)
+  module _ {r0 : Replay} (begins : HasBegun n coins K ys old m r0) {e : ℕ} (following : IsCount s.old_end old.checkpoints.items e) (p : Plan)
       (old_end : p.old_end ≡ s.old_end) (new_end : p.new_end ≡ s.new_end) (total : p.total ≡ length ys) (next : p.next ≡ max e m) (window : p.window ≡ old.window) where
-    step_is : r0.step ≡ near.copy.step
-    step_is = some-at (λ c. r0.step ≡ c.step) old.checkpoints.items (m - 1) near.copy near.here begins.at
+    step_is : r0.step ≡ near.checkpoint.step
+    step_is = some-at (λ c. r0.step ≡ c.step) old.checkpoints.items (m - 1) near.checkpoint near.here begins.at
 
     next-there : IfSome (slice_get old.checkpoints.items p.next) (λ c. s.old_end ≤ c.step)
-    next-there = next-behind n coins K f.old f.count old f.kept ys s f.span e p.next (omega (arith, next)) behind.behind
+    next-there = next-following n coins K f.old f.count old f.kept ys s f.span e p.next (omega (arith, next)) following.following
 
     pub ascending-here : Ascending p r0.step (drop p.next old.checkpoints.items)
     ascending-here =
@@ -178,7 +178,7 @@ module _ {n : ℕ} {coins : ℕ → Bool} {K : ℕ} {ys : List Step} {s : Span} 
         (subst (λ k. IsOldRun k coins p ys old.checkpoints.items (output_of old.outputs) old.strings) (sym begins.qubits) (record {
           steps = f.old;
           few = f.kept.few;
-          are_copies = f.kept.checkpoints;
+          are_checkpoints = f.kept.checkpoints;
           order =
               in-order K (length f.old) 0 0 old.checkpoints.items f.kept.spaced.near (omega arith)
               (if-some (λ c. 0 ≤ c.step) (slice_get old.checkpoints.items 0) (λ c here. omega arith));
@@ -187,12 +187,12 @@ module _ {n : ℕ} {coins : ℕ → Bool} {K : ℕ} {ys : List Step} {s : Span} 
           fits = f.kept.fits;
           old_within = let w = f.span.old_within in omega (arith, old_end, w);
           new_within = let w = f.span.new_within in omega (arith, new_end, w);
-          behind = ap (λ k. drop k f.old) old_end ∙ f.span.behind ∙ ap (λ k. drop k ys) (sym new_end);
+          following = ap (λ k. drop k f.old) old_end ∙ f.span.following ∙ ap (λ k. drop k ys) (sym new_end);
         }))
 
     module _ (r : Replay) (end : End) (replay : IsReplay r0.tableau.qubits coins K r0.step r0.cursor.all r) (raised : r0.pivots.window ≤ r.pivots.window)
         (is_end : IsEnd r0.tableau.qubits p r old.checkpoints.items (output_of old.outputs) old.strings end) where
-      done : IsReplay n coins K near.copy.step ys r
+      done : IsReplay n coins K near.checkpoint.step ys r
       done =
           subst (λ k. IsReplay n coins K k ys r) step_is
           (subst (λ zs. IsReplay n coins K r0.step zs r) begins.all
@@ -201,15 +201,15 @@ module _ {n : ℕ} {coins : ℕ → Bool} {K : ℕ} {ys : List Step} {s : Span} 
       end_here : IsEnd n p r old.checkpoints.items (output_of old.outputs) old.strings end
       end_here = subst (λ k. IsEnd k p r old.checkpoints.items (output_of old.outputs) old.strings end) begins.qubits is_end
 
-      -- the old copy with a number may be met
+      -- the old checkpoint with a number may be met
       beyond : (k : ℕ) (c : Checkpoint) → p.next ≤ k → slice_get old.checkpoints.items k ≡ Some c → (s.first + 1 ≤ c.step) × (s.old_end ≤ c.step)
-      beyond = next-beyond n coins K f.old f.count old f.kept ys s f.span m p.next (omega (arith, next)) count.behind next-there
+      beyond = next-beyond n coins K f.old f.count old f.kept ys s f.span m p.next (omega (arith, next)) count.following next-there
 
       small : length ys < 2 ^ 64
       small = omega (arith, few)
 
       abbrev EndsThere : ℕ → Type 0
-      EndsThere = EndsAt (AgreeBackBehindSpan n coins f.old ys s) (checkpoint_steps old.checkpoints.items) s.first s.old_end s.new_end (length ys)
+      EndsThere = EndsAt (AgreeBackAfterSpan n coins f.old ys s) (checkpoint_steps old.checkpoints.items) s.first s.old_end s.new_end (length ys)
 
       abbrev IsSoon : ℕ → Type 0
       IsSoon = EndsSoon n coins p ys old.checkpoints.items old.outputs.records.items
@@ -240,8 +240,8 @@ module _ {n : ℕ} {coins : ℕ → Bool} {K : ℕ} {ys : List Step} {s : Span} 
                 (subst (MeetsAt n p r old.outputs.records.items old.outputs.free.items) (same_Some d c (sym found.1 ∙ here)) found.2)));
             soon = λ h. h;
           }
-      stopped (Framed g) is =
-          let found = some-and (IsFramed p r old.checkpoints.items (output_of old.outputs) old.strings g) (slice_get old.checkpoints.items g.number) is.1 in
+      stopped (Propagated g) is =
+          let found = some-and (IsPropagated p r old.checkpoints.items (output_of old.outputs) old.strings g) (slice_get old.checkpoints.items g.number) is.1 in
           let d = found.0 in
           let after = (beyond g.number d is.0 found.1).1 in
           let place : moved s.old_end s.new_end d.step ≡ r.step = (λ i. moved (sym old_end i) (sym new_end i) d.step) ∙ found.2.begins.place in
@@ -256,9 +256,9 @@ module _ {n : ℕ} {coins : ℕ → Bool} {K : ℕ} {ys : List Step} {s : Span} 
             within = stop-within n coins K f.old f.count old f.kept ys s f.span (g.number + length g.conjugated.items) small;
             ends =
                 stop-ends n coins K f.old f.count old f.kept ys s f.span (g.number + length g.conjugated.items) small (λ c here. beyond (g.number + length g.conjugated.items) c (omega (arith, later)) here)
-                (framed-agrees f.count f.kept f.span r done.at_step g.number d found.1 after place small p window g refl found.2);
+                (by_frame-agrees f.count f.kept f.span r done.at_step g.number d found.1 after place small p window g refl found.2);
             soon =
-                framed-soon f.count f.kept f.span r done.at_step g.number d found.1 after place small p window g refl found.2 old_end new_end next-there;
+                by_frame-soon f.count f.kept f.span r done.at_step g.number d found.1 after place small p window g refl found.2 old_end new_end next-there;
           }
 
       there : HasStopped (end_of s (length ys) r.step old.checkpoints.items end)
@@ -277,7 +277,7 @@ module _ {n : ℕ} {coins : ℕ → Bool} {K : ℕ} {ys : List Step} {s : Span} 
             (put.observables
             ∙ prepared_here.observables
             ∙ ap (λ (o : RunOutput). with_additions o.additions (replicate observables false)) (sym put.output))
-            prepared_here.all (put.strings ∙ prepared_here.strings) p end q window old_end new_end total (omega (arith, few)) next-there end_here prepared_here.rest prepared_here.window prepared_here.laid put
+            prepared_here.all (put.strings ∙ prepared_here.strings) p end q window old_end new_end total (omega (arith, few)) next-there end_here prepared_here.rest prepared_here.window prepared_here.saved put
 
         flags-here : (new : Recording) → IsCommitted old q m K new → ones r.outputs.free.items ≤ ones new.outputs.free.items
         flags-here new put =
@@ -285,9 +285,9 @@ module _ {n : ℕ} {coins : ℕ → Bool} {K : ℕ} {ys : List Step} {s : Span} 
 
         is-ready : IsReady n coins K ys m r mid observables q
         is-ready = record {
-          behind = λ there again.
-              subst (λ cs. m + length (copies_behind q.rest cs) ≤ length cs) (sym (again.checkpoints ∙ same.checkpoints))
-              (few-behind n p r old end (output_of q.outputs) prepared_here.all q.rest m (omega (arith, next)) count.within end_here prepared_here.rest);
+          following = λ there again.
+              subst (λ cs. m + length (checkpoints_after q.rest cs) ≤ length cs) (sym (again.checkpoints ∙ same.checkpoints))
+              (few-following n p r old end (output_of q.outputs) prepared_here.all q.rest m (omega (arith, next)) count.within end_here prepared_here.rest);
           kept = λ there again fits new committed. kept-here fits new (placed there again new committed);
           flags = λ there again new committed. flags-here new (placed there again new committed);
         }
@@ -298,16 +298,16 @@ module _ {n : ℕ} {coins : ℕ → Bool} {K : ℕ} {ys : List Step} {s : Span} 
       pub has-ended : HasEnded n coins K ys s old m f.old r0.step p r end
       has-ended = record {
         strings = done.at_step.has_pivots.size ∙ sym f.kept.has_pivots.size;
-        copy = has-copy n p r old.checkpoints.items (output_of old.outputs) old.strings end done.at_step.qubits end_here;
+        checkpoint = has-checkpoint n p r old.checkpoints.items (output_of old.outputs) old.strings end done.at_step.qubits end_here;
         order = there.order;
         within = there.within;
         applied = λ applied counted.
             applied-within n coins K f.old f.count old f.kept ys s f.span m near r0.step stop applied begins.at counted there.within;
         few = λ applied counted soon far agree.
-            few-steps n coins K f.old f.count old f.kept ys s f.span p old_end new_end (omega (arith, few)) m e near behind.within behind.before behind.behind next far agree r0.step
+            few-steps n coins K f.old f.count old f.kept ys s f.span p old_end new_end (omega (arith, few)) m e near following.within following.before following.following next far agree r0.step
             stop applied (there.soon soon) there.within begins.at counted;
         counted = λ applied counted soon.
-            is-counted n coins K f.old f.count old f.kept ys s f.span m near r0.step stop applied begins.at counted there.ends count.within count.before count.behind
-            (none-before n coins K f.old f.count old f.kept ys s f.span p old_end new_end (omega (arith, few)) m e count.before behind.before next stop (there.soon soon));
+            is-counted n coins K f.old f.count old f.kept ys s f.span m near r0.step stop applied begins.at counted there.ends count.within count.before count.following
+            (none-before n coins K f.old f.count old f.kept ys s f.span p old_end new_end (omega (arith, few)) m e count.before following.before next stop (there.soon soon));
         ready = is-ready;
       }

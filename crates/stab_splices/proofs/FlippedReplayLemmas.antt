@@ -1,5 +1,6 @@
 -- Flipped lists: bits inverted in place, one after another, as far as there are flips.
 use Rattle.stab_splices.proofs.Names.{◌≡◌, ℕ, zero, suc, ◌+◌, ◌<◌, ◌≤◌, min, refl, sym, ◌∙◌, ap, Bool, true, false, not, List, [], ◌∷◌, length, take, set, get_or, arith, beq, ◌⊕◌, Addition, RunOutput, nothing, joined, joined-nothing, flipped, flipped_additions, flipped_output, Matches, flipped-joined, flipped-nothing, additions-empty, flipped-empty}
+use Rattle.stab_frames.proofs.FlippedListLemmas.{flipped_addition}
 
 -- where two bits differ
 differ : (x y : Bool) → not (beq x y) ≡ y ⊕ x
@@ -33,9 +34,6 @@ flipped-all zero (x ∷ bits) (y ∷ flips) all = absurd (omega arith)
 flipped-all (suc i) (x ∷ bits) (y ∷ flips) all = ap (λ more. (y ⊕ x) ∷ more) (flipped-all i bits flips (omega arith))
 
 -- the same of additions
-
-abbrev pub flipped_addition : Addition → Addition → Addition
-flipped_addition a f = record { observable = a.observable; bit = f.bit ⊕ a.bit }
 
 additions-next : (i : ℕ) (adds flips : List Addition) (added d e : Addition) → i < length flips → i < length adds
     → added ≡ flipped_addition (get_or (flipped_additions adds (take i flips)) i d) (get_or flips i e)

@@ -1,9 +1,9 @@
--- Following an edit: where a replay of the new steps begins, which old copies it may meet, and what is kept of its end.
-use Rattle.stab_splices.proofs.Names.{◌≡◌, ℕ, ◌+◌, ◌-◌, ◌^◌, ◌<◌, ◌≤◌, reverse, refl, sym, ◌∙◌, ap, subst, Bool, List, [], ◌∷◌, ◌++◌, length, take, drop, get_or, All, Option, Some, None, arith, IfSome, take_all, take_min, take-map, length-take, length-drop, get_or-drop, All-weaker, All-take, All-nil, get_or_from_slice_get, slice_get_within, slice_get-map, IfSome_then, TableauState, Step, Checkpoint, Replay, Plan, End, Last, Joined, Framed, Recording, Span, Prepared, Rest, ones, RunOutput, origin, joined, outputs, flipped_output, PropagationState, program_state, output_of, Near, IsSpaced, last_of, front_of, rest_of, IsRunFromStart, IsCheckpoint, checkpoint_steps, all_laid, PivotsState, IsRecording, IsSameRecording, IsSpan, KeepsPivots, IsSpliced, IsReplay, Ascending, Begins, IsRest, IsOldRest, IsPrepared, IsCommitted, IsTableauBehind, copies_behind, no_frame, front-output}
+-- Following an edit: where a replay of the new steps begins, which old checkpoints it may meet, and what is kept of its end.
+use Rattle.stab_splices.proofs.Names.{◌≡◌, ℕ, ◌+◌, ◌-◌, ◌^◌, ◌<◌, ◌≤◌, reverse, refl, sym, ◌∙◌, ap, subst, Bool, List, [], ◌∷◌, ◌++◌, length, take, drop, get_or, All, Option, Some, None, arith, IfSome, take_all, take_min, take-map, length-take, length-drop, get_or-drop, All-weaker, All-take, All-nil, get_or_from_slice_get, slice_get_within, slice_get-map, IfSome_then, TableauState, Step, Checkpoint, Replay, Plan, End, Last, Joined, Propagated, Recording, Span, Prepared, Rest, ones, RunOutput, origin, joined, outputs, flipped_output, PropagationState, program_state, output_of, Near, IsSpaced, last_of, front_of, rest_of, IsRunFromStart, IsCheckpoint, checkpoint_steps, all_saved, PivotsState, IsRecording, IsSameRecording, IsSpan, KeepsPivots, IsSpliced, IsReplay, Ascending, Begins, IsRest, IsOldRest, IsPrepared, IsCommitted, IsTableauAfter, checkpoints_after, no_frame, front-output}
 use Rattle.std.specs.Prelude.{IsSomeAnd, option_map, slice_get}
 use Rattle.stab_recording.proofs.RecordedReplayLemmas.{has_pivots-front}
 use Rattle.stab_recording.proofs.PointLemmas.{take-same, checkpoint-before, begun-from-start}
-use Rattle.stab_splices.proofs.SpacingLemmas.{IsBefore, before-near, all-behind, ascending-behind, spaced-front}
+use Rattle.stab_splices.proofs.SpacingLemmas.{IsBefore, before-near, all-following, ascending-following, spaced-front}
 
 -- lists and their elements
 
@@ -62,7 +62,7 @@ rest-same a b t o strings step (Joined number) new new_strings rest same h =
     (subst (λ x. x)
     (λ i. IfSome (slice_get (same.checkpoints i) number) (IsOldRest a o strings step number 0 (no_frame (same.tableau i).qubits) [] new new_strings rest)) h)
     (λ c is. old-rest-same a b o strings step number 0 (no_frame b.tableau.qubits) [] new new_strings rest c same is)
-rest-same a b t o strings step (Framed f) new new_strings rest same h =
+rest-same a b t o strings step (Propagated f) new new_strings rest same h =
     IfSome_then (slice_get b.checkpoints.items f.number)
     (subst (λ cs. IfSome (slice_get cs f.number) (IsOldRest a o strings step f.number f.compared f.propagation f.conjugated.items new new_strings rest)) same.checkpoints h)
     (λ c is. old-rest-same a b o strings step f.number f.compared f.propagation f.conjugated.items new new_strings rest c same is)
@@ -74,17 +74,17 @@ prepared-same a b r count end p same h = record {
   strings = h.strings;
   window = h.window;
   observables = h.observables;
-  laid = h.laid;
+  saved = h.saved;
 }
 
 pub committed-same : (a b : Recording) (p : Prepared) (before K : ℕ) (new : Recording) → IsSameRecording a b → IsCommitted a p before K new → IsCommitted b p before K new
 committed-same a b p before K new same h = record {
-  tableau = subst (λ t. IsTableauBehind p.rest t new.tableau) same.tableau h.tableau;
+  tableau = subst (λ t. IsTableauAfter p.rest t new.tableau) same.tableau h.tableau;
   output = h.output;
   observables = h.observables;
   strings = h.strings;
   window = h.window;
-  checkpoints = h.checkpoints ∙ ap (λ cs. all_laid K (copies_behind p.rest cs) (all_laid K (reverse p.laid.items) (take before cs))) same.checkpoints;
+  checkpoints = h.checkpoints ∙ ap (λ cs. all_saved K (checkpoints_after p.rest cs) (all_saved K (reverse p.saved.items) (take before cs))) same.checkpoints;
 }
 
 module _ (n : ℕ) (coins : ℕ → Bool) (K : ℕ) (xs : List Step) (count : ℕ) (old : Recording) (kept : IsRecording n coins K xs count old)
@@ -93,11 +93,11 @@ module _ (n : ℕ) (coins : ℕ → Bool) (K : ℕ) (xs : List Step) (count : �
 
   pub before-first : (b : ℕ) → b ≤ length old.checkpoints.items → All (λ c. c.step < s.first + 1) (take b old.checkpoints.items)
       → IfSome (slice_get old.checkpoints.items b) (λ c. s.first + 1 ≤ c.step) → IsBefore K (length xs) s.first b old.checkpoints.items
-  before-first b within front behind =
-      before-near K (length xs) s.first b old.checkpoints.items kept.spaced (let o = span.old_order in let w = span.old_within in omega arith) within front behind
+  before-first b within front following =
+      before-near K (length xs) s.first b old.checkpoints.items kept.spaced (let o = span.old_order in let w = span.old_within in omega arith) within front following
 
-  copy-of-new : (c : Checkpoint) → c.step ≤ s.first → IsCheckpoint n coins xs c → IsCheckpoint n coins ys c
-  copy-of-new c le h = checkpoint-before n coins xs ys s.first c span.before le (let o = span.new_order in let w = span.new_within in omega arith) h
+  checkpoint-of-new : (c : Checkpoint) → c.step ≤ s.first → IsCheckpoint n coins xs c → IsCheckpoint n coins ys c
+  checkpoint-of-new c le h = checkpoint-before n coins xs ys s.first c span.before le (let o = span.new_order in let w = span.new_within in omega arith) h
 
   pub begun : (b : ℕ) (c : Checkpoint) (r : Replay) → slice_get old.checkpoints.items b ≡ Some c → c.step ≤ s.first → Begins ys old c r
       → IsReplay n coins K r.step ys r
@@ -120,12 +120,12 @@ module _ (n : ℕ) (coins : ℕ → Bool) (K : ℕ) (xs : List Step) (count : �
           (has_pivots-front n coins xs old.strings old.outputs.free.items old.window kept.has_pivots (ap (λ (o : RunOutput). o.free) kept.run.output) c.step r.pivots.strings
           r.outputs.free.items flags begins.strings));
     };
-    checkpoints = subst (All (IsCheckpoint n coins ys)) (sym begins.laid) (All-nil (IsCheckpoint n coins ys));
-    near = subst (λ cs. Near K (r.step ∷ checkpoint_steps cs ++ r.step ∷ [])) (sym begins.laid) (omega arith, omega arith, tt);
+    checkpoints = subst (All (IsCheckpoint n coins ys)) (sym begins.saved) (All-nil (IsCheckpoint n coins ys));
+    near = subst (λ cs. Near K (r.step ∷ checkpoint_steps cs ++ r.step ∷ [])) (sym begins.saved) (omega arith, omega arith, tt);
   }
     where
       is : IsCheckpoint n coins ys c
-      is = copy-of-new c le (at-get (IsCheckpoint n coins xs) old.checkpoints.items b c kept.checkpoints here)
+      is = checkpoint-of-new c le (at-get (IsCheckpoint n coins xs) old.checkpoints.items b c kept.checkpoints here)
 
       was : IsCheckpoint n coins xs c
       was = at-get (IsCheckpoint n coins xs) old.checkpoints.items b c kept.checkpoints here
@@ -142,28 +142,28 @@ module _ (n : ℕ) (coins : ℕ → Bool) (K : ℕ) (xs : List Step) (count : �
       let is : r.outputs.records.items ≡ take c.lengths.records old.outputs.records.items = ap (λ (o : RunOutput). o.records) begins.output in
       subst (λ bits. take (length bits) bits ≡ take (length bits) old.outputs.records.items) (sym is) (take-front c.lengths.records old.outputs.records.items)
 
-  -- which old copies it may meet
+  -- which old checkpoints it may meet
 
   pub same-rest : length ys ≡ s.new_end + (length xs - s.old_end)
-  same-rest = let a = span.old_within in let b = span.new_within in omega (arith, ap length span.behind, length-drop s.old_end xs, length-drop s.new_end ys)
+  same-rest = let a = span.old_within in let b = span.new_within in omega (arith, ap length span.following, length-drop s.old_end xs, length-drop s.new_end ys)
 
-  pub next-behind : (e next : ℕ) → e ≤ next → IfSome (slice_get old.checkpoints.items e) (λ c. s.old_end ≤ c.step)
+  pub next-following : (e next : ℕ) → e ≤ next → IfSome (slice_get old.checkpoints.items e) (λ c. s.old_end ≤ c.step)
       → IfSome (slice_get old.checkpoints.items next) (λ c. s.old_end ≤ c.step)
-  next-behind e next le behind =
+  next-following e next le following =
       from-drop (λ c. s.old_end ≤ c.step) old.checkpoints.items e next le
       (All-weaker (λ c. (s.old_end ≤ c.step) × (c.step ≤ length xs)) (λ c. s.old_end ≤ c.step) (λ c p. p.0) (drop e old.checkpoints.items)
-      (all-behind K (length xs) s.old_end e old.checkpoints.items kept.spaced.near behind))
+      (all-following K (length xs) s.old_end e old.checkpoints.items kept.spaced.near following))
 
   pub all-next : (next : ℕ) → IfSome (slice_get old.checkpoints.items next) (λ c. s.old_end ≤ c.step) → All (λ c. s.old_end ≤ c.step) (drop next old.checkpoints.items)
-  all-next next behind =
+  all-next next following =
       All-weaker (λ c. (s.old_end ≤ c.step) × (c.step ≤ length xs)) (λ c. s.old_end ≤ c.step) (λ c p. p.0) (drop next old.checkpoints.items)
-      (all-behind K (length xs) s.old_end next old.checkpoints.items kept.spaced.near behind)
+      (all-following K (length xs) s.old_end next old.checkpoints.items kept.spaced.near following)
 
   pub all-ascending : (p : Plan) (step : ℕ) → p.old_end ≡ s.old_end → p.new_end ≡ s.new_end → p.total ≡ length ys → length ys < 2 ^ 64
       → IfSome (slice_get old.checkpoints.items p.next) (λ c. s.old_end ≤ c.step) → step ≤ s.first → Ascending p step (drop p.next old.checkpoints.items)
-  all-ascending p step old_end new_end total few behind le =
-      ascending-behind p K (length xs) step p.next old.checkpoints.items kept.spaced.near
-      (subst (λ e. IfSome (slice_get old.checkpoints.items p.next) (λ c. e ≤ c.step)) (sym old_end) behind)
+  all-ascending p step old_end new_end total few following le =
+      ascending-following p K (length xs) step p.next old.checkpoints.items kept.spaced.near
+      (subst (λ e. IfSome (slice_get old.checkpoints.items p.next) (λ c. e ≤ c.step)) (sym old_end) following)
       (let w = span.old_within in omega (arith, old_end))
       (omega (arith, old_end, new_end, total, same-rest))
       (omega (arith, total))
@@ -174,19 +174,19 @@ module _ (n : ℕ) (coins : ℕ → Bool) (K : ℕ) (xs : List Step) (count : �
 
   -- what is kept of its end
 
-  pub front-copies : (m : ℕ) → All (λ c. c.step < s.first + 1) (take m old.checkpoints.items) → All (IsCheckpoint n coins ys) (take m old.checkpoints.items)
-  front-copies m front = λ k d lt.
-      copy-of-new (get_or (take m old.checkpoints.items) k d) (let l = front k d lt in omega arith)
+  pub front-checkpoints : (m : ℕ) → All (λ c. c.step < s.first + 1) (take m old.checkpoints.items) → All (IsCheckpoint n coins ys) (take m old.checkpoints.items)
+  front-checkpoints m front = λ k d lt.
+      checkpoint-of-new (get_or (take m old.checkpoints.items) k d) (let l = front k d lt in omega arith)
       (All-take (IsCheckpoint n coins xs) m old.checkpoints.items kept.checkpoints k d lt)
 
   pub front-spaced : (m : ℕ) (b : IsBefore K (length xs) s.first m old.checkpoints.items)
-      → IsSpaced K b.copy.step (checkpoint_steps (take m old.checkpoints.items)) × (last_of 0 (checkpoint_steps (take m old.checkpoints.items)) ≡ b.copy.step)
+      → IsSpaced K b.checkpoint.step (checkpoint_steps (take m old.checkpoints.items)) × (last_of 0 (checkpoint_steps (take m old.checkpoints.items)) ≡ b.checkpoint.step)
   front-spaced m b =
-      subst (λ steps. IsSpaced K b.copy.step steps × (last_of 0 steps ≡ b.copy.step)) same
-      (spaced-front K (length xs) (checkpoint_steps old.checkpoints.items) (m - 1) b.copy.step kept.spaced here)
+      subst (λ steps. IsSpaced K b.checkpoint.step steps × (last_of 0 steps ≡ b.checkpoint.step)) same
+      (spaced-front K (length xs) (checkpoint_steps old.checkpoints.items) (m - 1) b.checkpoint.step kept.spaced here)
     where
       same : take (m - 1 + 1) (checkpoint_steps old.checkpoints.items) ≡ checkpoint_steps (take m old.checkpoints.items)
       same = ap (λ k. take k (checkpoint_steps old.checkpoints.items)) (let o = b.some in omega arith) ∙ take-map (λ c. c.step) m old.checkpoints.items
 
-      here : slice_get (checkpoint_steps old.checkpoints.items) (m - 1) ≡ Some b.copy.step
+      here : slice_get (checkpoint_steps old.checkpoints.items) (m - 1) ≡ Some b.checkpoint.step
       here = slice_get-map (λ c. c.step) old.checkpoints.items (m - 1) ∙ ap (option_map (λ c. c.step)) b.here

@@ -1,8 +1,8 @@
--- A frame between two runs: it passes steps that both have, past Pauli gates that are in the one or the other, and conjugates copies.
-use Rattle.stab_splices.proofs.Names.{◌≡◌, ℕ, ◌+◌, ◌≤◌, refl, sym, ◌∙◌, ap, subst, Bool, false, List, ◌++◌, append-nil, All, length, map, take, drop, replicate, Option, arith, drop-drop, drop_at, take_at, take-append-drop, length-append, length-drop, replicate-append-replicate, All-take, All-drop, take-add, Letter, I, with_sign, strings_anticommute, string_product, TableauState, stabilises, member, IsConjugated, Step, one, Lengths, gate_of, Point, RunOutput, nothing, origin, joined, point_after, outputs, all_coins_of, StepFits, lengths_of, after-append, outputs-append, joined-assoc, joined-nothing, flags-are-coins, coins-are, flipped_output, unflipped, Matches, PointsDifferBy, frame_of, identity_frame, AreFronts, frame_over, flips_over, AreTrue, same_coins, letters_on, AreEnough, PropagationState, frame_at, PropagatesOver, fronts-go-on, fronts-take-paulis, same-lengths, gates-fit, unflipped-output, unflipped-matches, framed-same, framed-paulis, framed-exchanged, true-rest, Checkpoint, IsCheckpoint, AreEnoughBy, ArePaulis, IsFrameBetween}
+-- A frame between two runs: it passes steps that both have, past Pauli gates that are in the one or the other, and conjugates checkpoints.
+use Rattle.stab_splices.proofs.Names.{◌≡◌, ℕ, ◌+◌, ◌≤◌, refl, sym, ◌∙◌, ap, subst, Bool, false, List, ◌++◌, append-nil, All, length, map, take, drop, replicate, Option, arith, drop-drop, drop_at, take_at, take-append-drop, length-append, length-drop, replicate-append-replicate, All-take, All-drop, take-add, Letter, I, with_sign, strings_anticommute, string_product, TableauState, stabilises, member, IsConjugated, Step, one, Lengths, gate_of, Point, RunOutput, nothing, origin, joined, point_after, outputs, all_coins_of, StepFits, lengths_of, after-append, outputs-append, joined-assoc, joined-nothing, flags-are-coins, coins-are, flipped_output, unflipped, Matches, PointsDifferBy, frame_of, identity_frame, AreFronts, frame_over, flips_over, AreTrue, same_coins, letters_on, AreEnough, PropagationState, frame_at, PropagatesOver, fronts-go-on, fronts-take-paulis, same-lengths, gates-fit, unflipped-output, unflipped-matches, by_frame-same, by_frame-paulis, by_frame-exchanged, true-rest, Checkpoint, IsCheckpoint, AreEnoughBy, ArePaulis, IsFrameBetween}
 use Rattle.stab_recording.proofs.FlippedLemmas.{flips-free}
-use Rattle.stab_recording.proofs.LeadingLemmas.{flags-counted, rest-flags}
-use Rattle.stab_splices.proofs.SamePivotsLemmas.{IsReached, reached-on, pivots-apart, flags-apart, gates-free}
+use Rattle.stab_recording.proofs.RestPropagatedLemmas.{flags-counted, rest-flags}
+use Rattle.stab_splices.proofs.SamePivotsLemmas.{IsReached, reached-on, pivots-distinct, flags-distinct, gates-free}
 
 -- the steps of a run up to a place are some, if this many of those after another place are
 
@@ -30,8 +30,8 @@ module _ {n : ℕ} {coins : ℕ → Bool} {xs ys : List Step} {strings : ℕ →
     piece_fits : All (StepFits n) piece
     piece_fits = All-take (StepFits n) m (drop new ys) (All-drop (StepFits n) new ys b.new_fit)
 
-    told : AreEnough n coins (same_coins strings) piece (frame_at base w) here
-    told = enough coins here base (sym b.coin) b.are_true b.flags
+    determined : AreEnough n coins (same_coins strings) piece (frame_at base w) here
+    determined = enough coins here base (sym b.coin) b.are_true b.flags
 
     frames : frame_over n (same_coins strings) piece here.coin (frame_at base w) ≡ frame_at base v
     frames = (λ i. frame_over n (same_coins strings) piece (sym b.coin i) (frame_at base w)) ∙ sym (propagated.frame base)
@@ -57,7 +57,7 @@ module _ {n : ℕ} {coins : ℕ → Bool} {xs ys : List Step} {strings : ℕ →
       fronts =
           subst (λ x. x)
           (λ i. AreFronts n coins coins (sym (steps-on old m xs piece shared) i) (sym (steps-on new m ys piece refl) i) (frames i) (flips i))
-          (fronts-go-on n coins (same_coins strings) (take old xs) (take new ys) piece (frame_at base w) (joined front w.flips) (All-take (StepFits n) old xs b.old_fit) piece_fits b.fronts told);
+          (fronts-go-on n coins (same_coins strings) (take old xs) (take new ys) piece (frame_at base w) (joined front w.flips) (All-take (StepFits n) old xs b.old_fit) piece_fits b.fronts determined);
       coin =
           propagated.coin
           ∙ ap (λ c. c + all_coins_of piece) b.coin
@@ -103,11 +103,11 @@ module _ {n : ℕ} {coins : ℕ → Bool} {xs ys : List Step} {strings : ℕ →
     rest_fits : All (StepFits n) new_rest
     rest_fits = subst (All (StepFits n)) rest_is (All-drop (StepFits n) (new + length news) ys b.new_fit)
 
-    apart : PointsDifferBy n (frame_of (string_product (letters_on n m rs) (letters_on n l qs)) (length here.records)) (point_after n coins (map (one (gate_of m)) rs) here) (point_after n coins (map (one (gate_of l)) qs) here)
-    apart = framed-exchanged n coins m l rs qs new_are.fit old_are.fit here
+    distinct : PointsDifferBy n (frame_of (string_product (letters_on n m rs) (letters_on n l qs)) (length here.records)) (point_after n coins (map (one (gate_of m)) rs) here) (point_after n coins (map (one (gate_of l)) qs) here)
+    distinct = by_frame-exchanged n coins m l rs qs new_are.fit old_are.fit here
 
-    behind : IsReached n coins (point_after n coins (map (one (gate_of m)) rs) here)
-    behind = reached-on n coins here (map (one (gate_of m)) rs) (gates-fit n m rs new_are.fit) reached
+    following : IsReached n coins (point_after n coins (map (one (gate_of m)) rs) here)
+    following = reached-on n coins here (map (one (gate_of m)) rs) (gates-fit n m rs new_are.fit) reached
 
     pub between-gates : IsFrameBetween n coins xs ys strings free base front (old + length olds) (new + length news) (record w { letters = string_product w.letters string })
     between-gates = record {
@@ -122,16 +122,16 @@ module _ {n : ℕ} {coins : ℕ → Bool} {xs ys : List Step} {strings : ℕ →
           (fronts-take-paulis n coins coins (take old xs) (take new ys) (frame_at base w) (joined front w.flips) l m qs rs old_are.fit new_are.fit b.fronts);
       coin =
           b.coin
-          ∙ sym (let same = framed-paulis n coins l qs old_are.fit here in same.coin)
+          ∙ sym (let same = by_frame-paulis n coins l qs old_are.fit here in same.coin)
           ∙ ap (λ (p : Point). p.coin) (sym there);
       are_true =
           subst (λ x. x) (λ i. AreTrue n coins strings (sym rest_is i) (sym there i))
-          (pivots-apart n coins (point_after n coins (map (one (gate_of m)) rs) here) (point_after n coins (map (one (gate_of l)) qs) here) _ new_rest rest_fits behind apart strings
+          (pivots-distinct n coins (point_after n coins (map (one (gate_of m)) rs) here) (point_after n coins (map (one (gate_of l)) qs) here) _ new_rest rest_fits following distinct strings
           (true-rest n coins strings (map (one (gate_of m)) rs) new_rest here
           (subst (λ zs. AreTrue n coins strings zs here) new_there b.are_true)));
       flags =
           (λ i. (outputs n coins (rest_is i) (there i)).free)
-          ∙ flags-apart n coins (point_after n coins (map (one (gate_of m)) rs) here) (point_after n coins (map (one (gate_of l)) qs) here) _ new_rest rest_fits behind apart
+          ∙ flags-distinct n coins (point_after n coins (map (one (gate_of m)) rs) here) (point_after n coins (map (one (gate_of l)) qs) here) _ new_rest rest_fits following distinct
           ∙ sym (gates-free n coins m rs new_rest here)
           ∙ ap (λ zs. (outputs n coins zs here).free) (sym new_there)
           ∙ b.flags;
@@ -139,17 +139,17 @@ module _ {n : ℕ} {coins : ℕ → Bool} {xs ys : List Step} {strings : ℕ →
       unflagged = b.unflagged;
     }
 
-  -- a copy of the old run, conjugated, is one of the new run
-  pub between-copy : (c : Checkpoint) (t : TableauState) → c.step ≡ old → IsCheckpoint n coins xs c → t.qubits ≡ c.tableau.qubits
+  -- a checkpoint of the old run, conjugated, is one of the new run
+  pub between-checkpoint : (c : Checkpoint) (t : TableauState) → c.step ≡ old → IsCheckpoint n coins xs c → t.qubits ≡ c.tableau.qubits
       → IsConjugated n w.letters (stabilises c.tableau) (stabilises t) → IsCheckpoint n coins ys (record { step = new; lengths = c.lengths; tableau = t })
-  between-copy c t at is qubits conjugates = record {
+  between-checkpoint c t at is qubits conjugates = record {
     within = b.new_within;
     qubits = qubits ∙ is.qubits;
     group = λ p size.
         conjugates p size
         ∙ is.group (with_sign (strings_anticommute w.letters p.letters) p) size
         ∙ ap (λ k. member (point_after n coins (take k xs) origin).trace (with_sign (strings_anticommute w.letters p.letters) p)) at
-        ∙ sym (let apart = b.fronts.framed in apart.group p size);
+        ∙ sym (let distinct = b.fronts.by_frame in distinct.group p size);
     lengths =
         is.lengths
         ∙ ap (λ k. lengths_of (outputs n coins (take k xs) origin)) at
@@ -170,9 +170,9 @@ between-first n coins xs ys strings free first number from w old_fit new_fit old
   old_within = old_within;
   new_within = new_within;
   fronts = record {
-    framed =
+    by_frame =
         subst (λ x. x) (λ i. PointsDifferBy n (frames i) (point_after n coins (take first xs) origin) (point_after n coins (same i) origin))
-        (framed-same n (point_after n coins (take first xs) origin));
+        (by_frame-same n (point_after n coins (take first xs) origin));
     given =
         ap (λ zs. outputs n coins zs origin) (sym same)
         ∙ sym (unflipped-output (outputs n coins (take first xs) origin))

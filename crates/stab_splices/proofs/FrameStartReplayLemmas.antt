@@ -1,8 +1,8 @@
--- Starts of frames: the frame by which a replay differs from an old copy, and that the two don't have the same records if it flips one.
-use Rattle.stab_splices.proofs.Names.{◌≡◌, ℕ, zero, suc, ◌-◌, ◌≤◌, refl, sym, ◌∙◌, ap, Bool, true, false, ◌⊎◌, inl, inr, List, [], ◌∷◌, ◌++◌, All, length, take, drop, get_or, replicate, arith, ◌⊕◌, TableauState, Step, ones, Point, RunOutput, origin, point_after, outputs, StepFits, program_state, flipped, PointsDifferBy, PropagationState, frame_at, Checkpoint, IsRunFromStart, IsCheckpoint, AreCompared, IsFrameFrom, HaveMoved, IsFramedAt}
-use Rattle.stab_recording.proofs.FrameStartLemmas.{seen_at, seen-same, seen-group, seen-agrees, seen-differs, own, own_coin, olds_are, short, copy_coin}
+-- Starts of frames: the frame by which a replay differs from an old checkpoint, and that the two don't have the same records if it flips one.
+use Rattle.stab_splices.proofs.Names.{◌≡◌, ℕ, zero, suc, ◌-◌, ◌≤◌, refl, sym, ◌∙◌, ap, Bool, true, false, ◌⊎◌, inl, inr, List, [], ◌∷◌, ◌++◌, All, length, take, drop, get_or, replicate, arith, ◌⊕◌, TableauState, Step, ones, Point, RunOutput, origin, point_after, outputs, StepFits, program_state, flipped, PointsDifferBy, PropagationState, frame_at, Checkpoint, IsRunFromStart, IsCheckpoint, AreCompared, IsFrameFrom, HaveMoved, IsPropagatedAt}
+use Rattle.stab_recording.proofs.FrameStartLemmas.{seen_at, seen-same, seen-group, seen-agrees, seen-differs, own, own_coin, olds_are, short, checkpoint_coin}
 
--- the frame from an old copy begins at a point that has the old run's newest records, and the new one's numbers
+-- the frame from an old checkpoint begins at a point that has the old run's newest records, and the new one's numbers
 module _ (n : ℕ) (coins : ℕ → Bool) (xs ys : List Step) (k : ℕ) (c : Checkpoint) (t : TableauState) (o old : RunOutput) (base window : ℕ) (w : PropagationState)
     (qubits : t.qubits ≡ n) (is : IsCheckpoint n coins xs c) (kept : old ≡ outputs n coins xs origin) (run : IsRunFromStart n coins (take k ys) (program_state t o))
     (within : base ≤ length o.records) (same : take base o.records ≡ take base old.records) (fits : All (StepFits n) xs)
@@ -13,23 +13,23 @@ module _ (n : ℕ) (coins : ℕ → Bool) (xs ys : List Step) (k : ℕ) (c : Che
   abbrev there : Point
   there = point_after n coins (take k ys) origin
 
-  told : AreCompared o base window c from.compared → ((seen_at n coins xs ys k c t o old base window w qubits is kept run within same fits from).records ≡ here.records) ⊎ HaveMoved here there
-  told (inl alike) = inl (seen-same n coins xs ys k c t o old base window w qubits is kept run within same fits from alike)
-  told (inr moved) =
+  determined : AreCompared o base window c from.compared → ((seen_at n coins xs ys k c t o old base window w qubits is kept run within same fits from).records ≡ here.records) ⊎ HaveMoved here there
+  determined (inl alike) = inl (seen-same n coins xs ys k c t o old base window w qubits is kept run within same fits from alike)
+  determined (inr moved) =
       inr
       (elim moved.3 [
-        | inl apart ↦ inl (λ e. apart (own_coin n coins xs ys k c t o old base window w qubits is kept run within same fits from ∙ sym e ∙ sym (copy_coin n coins xs ys k c t o old base window w qubits is kept run within same fits from)))
-        | inr apart ↦ inr (λ e. apart (ap length (own n coins xs ys k c t o old base window w qubits is kept run within same fits from) ∙ sym e ∙ ap length (sym (olds_are n coins xs ys k c t o old base window w qubits is kept run within same fits from)) ∙ short n coins xs ys k c t o old base window w qubits is kept run within same fits from))
+        | inl distinct ↦ inl (λ e. distinct (own_coin n coins xs ys k c t o old base window w qubits is kept run within same fits from ∙ sym e ∙ sym (checkpoint_coin n coins xs ys k c t o old base window w qubits is kept run within same fits from)))
+        | inr distinct ↦ inr (λ e. distinct (ap length (own n coins xs ys k c t o old base window w qubits is kept run within same fits from) ∙ sym e ∙ ap length (sym (olds_are n coins xs ys k c t o old base window w qubits is kept run within same fits from)) ∙ short n coins xs ys k c t o old base window w qubits is kept run within same fits from))
       ])
 
-  pub frame-begins : IsFramedAt n coins xs ys c.step k old.free (length o.records - from.compared) window w
+  pub frame-begins : IsPropagatedAt n coins xs ys c.step k old.free (length o.records - from.compared) window w
   frame-begins = record {
     seen = seen_at n coins xs ys k c t o old base window w qubits is kept run within same fits from;
     group = seen-group n coins xs ys k c t o old base window w qubits is kept run within same fits from;
     agree = seen-agrees n coins xs ys k c t o old base window w qubits is kept run within same fits from;
-    framed = seen-differs n coins xs ys k c t o old base window w qubits is kept run within same fits from;
-    coin = from.coin ∙ copy_coin n coins xs ys k c t o old base window w qubits is kept run within same fits from;
-    told = told from.are_compared;
+    by_frame = seen-differs n coins xs ys k c t o old base window w qubits is kept run within same fits from;
+    coin = from.coin ∙ checkpoint_coin n coins xs ys k c t o old base window w qubits is kept run within same fits from;
+    determined = determined from.are_compared;
     placed = from.placed;
   }
 
@@ -45,10 +45,10 @@ flipped-ones (bit ∷ bits) (true ∷ flips) size same = absurd (differ bit (ap 
     differ b e = grind arith
 flipped-ones (bit ∷ bits) (false ∷ flips) size same = flipped-ones bits flips (omega (arith, size)) (ap (drop 1) same)
 
-ones-behind : (base : ℕ) (flips : List Bool) → ones (replicate base false ++ flips) ≡ ones flips
-ones-behind zero flips = refl
-ones-behind (suc base) flips = ones-behind base flips
+ones-following : (base : ℕ) (flips : List Bool) → ones (replicate base false ++ flips) ≡ ones flips
+ones-following zero flips = refl
+ones-following (suc base) flips = ones-following base flips
 
 pub flips-differ : (n base : ℕ) (w : PropagationState) (a b : Point) → PointsDifferBy n (frame_at base w) a b → 1 ≤ ones w.flips.records → a.records ≡ b.records → ⊥
-flips-differ n base w a b framed some same =
-    absurd (omega (arith, some, ones-behind base w.flips.records, flipped-ones a.records (replicate base false ++ w.flips.records) framed.count (same ∙ framed.records)))
+flips-differ n base w a b by_frame some same =
+    absurd (omega (arith, some, ones-following base w.flips.records, flipped-ones a.records (replicate base false ++ w.flips.records) by_frame.count (same ∙ by_frame.records)))

@@ -1,17 +1,17 @@
 mod Names
-pub mod FramedLemmas
+pub mod PropagatedPointLemmas
 pub mod FrameStartReplayLemmas
 pub mod FlippedReplayLemmas
 pub mod EndingLemmas
 pub mod RestFrameLemmas
 pub mod RestLemmas
-pub mod PropagatedCopyLemmas
+pub mod PropagatedCheckpointLemmas
 mod LengthLemmas
 pub mod SamePivotsLemmas
 pub mod PauliSpanLemmas
 pub mod FrameBetweenLemmas
 mod PlaceLemmas
-pub mod FramedRunLemmas
+pub mod PropagatedRunLemmas
 mod RecordedLemmas
 mod FollowLemmas
 mod CountLemmas
@@ -23,4 +23,4 @@ mod StateLemmas
 mod ConjugateSpacingLemmas
 mod FlipSignLemmas
 mod ConjugatingLemmas
-mod TellLemmas
+mod DetermineLemmas

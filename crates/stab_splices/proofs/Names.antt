@@ -9,7 +9,7 @@ pub use Rattle.std.proofs.lemmas.List.{take-append-drop, drop-drop, length-take-
 pub use Rattle.std.proofs.lemmas.List.Elements.{All-drop, All-head, All-tail, All-weaker, All-get_or, All-take, All-append, All-nil, All-cons, All-map}
 pub use Rattle.std.proofs.lemmas.Option.{get_or_from_slice_get, slice_get-map, slice_get_within, same_Some, IfSome_then, slice_get-get_or, slice_get_read}
 pub use Rattle.std.specs.Prelude.{IfSome, if◌then◌else◌, nat_le, MatchOption, Result, IfOk, Ok, Err, OnErr}
-pub use Rattle.stab_edits.specs.Cursors.{IsApart, steps_shown, lookbacks_of}
+pub use Rattle.stab_edits.specs.Cursors.{HasDistinctQubits, steps_shown, lookbacks_of}
 pub use Rattle.stab_edits.specs.Repeats.{AreRepeats}
 pub use Rattle.stab_edits.specs.Rounds.{interleaved}
 pub use Rattle.stab_items.specs.Steps.{Step, looks_too_far, one, two, controlled, collapse, product, detector, observable, controlled_step, measured, unroll, check_within, records_of, observables_of}
@@ -18,14 +18,14 @@ pub use Rattle.stab_edits.specs.declared.edit.Span.{Span}
 pub use Rattle.stab_frames.proofs.AgainLemmas.{looks-front, true-conjugated}
 pub use Rattle.stab_frames.proofs.EditLemmas.{fronts-go-on, fronts-take-paulis, same-lengths, gates-fit}
 pub use Rattle.stab_frames.proofs.FlipLemmas.{flipped-empty, flipped-joined, flipped-nothing, additions-empty, unflipped-output, unflipped-matches, looked_up-flipped}
-pub use Rattle.stab_frames.proofs.FramedLemmas.{conjugated-blank, conjugated-stabiliser}
+pub use Rattle.stab_frames.proofs.PropagatedPointLemmas.{conjugated-blank, conjugated-stabiliser}
 pub use Rattle.stab_frames.proofs.FrontLemmas.{group-origin, gates-give-nothing}
 pub use Rattle.stab_frames.proofs.PivotLemmas.{enough-before, right-enough}
 pub use Rattle.stab_frames.proofs.RunPivotLemmas.{run-pivots}
-pub use Rattle.stab_frames.proofs.StartLemmas.{framed-same, framed-paulis, framed-exchanged}
-pub use Rattle.stab_frames.proofs.StepLemmas.{over-framed, outputs-matches}
+pub use Rattle.stab_frames.proofs.StartLemmas.{by_frame-same, by_frame-paulis, by_frame-exchanged}
+pub use Rattle.stab_frames.proofs.StepLemmas.{over-by_frame, outputs-matches}
 pub use Rattle.stab_frames.proofs.TrueLemmas.{true-front, true-rest, true-append}
-pub use Rattle.stab_frames.specs.AgainLaws.{AreFramedOver}
+pub use Rattle.stab_frames.specs.AgainLaws.{ArePropagatedOver}
 pub use Rattle.stab_frames.specs.Ends.{MayHaveCoin}
 pub use Rattle.stab_frames.specs.Flips.{flipped_output, flipped, flipped_additions, Matches, unflipped}
 pub use Rattle.stab_frames.specs.FrameSteps.{frame_over, flips_over}
@@ -71,18 +71,18 @@ pub use Rattle.stab_tableau.specs.Tableaus.{TableauState, stabilises}
 pub use Rattle.stab_tableau.specs.Traces.{member}
 pub use Rattle.stab_recording.specs.Checkpoints.{IsCheckpoint, checkpoint_steps, IsRunFromStart}
 pub use Rattle.stab_splices.specs.Counts.{last_until, MayBeMet, EndsAt, NoneBefore, IsCounted}
-pub use Rattle.stab_recording.specs.FramedReplays.{IsOldRun, HaveMoved, IsFramedAt, HaveSameFuture}
+pub use Rattle.stab_recording.specs.PropagatedReplays.{IsOldRun, HaveMoved, IsPropagatedAt, HaveSameFuture}
 pub use Rattle.stab_recording.specs.FramesFrom.{flips_since, AreCompared, IsFrameFrom}
-pub use Rattle.stab_recording.specs.LaidCheckpoints.{laid, all_laid, moved, moved_copy, moved_lengths}
+pub use Rattle.stab_recording.specs.SavedCheckpoints.{saved, all_saved, moved, moved_checkpoint, moved_lengths}
 pub use Rattle.stab_splices.specs.LongerLists.{longer, AreBelow}
 pub use Rattle.stab_recording.specs.Meets.{Meets}
 pub use Rattle.stab_splices.specs.PassedPlaces.{IsFrameBetween, IsBeforePiece, IsBeforePlaces}
 pub use Rattle.stab_splices.specs.PauliSpans.{ArePaulis, DifferByPaulis, DifferAtPlaces}
 pub use Rattle.stab_recording.specs.PivotLists.{KeepsPivots, IsSpliced}
 pub use Rattle.stab_rounds.specs.Spans.{IsSpan}
-pub use Rattle.stab_splices.specs.Recordings.{IsRecording, AgreeBehindSpan, AgreeBackBehindSpan, IsSameRecording, Follows}
-pub use Rattle.stab_recording.specs.Replays.{MeetsAt, Misses, EndsSoon, step_among_new, IsReplay, Ascending, IsEnd, IsFramed, IsAtStep}
-pub use Rattle.stab_recording.specs.RestFrames.{AreInOrder, with_states, AreFramedCheckpoints, IsRestFrame, IsDropped, Ending, over, gone, dropped, AreEnoughBy, IsLastApart}
+pub use Rattle.stab_splices.specs.Recordings.{IsRecording, AgreeAfterSpan, AgreeBackAfterSpan, IsSameRecording, Follows}
+pub use Rattle.stab_recording.specs.Replays.{MeetsAt, Misses, EndsSoon, step_among_new, IsReplay, Ascending, IsEnd, IsPropagated, IsAtStep}
+pub use Rattle.stab_recording.specs.RestFrames.{AreInOrder, with_states, ArePropagatedCheckpoints, IsRestFrame, IsDropped, Ending, over, gone, dropped, AreEnoughBy, IsLastDiffering}
 pub use Rattle.stab_recording.specs.Spacing.{Near, last_of, IsSpaced, Sparse}
 pub use Rattle.stab_recording.specs.declared.checkpoint.Checkpoint.{Checkpoint}
 pub use Rattle.stab_recording.specs.declared.checkpoint.Meeting.{Meeting}
@@ -94,11 +94,11 @@ pub use Rattle.stab_splices.specs.declared.recording.Prepared.{Prepared}
 pub use Rattle.stab_splices.specs.declared.recording.Recording.{Recording}
 pub use Rattle.stab_splices.specs.declared.recording.Rest.{Rest}
 pub use Rattle.stab_recording.specs.declared.replay.End.{End}
-pub use Rattle.stab_recording.specs.declared.replay.End.TheVariants.{Last, Joined, Framed}
+pub use Rattle.stab_recording.specs.declared.replay.End.TheVariants.{Last, Joined, Propagated}
 pub use Rattle.stab_recording.specs.declared.replay.Plan.{Plan}
 pub use Rattle.stab_recording.specs.declared.replay.Replay.{Replay}
 pub use Rattle.stab_splices.specs.declared.rest.OldRest.{OldRest}
 pub use Rattle.stab_recording.specs.declared.rest_frame.RestFrame.{RestFrame}
-pub use Rattle.stab_splices.specs.inner.FramedRecordings.{StaysNear, span_meeting, IsPut, HasConjugated, copies_conjugated, IsPastPlaces, IsConjugating, no_lengths}
-pub use Rattle.stab_splices.specs.inner.OldRests.{conjugated_end, copies_moved, HasRoomFor}
-pub use Rattle.stab_splices.specs.inner.Prepared.{IsCount, Begins, HasCopy, IsRest, IsOldRest, IsPrepared, IsCommitted, copies_behind, end_of, no_frame, IsTableauBehind, meeting_of, HasRoom, end_of as stop_of}
+pub use Rattle.stab_splices.specs.inner.PropagatedRecordings.{StaysNear, span_meeting, IsPut, HasConjugated, checkpoints_conjugated, IsPastPlaces, IsConjugating, no_lengths}
+pub use Rattle.stab_splices.specs.inner.OldRests.{conjugated_end, checkpoints_moved, HasRoomFor}
+pub use Rattle.stab_splices.specs.inner.Prepared.{IsCount, Begins, HasCheckpoint, IsRest, IsOldRest, IsPrepared, IsCommitted, checkpoints_after, end_of, no_frame, IsTableauAfter, meeting_of, HasRoom, end_of as stop_of}

@@ -12,18 +12,18 @@ interleaved-look-within : (window : ℕ) (olds news : List Step) (pieces : List 
     → All (LooksWithin window) (interleaved olds pieces ++ back) → All (LooksWithin window) (interleaved news pieces ++ back)
 interleaved-look-within window olds news [] back gates near = near
 interleaved-look-within window olds news (p ∷ ps) back gates near =
-    subst (All (LooksWithin window)) (sym (apart news (interleaved news ps)))
+    subst (All (LooksWithin window)) (sym (regrouped news (interleaved news ps)))
     (All-append (LooksWithin window) news (p ++ (interleaved news ps ++ back)) gates
     (All-append (LooksWithin window) p (interleaved news ps ++ back) (all-front (LooksWithin window) p (interleaved olds ps ++ back) later)
     (interleaved-look-within window olds news ps back gates (all-rest (LooksWithin window) p (interleaved olds ps ++ back) later))))
   where
-    apart : (gates more : List Step) → gates ++ (p ++ more) ++ back ≡ gates ++ (p ++ (more ++ back))
-    apart gates more = append_assoc gates (p ++ more) back ∙ ap (λ l. gates ++ l) (append_assoc p more back)
+    regrouped : (gates more : List Step) → gates ++ (p ++ more) ++ back ≡ gates ++ (p ++ (more ++ back))
+    regrouped gates more = append_assoc gates (p ++ more) back ∙ ap (λ l. gates ++ l) (append_assoc p more back)
 
     later : All (LooksWithin window) (p ++ (interleaved olds ps ++ back))
     later =
         all-rest (LooksWithin window) olds (p ++ (interleaved olds ps ++ back))
-        (subst (All (LooksWithin window)) (apart olds (interleaved olds ps)) near)
+        (subst (All (LooksWithin window)) (regrouped olds (interleaved olds ps)) near)
 
 -- the steps from one place on, by those up to another
 left-is : (first end : ℕ) (xs zs : List Step) → first ≤ end → take (end - first) (drop first xs) ≡ zs → drop first xs ≡ zs ++ drop end xs
@@ -41,7 +41,7 @@ module _ {n : ℕ} {xs ys : List Step} {s : Span} {letters : List Letter} {i j :
   pub new-left : drop s.first ys ≡ interleaved d.new_gates d.pieces ++ drop s.new_end ys
   new-left = left-is s.first s.new_end ys (interleaved d.new_gates d.pieces) new_order d.new
 
-  module _ (front : take s.first xs ≡ take s.first ys) (behind : drop s.old_end xs ≡ drop s.new_end ys) where
+  module _ (front : take s.first xs ≡ take s.first ys) (following : drop s.old_end xs ≡ drop s.new_end ys) where
     -- the one looks back no further than the other
     pub span-near : (window : ℕ) → All (LooksWithin window) xs → All (LooksWithin window) ys
     span-near window near =
@@ -51,14 +51,14 @@ module _ {n : ℕ} {xs ys : List Step} {s : Span} {letters : List Letter} {i j :
         (subst (All (LooksWithin window)) (sym new-left)
         (interleaved-look-within window d.old_gates d.new_gates d.pieces (drop s.new_end ys)
         (subst (All (LooksWithin window)) (sym d.new_are.steps) (gates-look-within window d.new_letter d.new_qubits))
-        (subst (All (LooksWithin window)) (old-left ∙ ap (λ zs. interleaved d.old_gates d.pieces ++ zs) behind) (All-drop (LooksWithin window) s.first xs near)))))
+        (subst (All (LooksWithin window)) (old-left ∙ ap (λ zs. interleaved d.old_gates d.pieces ++ zs) following) (All-drop (LooksWithin window) s.first xs near)))))
 
     module _ (coins : ℕ → Bool) (strings : ℕ → Option (List Letter)) (old_fit : All (StepFits n) xs) (new_fit : All (StepFits n) ys) where
       abbrev here : Point
       here = point_after n coins (take s.first xs) origin
 
       olds_are : drop s.first xs ≡ interleaved (map (one (gate_of d.old_letter)) d.old_qubits) d.pieces ++ drop s.new_end ys
-      olds_are = old-left ∙ (λ t. interleaved (d.old_are.steps t) d.pieces ++ behind t)
+      olds_are = old-left ∙ (λ t. interleaved (d.old_are.steps t) d.pieces ++ following t)
 
       news_are : drop s.first ys ≡ interleaved (map (one (gate_of d.new_letter)) d.new_qubits) d.pieces ++ drop s.new_end ys
       news_are = new-left ∙ (λ t. interleaved (d.new_are.steps t) d.pieces ++ drop s.new_end ys)

@@ -1,6 +1,6 @@
 -- Places: a frame between two runs on its way past the places of a change.
 use Rattle.stab_splices.proofs.Names.{◌≡◌, ℕ, zero, suc, ◌+◌, ◌-◌, ◌<◌, ◌≤◌, min, refl, sym, ◌∙◌, ap, subst, Bool, List, [], ◌∷◌, ◌++◌, append_assoc, All, length, map, take, drop, Option, get_or, arith, drop-drop, drop-take, drop_at, take_at, take-take, length-append, length-drop, All-nil, All-cons, All-append, All-get_or, Letter, string_product, TableauState, stabilises, IsConjugated, Step, Span, RunOutput, PropagationState, PropagatesOver, Checkpoint, IsCheckpoint, AreEnoughBy, interleaved, DifferAtPlaces, IsFrameBetween, IsBeforePiece, IsBeforePlaces, PauliChange}
-use Rattle.stab_splices.proofs.FrameBetweenLemmas.{between-steps, between-gates, between-copy}
+use Rattle.stab_splices.proofs.FrameBetweenLemmas.{between-steps, between-gates, between-checkpoint}
 use Rattle.stab_splices.proofs.PauliSpanLemmas.{old-left, new-left}
 
 -- it went past this many places
@@ -65,20 +65,20 @@ module _ {n : ℕ} {coins : ℕ → Bool} {xs ys : List Step} {strings : ℕ →
       abbrev new_more : List Step
       new_more = next.0 ++ (interleaved d.differ.new_gates next.1 ++ drop s.new_end ys)
 
-      apart : (olds more back : List Step) → olds ++ (next.0 ++ more) ++ back ≡ olds ++ (next.0 ++ (more ++ back))
-      apart olds more back = append_assoc olds (next.0 ++ more) back ∙ ap (λ l. olds ++ l) (append_assoc next.0 more back)
+      distinct : (olds more back : List Step) → olds ++ (next.0 ++ more) ++ back ≡ olds ++ (next.0 ++ (more ++ back))
+      distinct olds more back = append_assoc olds (next.0 ++ more) back ∙ ap (λ l. olds ++ l) (append_assoc next.0 more back)
 
       old_is : drop old xs ≡ d.differ.old_gates ++ old_more
       old_is =
           u.old_left
           ∙ ap (λ pieces. interleaved d.differ.old_gates pieces ++ drop s.old_end xs) next.2
-          ∙ apart d.differ.old_gates (interleaved d.differ.old_gates next.1) (drop s.old_end xs)
+          ∙ distinct d.differ.old_gates (interleaved d.differ.old_gates next.1) (drop s.old_end xs)
 
       new_is : drop new ys ≡ d.differ.new_gates ++ new_more
       new_is =
           u.new_left
           ∙ ap (λ pieces. interleaved d.differ.new_gates pieces ++ drop s.new_end ys) next.2
-          ∙ apart d.differ.new_gates (interleaved d.differ.new_gates next.1) (drop s.new_end ys)
+          ∙ distinct d.differ.new_gates (interleaved d.differ.new_gates next.1) (drop s.new_end ys)
 
       old_there : drop (old + change.old) xs ≡ old_more
       old_there = sym (drop-drop change.old old xs) ∙ ap (drop change.old) old_is ∙ drop_at d.differ.old_gates old_more change.old d.differ.old_counted
@@ -145,14 +145,14 @@ module _ {n : ℕ} {coins : ℕ → Bool} {xs ys : List Step} {strings : ℕ →
         }
 
         -- and after the piece there it is before the place after it
-        pub under-way-next : (old_behind new_behind : ℕ) (left_next left_behind : List Step) (v : PropagationState) → left_next ≡ drop change.new left → left_behind ≡ drop gap left_next
-            → old_behind ≡ min (old_next + gap) 18446744073709551615 → new_behind ≡ min (new_next + gap) 18446744073709551615
+        pub under-way-next : (old_after new_after : ℕ) (left_next left_after : List Step) (v : PropagationState) → left_next ≡ drop change.new left → left_after ≡ drop gap left_next
+            → old_after ≡ min (old_next + gap) 18446744073709551615 → new_after ≡ min (new_next + gap) 18446744073709551615
             → IsFrameBetween n coins xs ys strings free base front (old_next + gap) (new_next + gap) v
-            → IsUnderWay n coins xs ys strings free base front s change d.differ.old_gates d.differ.new_gates (j + 1) old_behind new_behind left_behind v
-        under-way-next old_behind new_behind left_next left_behind v rest behind old_sum_behind new_sum_behind there = record {
+            → IsUnderWay n coins xs ys strings free base front s change d.differ.old_gates d.differ.new_gates (j + 1) old_after new_after left_after v
+        under-way-next old_after new_after left_next left_after v rest following old_sum_after new_sum_after there = record {
           between = subst (λ x. x) (λ i. IsFrameBetween n coins xs ys strings free base front (sym old_is_at i) (sym new_is_at i) v) there;
           left_is =
-              behind
+              following
               ∙ ap (drop gap) (rest ∙ ap (drop change.new) u.left_is ∙ drop-drop change.new new ys ∙ ap (λ k. drop k ys) (sym new_at))
               ∙ drop-drop gap new_next ys
               ∙ ap (λ k. drop k ys) (sym new_is_at);
@@ -170,55 +170,55 @@ module _ {n : ℕ} {coins : ℕ → Bool} {xs ys : List Step} {strings : ℕ →
               ∙ drop_at next.0 (interleaved d.differ.new_gates next.1 ++ drop s.new_end ys) gap next.3;
         }
           where
-            old_is_at : old_behind ≡ old_next + gap
-            old_is_at = let f = d.old_few in omega (arith, old_sum_behind, old_at, old_long, f)
+            old_is_at : old_after ≡ old_next + gap
+            old_is_at = let f = d.old_few in omega (arith, old_sum_after, old_at, old_long, f)
 
-            new_is_at : new_behind ≡ new_next + gap
-            new_is_at = let f = d.new_few in omega (arith, new_sum_behind, new_at, new_long, f)
+            new_is_at : new_after ≡ new_next + gap
+            new_is_at = let f = d.new_few in omega (arith, new_sum_after, new_at, new_long, f)
 
 -- a frame between two runs on its way over a piece that both have
 
 module _ {n : ℕ} {coins : ℕ → Bool} {xs ys : List Step} {strings : ℕ → Option (List Letter)} {free : List Bool} {base : ℕ} {front : RunOutput} {old new gap : ℕ} {left : List Step} {w : PropagationState}
     (b : IsBeforePiece n coins xs ys strings free base front old new gap left w) where
-  pub piece-on : (gone behind : ℕ) (now later : PropagationState) (here : List Step) → gone ≤ behind → behind ≤ gap → here ≡ drop gone left
-      → IsFrameBetween n coins xs ys strings free base front (old + gone) (new + gone) now → (k : ℕ) → k ≡ n → PropagatesOver k strings (take (behind - gone) here) now later
-      → AreEnoughBy k strings free here (behind - gone) now → IsFrameBetween n coins xs ys strings free base front (old + behind) (new + behind) later
-  piece-on gone behind now later here from to here_is there k size propagated enough =
+  pub piece-on : (gone following : ℕ) (now later : PropagationState) (here : List Step) → gone ≤ following → following ≤ gap → here ≡ drop gone left
+      → IsFrameBetween n coins xs ys strings free base front (old + gone) (new + gone) now → (k : ℕ) → k ≡ n → PropagatesOver k strings (take (following - gone) here) now later
+      → AreEnoughBy k strings free here (following - gone) now → IsFrameBetween n coins xs ys strings free base front (old + following) (new + following) later
+  piece-on gone following now later here from to here_is there k size propagated enough =
       subst (λ x. x) (λ i. IsFrameBetween n coins xs ys strings free base front (sum old i) (sum new i) later)
-      (between-steps there (behind - gone) later (half old xs ∙ ap (λ zs. take (behind - gone) (drop gone zs)) b.shared ∙ sym (half new ys))
+      (between-steps there (following - gone) later (half old xs ∙ ap (λ zs. take (following - gone) (drop gone zs)) b.shared ∙ sym (half new ys))
       (omega (arith, from, to, b.old_within)) (omega (arith, from, to, b.new_within))
-      (subst (λ x. x) (λ i. PropagatesOver (size i) strings (take (behind - gone) (left_is i)) now later) propagated)
-      (subst (λ x. x) (λ i. AreEnoughBy (size i) strings free (left_is i) (behind - gone) now) enough))
+      (subst (λ x. x) (λ i. PropagatesOver (size i) strings (take (following - gone) (left_is i)) now later) propagated)
+      (subst (λ x. x) (λ i. AreEnoughBy (size i) strings free (left_is i) (following - gone) now) enough))
     where
       left_is : here ≡ drop (new + gone) ys
       left_is = here_is ∙ ap (drop gone) b.left_is ∙ drop-drop gone new ys
 
-      sum : (i : ℕ) → i + gone + (behind - gone) ≡ i + behind
+      sum : (i : ℕ) → i + gone + (following - gone) ≡ i + following
       sum i = omega (arith, from)
 
-      half : (i : ℕ) (zs : List Step) → take (behind - gone) (drop (i + gone) zs) ≡ take (behind - gone) (drop gone (take gap (drop i zs)))
+      half : (i : ℕ) (zs : List Step) → take (following - gone) (drop (i + gone) zs) ≡ take (following - gone) (drop gone (take gap (drop i zs)))
       half i zs =
-          ap (take (behind - gone)) (sym (drop-drop gone i zs))
-          ∙ sym (take-take (behind - gone) (gap - gone) (drop gone (drop i zs)) (omega (arith, from, to)))
-          ∙ ap (take (behind - gone)) (sym (drop-take gone (gap - gone) (drop i zs)))
-          ∙ ap (λ m. take (behind - gone) (drop gone (take m (drop i zs)))) {x = gone + (gap - gone)} {y = gap} (omega (arith, from, to))
+          ap (take (following - gone)) (sym (drop-drop gone i zs))
+          ∙ sym (take-take (following - gone) (gap - gone) (drop gone (drop i zs)) (omega (arith, from, to)))
+          ∙ ap (take (following - gone)) (sym (drop-take gone (gap - gone) (drop i zs)))
+          ∙ ap (λ m. take (following - gone) (drop gone (take m (drop i zs)))) {x = gone + (gap - gone)} {y = gap} (omega (arith, from, to))
 
-  -- a copy that is there is made one of the new run
-  pub copy-on : (behind : ℕ) (v : PropagationState) → behind ≤ gap → IsFrameBetween n coins xs ys strings free base front (old + behind) (new + behind) v
-      → (copies passed after : List Checkpoint) (j : ℕ) (c : Checkpoint) (t : TableauState) (letters : List Letter) (step : ℕ) → c ≡ get_or copies j c → j < length copies
-      → old + behind ≡ c.step → step ≡ min (new + behind) 18446744073709551615 → t.qubits ≡ c.tableau.qubits → letters ≡ v.letters
+  -- a checkpoint that is there is made one of the new run
+  pub checkpoint-on : (following : ℕ) (v : PropagationState) → following ≤ gap → IsFrameBetween n coins xs ys strings free base front (old + following) (new + following) v
+      → (checkpoints passed after : List Checkpoint) (j : ℕ) (c : Checkpoint) (t : TableauState) (letters : List Letter) (step : ℕ) → c ≡ get_or checkpoints j c → j < length checkpoints
+      → old + following ≡ c.step → step ≡ min (new + following) 18446744073709551615 → t.qubits ≡ c.tableau.qubits → letters ≡ v.letters
       → IsConjugated c.tableau.qubits letters (stabilises c.tableau) (stabilises t) → after ≡ passed ++ record { step = step; lengths = c.lengths; tableau = t } ∷ []
-      → All (IsCheckpoint n coins xs) copies → All (IsCheckpoint n coins ys) passed → All (IsCheckpoint n coins ys) after
-  copy-on behind v to there copies passed after j c t letters step same lt at sum qubits read conjugated put are before =
+      → All (IsCheckpoint n coins xs) checkpoints → All (IsCheckpoint n coins ys) passed → All (IsCheckpoint n coins ys) after
+  checkpoint-on following v to there checkpoints passed after j c t letters step same lt at sum qubits read conjugated put are before =
       subst (All (IsCheckpoint n coins ys)) (sym put)
       (All-append (IsCheckpoint n coins ys) passed (record { step = step; lengths = c.lengths; tableau = t } ∷ []) before
       (All-cons (IsCheckpoint n coins ys) (record { step = step; lengths = c.lengths; tableau = t }) []
       (subst (λ k. IsCheckpoint n coins ys (record { step = k; lengths = c.lengths; tableau = t })) (sym place)
-      (between-copy there c t (sym at) is qubits (subst (λ x. x) (λ i. IsConjugated (is.qubits i) (read i) (stabilises c.tableau) (stabilises t)) conjugated)))
+      (between-checkpoint there c t (sym at) is qubits (subst (λ x. x) (λ i. IsConjugated (is.qubits i) (read i) (stabilises c.tableau) (stabilises t)) conjugated)))
       (All-nil (IsCheckpoint n coins ys))))
     where
       is : IsCheckpoint n coins xs c
-      is = subst (IsCheckpoint n coins xs) (sym same) (All-get_or (IsCheckpoint n coins xs) copies j c lt are)
+      is = subst (IsCheckpoint n coins xs) (sym same) (All-get_or (IsCheckpoint n coins xs) checkpoints j c lt are)
 
-      place : step ≡ new + behind
+      place : step ≡ new + following
       place = omega (arith, sum, to, b.new_within, b.few)

@@ -43,7 +43,7 @@ nothing-follows n coins K r kept ys end is = record {
     old_within = omega arith;
     new_within = omega (arith, is);
     before = refl;
-    behind = sym (drop_all end ys (omega (arith, is)));
+    following = sym (drop_all end ys (omega (arith, is)));
   };
   differ = tt;
 }

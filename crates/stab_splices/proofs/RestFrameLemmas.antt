@@ -1,5 +1,5 @@
 -- Frames over the rest: what is so at each point after, if a frame was propagated over all steps, or some of them and then ended.
-use Rattle.stab_splices.proofs.Names.{◌≡◌, ℕ, ◌+◌, ◌-◌, ◌≤◌, sym, ◌∙◌, ap, subst, Bool, false, ◌⊎◌, inl, inr, List, ◌++◌, All, Option, length, take, drop, replicate, arith, cases_lt, take_all, take-take, replicate-append-replicate, All-take, All-drop, take-add, Letter, ◌⊕◌, member, IsStabiliserGroup, IsConjugated, Step, looked_up, ones, Point, RunOutput, joined, point_after, outputs, all_coins_of, StepFits, lengths_of, AgreeAt, AgreeBack, same-future, same-future-back, after-append, outputs-append, flipped_output, Frame, PointsDifferBy, frame_over, flips_over, LooksWithin, same_coins, AreEnough, PropagationState, frame_at, PropagatesOver, looked_up-flipped, enough-before, over-framed, outputs-matches, conjugated-blank, same-lengths}
+use Rattle.stab_splices.proofs.Names.{◌≡◌, ℕ, ◌+◌, ◌-◌, ◌≤◌, sym, ◌∙◌, ap, subst, Bool, false, ◌⊎◌, inl, inr, List, ◌++◌, All, Option, length, take, drop, replicate, arith, cases_lt, take_all, take-take, replicate-append-replicate, All-take, All-drop, take-add, Letter, ◌⊕◌, member, IsStabiliserGroup, IsConjugated, Step, looked_up, ones, Point, RunOutput, joined, point_after, outputs, all_coins_of, StepFits, lengths_of, AgreeAt, AgreeBack, same-future, same-future-back, after-append, outputs-append, flipped_output, Frame, PointsDifferBy, frame_over, flips_over, LooksWithin, same_coins, AreEnough, PropagationState, frame_at, PropagatesOver, looked_up-flipped, enough-before, over-by_frame, outputs-matches, conjugated-blank, same-lengths}
 use Rattle.stab_recording.proofs.FlippedLemmas.{flips-free}
 use Rattle.stab_splices.proofs.FrameStartReplayLemmas.{flips-differ}
 use Rattle.stab_recording.proofs.RecordedReplayLemmas.{near-enough}
@@ -40,11 +40,11 @@ pub record IsPropagatedOver (n : ℕ) (coins : ℕ → Bool) (strings : ℕ → 
   pub fits : All (StepFits n) back
   pub near : All (LooksWithin window) back
   pub group : IsStabiliserGroup n (member a.trace)
-  pub framed : PointsDifferBy n (frame_at base old) a b
+  pub by_frame : PointsDifferBy n (frame_at base old) a b
   pub coin : a.coin ≡ old.coin
   pub within : steps ≤ length back
   pub propagated : PropagatesOver n strings (take steps back) old last
-  pub told : AreEnough n coins (same_coins strings) (take steps back) (frame_at base old) a
+  pub determined : AreEnough n coins (same_coins strings) (take steps back) (frame_at base old) a
 
 module _ {n : ℕ} {coins : ℕ → Bool} {strings : ℕ → Option (List Letter)} {window : ℕ} {back : List Step} {a b : Point} {base : ℕ} {old last : PropagationState} {steps : ℕ}
     (o : IsPropagatedOver n coins strings window back a b base old last steps) where
@@ -53,9 +53,9 @@ module _ {n : ℕ} {coins : ℕ → Bool} {strings : ℕ → Option (List Letter
       → (outputs n coins (take m back) b ≡ flipped_output (outputs n coins (take m back) a) (flips_over n (same_coins strings) (take m back) a.coin (frame_at base old)))
       × PointsDifferBy n (frame_over n (same_coins strings) (take m back) a.coin (frame_at base old)) (point_after n coins (take m back) a) (point_after n coins (take m back) b)
   on-way m le =
-      over-framed n coins (same_coins strings) (take m back) (frame_at base old) a b (All-take (StepFits n) m back o.fits) o.group
+      over-by_frame n coins (same_coins strings) (take m back) (frame_at base old) a b (All-take (StepFits n) m back o.fits) o.group
       (subst (λ zs. AreEnough n coins (same_coins strings) zs (frame_at base old) a) (take-take m steps back le)
-      (enough-before n coins (same_coins strings) m (take steps back) (frame_at base old) a o.told)) o.framed
+      (enough-before n coins (same_coins strings) m (take steps back) (frame_at base old) a o.determined)) o.by_frame
 
   -- if a propagation over them says by which letters
   pub advanced-on-way : (m : ℕ) (v : PropagationState) → m ≤ steps → PropagatesOver n strings (take m back) old v
@@ -85,13 +85,13 @@ module _ {n : ℕ} {coins : ℕ → Bool} {strings : ℕ → Option (List Letter
       (agree-further n coins back a b m steps le agree).records
 
 -- and it passed all of them, or ended there
-pub record IsPropagatedBehind (n : ℕ) (coins : ℕ → Bool) (strings : ℕ → Option (List Letter)) (window : ℕ) (back : List Step) (a b : Point) (base : ℕ) (old last new : PropagationState) (steps : ℕ) : Type 0 where
+pub record IsPropagatedAfter (n : ℕ) (coins : ℕ → Bool) (strings : ℕ → Option (List Letter)) (window : ℕ) (back : List Step) (a b : Point) (base : ℕ) (old last new : PropagationState) (steps : ℕ) : Type 0 where
   pub advanced : IsPropagatedOver n coins strings window back a b base old last steps
   pub flips : new.flips ≡ last.flips
   pub ends : ((steps ≡ length back) × (new.letters ≡ last.letters)) ⊎ IsEnded n window (point_after n coins (take steps back) a) last new
 
 module _ {n : ℕ} {coins : ℕ → Bool} {strings : ℕ → Option (List Letter)} {window : ℕ} {back : List Step} {a b : Point} {base : ℕ} {old last new : PropagationState} {steps : ℕ}
-    (h : IsPropagatedBehind n coins strings window back a b base old last new steps) where
+    (h : IsPropagatedAfter n coins strings window back a b base old last new steps) where
   -- if it ended, they agree from there on as far back as the steps look
 
   module _ (ended : IsEnded n window (point_after n coins (take steps back) a) last new) where

@@ -1,5 +1,5 @@
 -- Same pivots: what was recorded of a run is true of it with steps that differ from its own by Pauli gates, and its flags are the same.
-use Rattle.stab_splices.proofs.Names.{◌≡◌, ℕ, ◌<◌, refl, sym, ◌∙◌, ap, subst, Bool, List, [], ◌∷◌, ◌++◌, append_assoc, All, map, take, Option, All-nil, All-cons, All-head, All-tail, All-append, All-take, Letter, member, IsStabiliserGroup, Step, one, gate_of, Point, RunOutput, origin, next_point, point_after, outputs, all_coins_of, StepFits, after-append, outputs-append, flipped, Frame, PointsDifferBy, same_coins, AreRight, AreEnough, AreTrue, gates-fit, group-origin, gates-give-nothing, right-enough, enough-before, run-pivots, framed-exchanged, over-framed, true-append, true-front, true-rest, true-conjugated, interleaved}
+use Rattle.stab_splices.proofs.Names.{◌≡◌, ℕ, ◌<◌, refl, sym, ◌∙◌, ap, subst, Bool, List, [], ◌∷◌, ◌++◌, append_assoc, All, map, take, Option, All-nil, All-cons, All-head, All-tail, All-append, All-take, Letter, member, IsStabiliserGroup, Step, one, gate_of, Point, RunOutput, origin, next_point, point_after, outputs, all_coins_of, StepFits, after-append, outputs-append, flipped, Frame, PointsDifferBy, same_coins, AreRight, AreEnough, AreTrue, gates-fit, group-origin, gates-give-nothing, right-enough, enough-before, run-pivots, by_frame-exchanged, over-by_frame, true-append, true-front, true-rest, true-conjugated, interleaved}
 use Rattle.stab_recording.proofs.FlippedLemmas.{flips-free}
 use Rattle.stab_recording.proofs.FlippedLemmas.{flipped-zeros}
 
@@ -18,7 +18,7 @@ right-rest : (n : ℕ) (coins : ℕ → Bool) (strings : ℕ → Option (List Le
 right-rest n coins strings [] ys a are = are
 right-rest n coins strings (x ∷ xs) ys a are = right-rest n coins strings xs ys (next_point n coins x a) are.1
 
--- some steps lead from the start to a point
+-- some steps go from the start to a point
 pub record IsReached (n : ℕ) (coins : ℕ → Bool) (a : Point) : Type 0 where
   pub steps : List Step
   pub fit : All (StepFits n) steps
@@ -33,7 +33,7 @@ reached-on n coins a xs fits r = record {
 
 -- after points that differ by a frame
 
-module _ (n : ℕ) (coins : ℕ → Bool) (a b : Point) (f : Frame) (zs : List Step) (fits : All (StepFits n) zs) (r : IsReached n coins a) (apart : PointsDifferBy n f a b) where
+module _ (n : ℕ) (coins : ℕ → Bool) (a b : Point) (f : Frame) (zs : List Step) (fits : All (StepFits n) zs) (r : IsReached n coins a) (distinct : PointsDifferBy n f a b) where
   has_pivots : (pivots : ℕ → Option (List Letter)) × AreRight n coins pivots (r.steps ++ zs) origin
   has_pivots = run-pivots n coins (r.steps ++ zs) (All-append (StepFits n) r.steps zs r.fit fits)
 
@@ -45,15 +45,15 @@ module _ (n : ℕ) (coins : ℕ → Bool) (a b : Point) (f : Frame) (zs : List S
   group : IsStabiliserGroup n (member a.trace)
   group = subst (λ (p : Point). IsStabiliserGroup n (member p.trace)) (sym r.is) (group-origin n coins r.steps r.fit)
 
-  pub pivots-apart : (strings : ℕ → Option (List Letter)) → AreTrue n coins strings zs a → AreTrue n coins strings zs b
-  pivots-apart strings are =
-      true-conjugated n coins strings zs a b apart.coin
-      (λ m. (_, (over-framed n coins (same_coins has_pivots.0) (take m zs) f a b (All-take (StepFits n) m zs fits) group (enough-before n coins (same_coins has_pivots.0) m zs f a enough) apart).1.group))
+  pub pivots-distinct : (strings : ℕ → Option (List Letter)) → AreTrue n coins strings zs a → AreTrue n coins strings zs b
+  pivots-distinct strings are =
+      true-conjugated n coins strings zs a b distinct.coin
+      (λ m. (_, (over-by_frame n coins (same_coins has_pivots.0) (take m zs) f a b (All-take (StepFits n) m zs fits) group (enough-before n coins (same_coins has_pivots.0) m zs f a enough) distinct).1.group))
       are
 
-  pub flags-apart : (outputs n coins zs b).free ≡ (outputs n coins zs a).free
-  flags-apart =
-      ap (λ (o : RunOutput). o.free) (over-framed n coins (same_coins has_pivots.0) zs f a b fits group enough apart).0
+  pub flags-distinct : (outputs n coins zs b).free ≡ (outputs n coins zs a).free
+  flags-distinct =
+      ap (λ (o : RunOutput). o.free) (over-by_frame n coins (same_coins has_pivots.0) zs f a b fits group enough distinct).0
       ∙ ap (flipped (outputs n coins zs a).free) (flips-free n (same_coins has_pivots.0) zs a.coin f)
       ∙ flipped-zeros (outputs n coins zs a).free (all_coins_of zs)
 
@@ -91,13 +91,13 @@ module _ (n : ℕ) (coins : ℕ → Bool) (strings : ℕ → Option (List Letter
   gates-same zs ws a fits r same = record {
     are_true = λ are.
         true-append n coins strings (map (one (gate_of m)) rs) ws a (gates-are-true n coins strings m rs a)
-        (pivots-apart n coins (point_after n coins (map (one (gate_of l)) qs) a) (point_after n coins (map (one (gate_of m)) rs) a) _ ws fits there
-        (framed-exchanged n coins l m qs rs left right a) strings
+        (pivots-distinct n coins (point_after n coins (map (one (gate_of l)) qs) a) (point_after n coins (map (one (gate_of m)) rs) a) _ ws fits there
+        (by_frame-exchanged n coins l m qs rs left right a) strings
         (same.are_true (true-rest n coins strings (map (one (gate_of l)) qs) zs a are)));
     flags =
         gates-free n coins m rs ws a
-        ∙ flags-apart n coins (point_after n coins (map (one (gate_of l)) qs) a) (point_after n coins (map (one (gate_of m)) rs) a) _ ws fits there
-        (framed-exchanged n coins l m qs rs left right a)
+        ∙ flags-distinct n coins (point_after n coins (map (one (gate_of l)) qs) a) (point_after n coins (map (one (gate_of m)) rs) a) _ ws fits there
+        (by_frame-exchanged n coins l m qs rs left right a)
         ∙ same.flags
         ∙ sym (gates-free n coins l qs zs a);
   }
@@ -111,17 +111,17 @@ module _ (n : ℕ) (coins : ℕ → Bool) (strings : ℕ → Option (List Letter
   interleaved-same [] back a fits r = record { are_true = λ are. are; flags = refl }
   interleaved-same (p ∷ ps) back a fits r =
       subst (λ x. x)
-      (λ i. AreSamePivots n coins strings (sym (apart (map (one (gate_of l)) qs) (interleaved (map (one (gate_of l)) qs) ps)) i) (sym (apart (map (one (gate_of m)) rs) (interleaved (map (one (gate_of m)) rs) ps)) i) a)
+      (λ i. AreSamePivots n coins strings (sym (distinct (map (one (gate_of l)) qs) (interleaved (map (one (gate_of l)) qs) ps)) i) (sym (distinct (map (one (gate_of m)) rs) (interleaved (map (one (gate_of m)) rs) ps)) i) a)
       (gates-same (p ++ (interleaved (map (one (gate_of l)) qs) ps ++ back)) (p ++ (interleaved (map (one (gate_of m)) rs) ps ++ back)) a later r
       (piece-same n coins strings p (interleaved (map (one (gate_of l)) qs) ps ++ back) (interleaved (map (one (gate_of m)) rs) ps ++ back) (point_after n coins (map (one (gate_of l)) qs) a)
       (interleaved-same ps back (point_after n coins p (point_after n coins (map (one (gate_of l)) qs) a)) (all-rest (StepFits n) p (interleaved (map (one (gate_of m)) rs) ps ++ back) later)
       (reached-on n coins (point_after n coins (map (one (gate_of l)) qs) a) p (all-front (StepFits n) p (interleaved (map (one (gate_of m)) rs) ps ++ back) later)
       (reached-on n coins a (map (one (gate_of l)) qs) (gates-fit n l qs left) r)))))
     where
-      apart : (gates more : List Step) → gates ++ (p ++ more) ++ back ≡ gates ++ (p ++ (more ++ back))
-      apart gates more = append_assoc gates (p ++ more) back ∙ ap (λ l. gates ++ l) (append_assoc p more back)
+      distinct : (gates more : List Step) → gates ++ (p ++ more) ++ back ≡ gates ++ (p ++ (more ++ back))
+      distinct gates more = append_assoc gates (p ++ more) back ∙ ap (λ l. gates ++ l) (append_assoc p more back)
 
       later : All (StepFits n) (p ++ (interleaved (map (one (gate_of m)) rs) ps ++ back))
       later =
           all-rest (StepFits n) (map (one (gate_of m)) rs) (p ++ (interleaved (map (one (gate_of m)) rs) ps ++ back))
-          (subst (All (StepFits n)) (apart (map (one (gate_of m)) rs) (interleaved (map (one (gate_of m)) rs) ps)) fits)
+          (subst (All (StepFits n)) (distinct (map (one (gate_of m)) rs) (interleaved (map (one (gate_of m)) rs) ps)) fits)

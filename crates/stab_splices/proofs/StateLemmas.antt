@@ -1,5 +1,5 @@
--- States put in place of those of copies, from the last on.
-use Rattle.stab_splices.proofs.Names.{◌≡◌, ℕ, zero, suc, ◌-◌, ◌<◌, ◌≤◌, refl, ◌∙◌, ap, arith, List, [], ◌∷◌, ◌++◌, length, take, drop, map, reverse, set, get_or, length-map, length-reverse, length-append, length-take, length-drop, reverse-reverse, take-take, TableauState, Checkpoint, Meeting, moved_copy, all_laid, with_states, OldRest, copies_moved}
+-- States put in place of those of checkpoints, from the last on.
+use Rattle.stab_splices.proofs.Names.{◌≡◌, ℕ, zero, suc, ◌-◌, ◌<◌, ◌≤◌, refl, ◌∙◌, ap, arith, List, [], ◌∷◌, ◌++◌, length, take, drop, map, reverse, set, get_or, length-map, length-reverse, length-append, length-take, length-drop, reverse-reverse, take-take, TableauState, Checkpoint, Meeting, moved_checkpoint, all_saved, with_states, OldRest, checkpoints_moved}
 
 -- the last state is put first: then the others are put before it
 pub states-last : (ts : List TableauState) (t : TableauState) (cs : List Checkpoint) (d : Checkpoint) → length ts < length cs
@@ -41,36 +41,36 @@ module _ (k K : ℕ) (ts : List TableauState) (cs put : List Checkpoint) (within
   pub put-front : take k put ≡ take k cs
   put-front = ap (take k) is ∙ take-front k cs (with_states ts (drop k cs)) within
 
-  -- moved, and laid after others, which were laid after those before
-  pub put-laid : (m : ℕ) (s : Meeting) (room taken left others mid laid : List Checkpoint) → m ≤ k → room ≡ [] → taken ≡ room ++ reverse (map (moved_copy s) (drop k put))
-      → left ≡ take k put → mid ≡ all_laid K (reverse others) (take m left) → laid ≡ all_laid K (reverse taken) mid
-      → laid ≡ all_laid K (map (moved_copy s) (with_states ts (drop k cs))) (all_laid K (reverse others) (take m cs))
-  put-laid m s room taken left others mid laid order empty took kept between done =
-      done ∙ (λ i. all_laid K (conjugated i) ((between ∙ ap (all_laid K (reverse others)) (ap (take m) (kept ∙ put-front) ∙ take-take m k cs order)) i))
+  -- moved, and saved after others, which were saved after those before
+  pub put-saved : (m : ℕ) (s : Meeting) (room taken left others mid saved : List Checkpoint) → m ≤ k → room ≡ [] → taken ≡ room ++ reverse (map (moved_checkpoint s) (drop k put))
+      → left ≡ take k put → mid ≡ all_saved K (reverse others) (take m left) → saved ≡ all_saved K (reverse taken) mid
+      → saved ≡ all_saved K (map (moved_checkpoint s) (with_states ts (drop k cs))) (all_saved K (reverse others) (take m cs))
+  put-saved m s room taken left others mid saved order empty took kept between done =
+      done ∙ (λ i. all_saved K (conjugated i) ((between ∙ ap (all_saved K (reverse others)) (ap (take m) (kept ∙ put-front) ∙ take-take m k cs order)) i))
     where
-      conjugated : reverse taken ≡ map (moved_copy s) (with_states ts (drop k cs))
+      conjugated : reverse taken ≡ map (moved_checkpoint s) (with_states ts (drop k cs))
       conjugated =
-          ap reverse (took ∙ ap (λ zs. zs ++ reverse (map (moved_copy s) (drop k put))) empty)
-          ∙ reverse-reverse (map (moved_copy s) (drop k put))
-          ∙ ap (map (moved_copy s)) (ap (drop k) is ∙ drop-front k cs (with_states ts (drop k cs)) within)
+          ap reverse (took ∙ ap (λ zs. zs ++ reverse (map (moved_checkpoint s) (drop k put))) empty)
+          ∙ reverse-reverse (map (moved_checkpoint s) (drop k put))
+          ∙ ap (map (moved_checkpoint s)) (ap (drop k) is ∙ drop-front k cs (with_states ts (drop k cs)) within)
 
-pub copies-long : (rest : OldRest) (cs : List Checkpoint) → length (copies_moved rest cs) ≡ length cs - rest.number
-copies-long rest cs =
+pub checkpoints-long : (rest : OldRest) (cs : List Checkpoint) → length (checkpoints_moved rest cs) ≡ length cs - rest.number
+checkpoints-long rest cs =
     omega (
       arith,
-      length-map (with_states rest.conjugated.items (drop rest.number cs)) (moved_copy rest.meeting),
+      length-map (with_states rest.conjugated.items (drop rest.number cs)) (moved_checkpoint rest.meeting),
       same-length rest.conjugated.items (drop rest.number cs),
       length-drop rest.number cs,
     )
 
-pub taken-long : (s : Meeting) (k : ℕ) (put room taken : List Checkpoint) → taken ≡ room ++ reverse (map (moved_copy s) (drop k put)) → room ≡ [] → length taken ≡ length put - k
+pub taken-long : (s : Meeting) (k : ℕ) (put room taken : List Checkpoint) → taken ≡ room ++ reverse (map (moved_checkpoint s) (drop k put)) → room ≡ [] → length taken ≡ length put - k
 taken-long s k put room taken is empty =
     omega (
       arith,
       ap length is,
       ap length empty,
-      length-append room (reverse (map (moved_copy s) (drop k put))),
-      length-reverse (map (moved_copy s) (drop k put)),
-      length-map (drop k put) (moved_copy s),
+      length-append room (reverse (map (moved_checkpoint s) (drop k put))),
+      length-reverse (map (moved_checkpoint s) (drop k put)),
+      length-map (drop k put) (moved_checkpoint s),
       length-drop k put,
     )

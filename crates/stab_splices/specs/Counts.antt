@@ -17,25 +17,25 @@ abbrev pub last_until : ℕ → ℕ → List ℕ → ℕ
 last_until place a [] = a
 last_until place a (b ∷ more) = if nat_le b place then last_until place b more else a
 
--- an old copy that an edit may come to: after the first changed step, and not before the end of what was taken out
+-- an old checkpoint that an edit may come to: after the first changed step, and not before the end of what was taken out
 abbrev pub MayBeMet : ℕ → ℕ → ℕ → Type 0
 MayBeMet first old_end c = (first < c) × (old_end ≤ c)
 
--- a step is the end of the new steps, or where such a copy is among them, and the runs agree there
+-- a step is the end of the new steps, or where such a checkpoint is among them, and the runs agree there
 abbrev pub EndsAt : (ℕ → Type 0) → List ℕ → ℕ → ℕ → ℕ → ℕ → ℕ → Type 0
-EndsAt agree copies first old_end new_end total step =
+EndsAt agree checkpoints first old_end new_end total step =
     (step ≡ total)
-    ⊎ (number : ℕ) × IsSomeAnd (slice_get copies number) (λ c. MayBeMet first old_end c × (step ≡ new_end + (c - old_end)) × agree (c - old_end))
+    ⊎ (number : ℕ) × IsSomeAnd (slice_get checkpoints number) (λ c. MayBeMet first old_end c × (step ≡ new_end + (c - old_end)) × agree (c - old_end))
 
--- if such copies are before a step, the runs do not agree
+-- if such checkpoints are before a step, the runs do not agree
 abbrev pub NoneBefore : (ℕ → Type 0) → List ℕ → ℕ → ℕ → ℕ → ℕ → Type 0
-NoneBefore agree copies first old_end new_end step =
-    (number : ℕ) → IfSome (slice_get copies number) (λ c. MayBeMet first old_end c → new_end + (c - old_end) < step → agree (c - old_end) → ⊥)
+NoneBefore agree checkpoints first old_end new_end step =
+    (number : ℕ) → IfSome (slice_get checkpoints number) (λ c. MayBeMet first old_end c → new_end + (c - old_end) < step → agree (c - old_end) → ⊥)
 
--- this many steps were carried out, or passed by a frame: from the last old copy at or before the first changed step to one that may
+-- this many steps were carried out, or passed by a frame: from the last old checkpoint at or before the first changed step to one that may
 -- be met at which the runs agree as far back as the steps after look, or to the end; and at none before that do they agree in all
-pub record IsCounted (agree agree_back : ℕ → Type 0) (copies : List ℕ) (first old_end new_end total applied : ℕ) : Type 0 where
+pub record IsCounted (agree agree_back : ℕ → Type 0) (checkpoints : List ℕ) (first old_end new_end total applied : ℕ) : Type 0 where
   pub end : ℕ
-  pub count : applied + last_until first 0 copies ≡ end
-  pub ends : EndsAt agree_back copies first old_end new_end total end
-  pub none_before : NoneBefore agree copies first old_end new_end end
+  pub count : applied + last_until first 0 checkpoints ≡ end
+  pub ends : EndsAt agree_back checkpoints first old_end new_end total end
+  pub none_before : NoneBefore agree checkpoints first old_end new_end end

@@ -42,5 +42,5 @@ pub record DifferAtPlaces (n : ℕ) (xs ys : List Step) (s : Span) (change : Pau
   pub new_within : s.new_end ≤ length ys
   pub old_few : length xs ≤ most_steps
   pub new_few : length ys ≤ most_steps
-  pub behind : drop s.old_end xs ≡ drop s.new_end ys
+  pub following : drop s.old_end xs ≡ drop s.new_end ys
   pub differ : DifferByPaulis n xs ys s change.string.letters change.old change.new change.gaps.items

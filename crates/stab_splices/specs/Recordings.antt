@@ -1,4 +1,4 @@
--- Recordings: a run that is kept with copies of its state, and another one whose steps differ from its within a span.
+-- Recordings: a run that is kept with checkpoints of its state, and another one whose steps differ from its within a span.
 -- Source: this project's own.
 use Rattle.std.specs.Prelude.{◌≡◌, ℕ, ◌+◌, ◌≤◌, Bool, false, List, All, Option, IfSome, length, take, drop, replicate}
 use Rattle.stab_items.specs.Steps.{Step, most_steps}
@@ -16,8 +16,8 @@ use Rattle.stab_recording.specs.PivotLists.{KeepsPivots}
 use Rattle.stab_splices.specs.PauliSpans.{DifferByPaulis}
 use Rattle.stab_splices.specs.declared.past_places.PauliChange.{PauliChange}
 
--- what is kept is the run of these steps, which fit on the qubits, with this many observables, strings up to the limit, and copies at most
--- K steps apart
+-- what is kept is the run of these steps, which fit on the qubits, with this many observables, strings up to the limit, and checkpoints at most
+-- K steps from each other
 pub record IsRecording (n : ℕ) (coins : ℕ → Bool) (K : ℕ) (xs : List Step) (count : ℕ) (r : Recording) : Type 0 where
   pub qubits : r.tableau.qubits ≡ n
   pub run : IsRunFromStart n coins xs (program_state r.tableau (output_of r.outputs))
@@ -47,12 +47,12 @@ pub record Follows (n : ℕ) (coins : ℕ → Bool) (K : ℕ) (ys : List Step) (
   pub differ : IfSome paulis (λ p. DifferByPaulis n old ys s p.string.letters p.old p.new p.gaps.items)
 
 -- this many steps after what was changed both runs have the same group, number of the next coin and records
-abbrev pub AgreeBehindSpan : ℕ → (ℕ → Bool) → List Step → List Step → Span → ℕ → Type 0
-AgreeBehindSpan n coins xs ys s far =
+abbrev pub AgreeAfterSpan : ℕ → (ℕ → Bool) → List Step → List Step → Span → ℕ → Type 0
+AgreeAfterSpan n coins xs ys s far =
     AgreeAt n (point_after n coins (take (s.old_end + far) xs) origin) (point_after n coins (take (s.new_end + far) ys) origin)
 
 -- and so they have the same records as far back as the steps after look, if these differ before that, and another number of the
 -- next coin at most if none decides any more
-abbrev pub AgreeBackBehindSpan : ℕ → (ℕ → Bool) → List Step → List Step → Span → ℕ → Type 0
-AgreeBackBehindSpan n coins xs ys s far =
+abbrev pub AgreeBackAfterSpan : ℕ → (ℕ → Bool) → List Step → List Step → Span → ℕ → Type 0
+AgreeBackAfterSpan n coins xs ys s far =
     AgreeAsFarAsLooked n coins (drop (s.new_end + far) ys) (point_after n coins (take (s.old_end + far) xs) origin) (point_after n coins (take (s.new_end + far) ys) origin)

@@ -1,3 +1,3 @@
 pub mod OldRests
 pub mod Prepared
-pub mod FramedRecordings
+pub mod PropagatedRecordings

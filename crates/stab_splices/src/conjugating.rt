@@ -2,7 +2,7 @@ ghost use Rattle.std.specs.Prelude.{◌≡◌, ℕ, ◌+◌, ◌-◌, ◌*◌, �
 ghost use Rattle.stab_io.specs.declared.refusal.Refusal.TheVariants.{OutOfMemory};
 ghost use Rattle.stab_items.specs.Steps.{Step, most_steps, unroll, observables_of, check_within};
 ghost use Rattle.stab_edits.specs.Views.{circuit_items};
-ghost use Rattle.stab_edits.specs.Cursors.{IsApart};
+ghost use Rattle.stab_edits.specs.Cursors.{HasDistinctQubits};
 ghost use Rattle.stab_edits.specs.Repeats.{AreRepeats};
 ghost use Rattle.stab_run.specs.Records.{ones};
 ghost use Rattle.stab_run.specs.Points.{all_coins_of};
@@ -12,12 +12,12 @@ ghost use Rattle.stab_recording.specs.Spacing.{Near, last_of};
 ghost use Rattle.stab_splices.specs.declared.past_places.PauliChange.{PauliChange};
 ghost use Rattle.stab_splices.specs.Counts.{IsCounted};
 ghost use Rattle.stab_rounds.specs.Spans.{IsSpan};
-ghost use Rattle.stab_splices.specs.Recordings.{IsRecording, IsSameRecording, Follows, AgreeBehindSpan, AgreeBackBehindSpan};
+ghost use Rattle.stab_splices.specs.Recordings.{IsRecording, IsSameRecording, Follows, AgreeAfterSpan, AgreeBackAfterSpan};
 ghost use Rattle.stab_splices.specs.inner.Prepared.{IsCount};
 ghost use Rattle.stab_splices.specs.inner.OldRests.{HasRoomFor};
-ghost use Rattle.stab_splices.specs.inner.FramedRecordings.{StaysNear, IsPastPlaces, IsConjugating, IsPut, HasConjugated, span_meeting};
+ghost use Rattle.stab_splices.specs.inner.PropagatedRecordings.{StaysNear, IsPastPlaces, IsConjugating, IsPut, HasConjugated, span_meeting};
 
-use crate::counting::lengths_behind;
+use crate::counting::lengths_after;
 use crate::flips::{flip_outputs, sum_additions};
 use crate::past_places::{PauliChange, propagate_places};
 use crate::recording::{Followed, Recording};
@@ -46,7 +46,7 @@ struct PastPlaces {
     /// The frame, with what it flipped from there on.
     propagation: Propagation,
     /// The checkpoints that are between the places, conjugated, where they are now.
-    copies: Vec<Checkpoint>,
+    checkpoints: Vec<Checkpoint>,
 }
 
 /// What a frame makes of a recording, in memory of its own.
@@ -61,29 +61,29 @@ struct Conjugating {
 }
 
 /// How many of some checkpoints are before a step, if this many of the first are.
-fn count_within(copies: &[Checkpoint], before: usize, step: usize) -> usize
-    requires in_range { before ≤ length copies.now }
+fn count_within(checkpoints: &[Checkpoint], before: usize, step: usize) -> usize
+    requires in_range { before ≤ length checkpoints.now }
     ensures order { before ≤ result }
-    ensures within { result ≤ length copies.now }
-    ensures among { All (λ c. c.step < step) (take (result - before) (drop before copies.now)) }
-    ensures behind { IfSome (slice_get copies.now result) (λ c. step ≤ c.step) }
+    ensures within { result ≤ length checkpoints.now }
+    ensures among { All (λ c. c.step < step) (take (result - before) (drop before checkpoints.now)) }
+    ensures following { IfSome (slice_get checkpoints.now result) (λ c. step ≤ c.step) }
 {
-    let (_, behind) = copies.split_at(before);
-    before + count_before(behind, step)
+    let (_, following) = checkpoints.split_at(before);
+    before + count_before(following, step)
 }
 
 /// The last of a step and those of checkpoints, if each is at least the one before, and at most a stride
 /// after it.
-fn last_near(step: usize, copies: &[Checkpoint], stride: usize) -> Option<usize>
-    ensures near { IfSome result (λ last. Near stride (step ∷ checkpoint_steps copies.now)) }
-    ensures value { IfSome result (λ last. last_of step (checkpoint_steps copies.now) ≡ last) }
+fn last_near(step: usize, checkpoints: &[Checkpoint], stride: usize) -> Option<usize>
+    ensures near { IfSome result (λ last. Near stride (step ∷ checkpoint_steps checkpoints.now)) }
+    ensures value { IfSome result (λ last. last_of step (checkpoint_steps checkpoints.now) ≡ last) }
 {
     let mut last = step;
-    for copy in copies {
-        if copy.step < last || copy.step - last > stride {
+    for checkpoint in checkpoints {
+        if checkpoint.step < last || checkpoint.step - last > stride {
             return None;
         }
-        last = copy.step;
+        last = checkpoint.step;
     }
     Some(last)
 }
@@ -92,28 +92,29 @@ fn last_near(step: usize, copies: &[Checkpoint], stride: usize) -> Option<usize>
 /// step if there is none, is at most a stride from a step that is not after the span.
 fn stays_near(
     step: usize,
-    copies: &[Checkpoint],
+    checkpoints: &[Checkpoint],
     number: usize,
     span: Span,
     total: usize,
     stride: usize,
 ) -> bool
-    ensures near { result ≡ true → StaysNear stride span total step (slice_get copies.now number) }
+    ensures near { result ≡ true → StaysNear stride span total step (slice_get checkpoints.now number) }
 {
     let last = step.saturating_add(stride);
     if step > span.new_end {
         return false;
     }
-    match copies.get(number) {
-        Some(copy) => {
-            span.old_end <= copy.step && shifted(span.old_end, span.new_end, copy.step) <= last
+    match checkpoints.get(number) {
+        Some(checkpoint) => {
+            span.old_end <= checkpoint.step
+                && shifted(span.old_end, span.new_end, checkpoint.step) <= last
         }
         None => total <= last,
     }
 }
 
 /// Where a span ends, among the old steps and the new ones.
-fn meeting_behind(span: Span) -> Meeting
+fn meeting_after(span: Span) -> Meeting
     ensures value { result ≡ span_meeting span }
 {
     Meeting {
@@ -125,15 +126,15 @@ fn meeting_behind(span: Span) -> Meeting
 }
 
 /// A frame passed the steps from one to another, and none was carried out.
-fn framed_between(begin: usize, end: usize) -> Followed
+fn propagated_between(begin: usize, end: usize) -> Followed
     requires order { begin ≤ end }
     ensures applied { result.applied ≡ 0 }
     ensures tried { result.tried ≡ 0 }
-    ensures counted { (result.applied + result.framed) + begin ≡ end }
+    ensures counted { (result.applied + result.by_frame) + begin ≡ end }
 {
     Followed {
         applied: 0,
-        framed: (end - begin) as u64,
+        by_frame: (end - begin) as u64,
         tried: 0,
     }
 }
@@ -152,7 +153,7 @@ impl Recording {
         before: usize,
         inside: usize,
         change: &PauliChange,
-        framed: &mut u64,
+        by_frame: &mut u64,
     ) -> Result<Option<PastPlaces>, Refusal>
         requires checked { check_within self.now.tableau.qubits (circuit_items circuit.now) ≡ None }
         requires same_length { length change.now.string.letters ≡ self.now.tableau.qubits }
@@ -160,19 +161,23 @@ impl Recording {
         requires before { IsCount (span.first + 1) self.now.checkpoints.items before }
         requires order { before ≤ inside }
         requires inside { inside ≤ length self.now.checkpoints.items }
-        requires none_framed { framed.old ≡ 0 }
-        ensures most { framed.new ≤ length (unroll (circuit_items circuit.now)) - span.first }
-        ensures passed { IfOk result (λ found. IfSome found (λ p. IsPastPlaces (unroll (circuit_items circuit.now)) span before inside change.now self.now p.from p.propagation p.copies.items)) }
-        ensures apart { OnOk result (All IsApart (unroll (circuit_items circuit.now))) }
+        requires none_propagated { by_frame.old ≡ 0 }
+        ensures most { by_frame.new ≤ length (unroll (circuit_items circuit.now)) - span.first }
+        ensures passed { IfOk result (λ found. IfSome found (λ p. IsPastPlaces (unroll (circuit_items circuit.now)) span before inside change.now self.now p.from p.propagation p.checkpoints.items)) }
+        ensures distinct { OnOk result (All HasDistinctQubits (unroll (circuit_items circuit.now))) }
         ensures err { IfErr result (λ r. r ≡ OutOfMemory) }
     {
-        let copy = &self.checkpoints[before - 1];
-        let mut cursor = Cursor::at(alloc, circuit, copy.step)?;
-        let from = lengths_behind(&mut cursor, span.first - copy.step, copy.lengths);
+        let checkpoint = &self.checkpoints[before - 1];
+        let mut cursor = Cursor::at(alloc, circuit, checkpoint.step)?;
+        let from = lengths_after(
+            &mut cursor,
+            span.first - checkpoint.step,
+            checkpoint.lengths,
+        );
         let free = self.outputs.free.as_slice();
         let mut propagation = Propagation::new(alloc, self.tableau.len(), free, from.free)?;
-        let (_, behind) = self.checkpoints.as_slice().split_at(before);
-        let (within, _) = behind.split_at(inside - before);
+        let (_, following) = self.checkpoints.as_slice().split_at(before);
+        let (within, _) = following.split_at(inside - before);
         let mut passed = Vec::new(alloc);
         let went = propagate_places(
             alloc,
@@ -184,7 +189,7 @@ impl Recording {
             &mut cursor,
             &mut propagation,
             &mut passed,
-            framed,
+            by_frame,
         )?;
         if !went {
             return Ok(None);
@@ -192,7 +197,7 @@ impl Recording {
         Ok(Some(PastPlaces {
             from,
             propagation,
-            copies: passed,
+            checkpoints: passed,
         }))
     }
 
@@ -209,32 +214,32 @@ impl Recording {
         inside: usize,
         passed: PastPlaces,
         spare: &mut Option<Tableau>,
-        framed: &mut u64,
+        by_frame: &mut u64,
     ) -> Result<Option<Conjugating>, Refusal>
         requires checked { check_within self.now.tableau.qubits (circuit_items circuit.now) ≡ None }
         requires follows { (coins : ℕ → Bool) × (K : ℕ) × (change : PauliChange) × Follows self.now.tableau.qubits coins K (unroll (circuit_items circuit.now)) span (Some change) self.now }
-        requires apart { All IsApart (unroll (circuit_items circuit.now)) }
+        requires distinct { All HasDistinctQubits (unroll (circuit_items circuit.now)) }
         requires letters { length passed.propagation.letters ≡ self.now.tableau.qubits }
         requires placed { IsPlaced self.now.outputs.free.items passed.propagation }
         requires few { passed.propagation.coin + length (drop span.new_end (unroll (circuit_items circuit.now))) < 2 ^ 63 }
         requires inside { inside ≤ length self.now.checkpoints.items }
-        requires behind { IfSome (slice_get self.now.checkpoints.items inside) (λ c. span.old_end ≤ c.step) }
-        requires few_framed { framed.old ≤ 2 * most_steps }
-        ensures most { framed.new ≤ framed.old + (length (unroll (circuit_items circuit.now)) - span.new_end) }
+        requires following { IfSome (slice_get self.now.checkpoints.items inside) (λ c. span.old_end ≤ c.step) }
+        requires few_propagated { by_frame.old ≤ 2 * most_steps }
+        ensures most { by_frame.new ≤ by_frame.old + (length (unroll (circuit_items circuit.now)) - span.new_end) }
         ensures conjugating { IfOk result (λ found. IfSome found (IsConjugating (unroll (circuit_items circuit.now)) span inside passed self.now)) }
         ensures err { IfErr result (λ r. r ≡ OutOfMemory) }
     {
         let PastPlaces {
             from,
             mut propagation,
-            copies,
+            checkpoints,
         } = passed;
         let mut cursor = Cursor::at(alloc, circuit, span.new_end)?;
-        let (_, behind) = self.checkpoints.as_slice().split_at(inside);
+        let (_, following) = self.checkpoints.as_slice().split_at(inside);
         let mut conjugated = Vec::new(alloc);
         let advanced = propagate_rest(
             alloc,
-            behind,
+            following,
             span.old_end,
             &self.strings,
             self.outputs.free.as_slice(),
@@ -243,17 +248,17 @@ impl Recording {
             &mut propagation,
             &mut conjugated,
             spare,
-            framed,
+            by_frame,
         )?;
         if !advanced {
             return Ok(None);
         }
         Ok(Some(Conjugating {
             from,
-            passed: copies,
+            passed: checkpoints,
             rest: OldRest {
                 number: inside,
-                meeting: meeting_behind(span),
+                meeting: meeting_after(span),
                 propagation,
                 conjugated,
                 room: Vec::with_capacity(alloc, self.checkpoints.len() - inside)?,
@@ -301,7 +306,7 @@ impl Recording {
         ensures tried { OnOk result (tried.new ≤ 2 * (length (unroll (circuit_items circuit.now)) - span.first)) }
         ensures conjugated { IfOk result (λ found. IfSome found (λ f. (coins : ℕ → Bool) → Follows self.old.tableau.qubits coins stride (unroll (circuit_items circuit.now)) span (Some change.now) self.old → HasConjugated self.old.tableau.qubits coins stride (unroll (circuit_items circuit.now)) (observables_of (circuit_items circuit.now)) span self.old f self.new)) }
         ensures none_in_vain { IfOk result (λ found. IfSome found (λ f. f.tried ≡ 0)) }
-        ensures apart { IfOk result (λ found. IfSome found (λ _. All IsApart (unroll (circuit_items circuit.now)))) }
+        ensures distinct { IfOk result (λ found. IfSome found (λ _. All HasDistinctQubits (unroll (circuit_items circuit.now)))) }
         ensures none { IfOk result (λ found. found ≡ None → self.new ≡ self.old) }
         ensures unchanged { OnErr result (self.new ≡ self.old) }
         ensures err { IfErr result (λ r. r ≡ OutOfMemory) }
@@ -310,18 +315,18 @@ impl Recording {
             return Ok(None);
         }
         let total = circuit.steps();
-        let copies = self.checkpoints.as_slice();
-        let before = count_before(copies, span.first + 1);
-        let inside = count_within(copies, before, span.old_end);
-        let begin = copies[before - 1].step;
+        let checkpoints = self.checkpoints.as_slice();
+        let before = count_before(checkpoints, span.first + 1);
+        let inside = count_within(checkpoints, before, span.old_end);
+        let begin = checkpoints[before - 1].step;
         let Some(passed) = self.past_places(alloc, circuit, span, before, inside, change, tried)?
         else {
             return Ok(None);
         };
-        let Some(last) = last_near(begin, passed.copies.as_slice(), stride) else {
+        let Some(last) = last_near(begin, passed.checkpoints.as_slice(), stride) else {
             return Ok(None);
         };
-        if !stays_near(last, copies, inside, span, total, stride) {
+        if !stays_near(last, checkpoints, inside, span, total, stride) {
             return Ok(None);
         }
         let Some(conjugating) = self.conjugating(
@@ -331,12 +336,12 @@ impl Recording {
             return Ok(None);
         };
         let end = end_place(
-            copies,
+            checkpoints,
             inside + conjugating.rest.conjugated.len(),
             span,
             total,
         );
-        let followed = framed_between(begin, end);
+        let followed = propagated_between(begin, end);
         self.put(conjugating, before, stride);
         Ok(Some(followed))
     }
@@ -365,18 +370,18 @@ impl Recording {
         requires follows { Follows self.old.tableau.qubits (C.sequence coins.old) stride (unroll (circuit_items circuit.now)) span paulis self.old }
         requires same_length { IfSome paulis (λ p. length p.string.letters ≡ self.old.tableau.qubits) }
         ensures kept { OnOk result (IsRecording self.old.tableau.qubits (C.sequence coins.old) stride (unroll (circuit_items circuit.now)) (observables_of (circuit_items circuit.now)) self.new) }
-        ensures apart { OnOk result (All IsApart (unroll (circuit_items circuit.now))) }
+        ensures distinct { OnOk result (All HasDistinctQubits (unroll (circuit_items circuit.now))) }
         ensures qubits { self.new.tableau.qubits ≡ self.old.tableau.qubits }
         ensures unchanged { OnErr result (IsSameRecording self.new self.old) }
         ensures same_coins { C.sequence coins.new ≡ C.sequence coins.old }
         ensures asks { IfOk result (λ f. C.asks coins.new ≤ C.asks coins.old + f.applied) }
         ensures asks_free { OnOk result (C.asks coins.new ≤ C.asks coins.old + ones self.new.outputs.free.items) }
         ensures asked { C.asks coins.new ≤ C.asks coins.old + all_coins_of (unroll (circuit_items circuit.now)) }
-        ensures asked_behind { C.asks coins.new ≤ C.asks coins.old + ((length (unroll (circuit_items circuit.now)) - span.first) + stride) }
-        ensures applied { IfOk result (λ f. f.applied + f.framed ≤ (length (unroll (circuit_items circuit.now)) - span.first) + stride) }
+        ensures asked_after { C.asks coins.new ≤ C.asks coins.old + ((length (unroll (circuit_items circuit.now)) - span.first) + stride) }
+        ensures applied { IfOk result (λ f. f.applied + f.by_frame ≤ (length (unroll (circuit_items circuit.now)) - span.first) + stride) }
         ensures tried { IfOk result (λ f. f.tried ≤ 3 * (length (unroll (circuit_items circuit.now)) - span.first)) }
-        ensures few { IfOk result (λ f. (xs : List Step) (count far : ℕ) → IsRecording self.old.tableau.qubits (C.sequence coins.old) stride xs count self.old → IsSpan xs (unroll (circuit_items circuit.now)) span → AgreeBehindSpan self.old.tableau.qubits (C.sequence coins.old) xs (unroll (circuit_items circuit.now)) span far → f.applied + f.framed ≤ ((span.new_end - span.first) + 2 * stride) + far) }
-        ensures counted { IfOk result (λ f. (xs : List Step) (count : ℕ) → IsRecording self.old.tableau.qubits (C.sequence coins.old) stride xs count self.old → IsSpan xs (unroll (circuit_items circuit.now)) span → IsCounted (AgreeBehindSpan self.old.tableau.qubits (C.sequence coins.old) xs (unroll (circuit_items circuit.now)) span) (AgreeBackBehindSpan self.old.tableau.qubits (C.sequence coins.old) xs (unroll (circuit_items circuit.now)) span) (checkpoint_steps self.old.checkpoints.items) span.first span.old_end span.new_end (length (unroll (circuit_items circuit.now))) (f.applied + f.framed)) }
+        ensures few { IfOk result (λ f. (xs : List Step) (count far : ℕ) → IsRecording self.old.tableau.qubits (C.sequence coins.old) stride xs count self.old → IsSpan xs (unroll (circuit_items circuit.now)) span → AgreeAfterSpan self.old.tableau.qubits (C.sequence coins.old) xs (unroll (circuit_items circuit.now)) span far → f.applied + f.by_frame ≤ ((span.new_end - span.first) + 2 * stride) + far) }
+        ensures counted { IfOk result (λ f. (xs : List Step) (count : ℕ) → IsRecording self.old.tableau.qubits (C.sequence coins.old) stride xs count self.old → IsSpan xs (unroll (circuit_items circuit.now)) span → IsCounted (AgreeAfterSpan self.old.tableau.qubits (C.sequence coins.old) xs (unroll (circuit_items circuit.now)) span) (AgreeBackAfterSpan self.old.tableau.qubits (C.sequence coins.old) xs (unroll (circuit_items circuit.now)) span) (checkpoint_steps self.old.checkpoints.items) span.first span.old_end span.new_end (length (unroll (circuit_items circuit.now))) (f.applied + f.by_frame)) }
         ensures err { IfErr result (λ r. r ≡ OutOfMemory) }
     {
         let mut tried = 0;

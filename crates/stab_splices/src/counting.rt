@@ -10,7 +10,7 @@ use stab_run::Lengths;
 
 /// How long the lists of a run are after the next steps of a cursor, at most this many, by their lengths
 /// before these. The cursor passes these steps.
-pub fn lengths_behind(cursor: &mut Cursor, most: usize, before: Lengths) -> Lengths
+pub fn lengths_after(cursor: &mut Cursor, most: usize, before: Lengths) -> Lengths
     requires few { AreBelow (2 ^ 63) (length cursor.old.left) before }
     ensures all { cursor.new.all ≡ cursor.old.all }
     ensures left { cursor.new.left ≡ drop most cursor.old.left }

@@ -14,7 +14,7 @@
 //! Source: how a recording follows an edit is this project's own.
 //!
 //! Proved: what is recorded is the run of the circuit's steps from the first one on, whatever edits it followed, with
-//! checkpoints at most a stride apart (`specs/Recordings.antt`); if memory is refused it is as before. How many steps an edit
+//! checkpoints at most a stride from each other (`specs/Recordings.antt`); if memory is refused it is as before. How many steps an edit
 //! takes, and between which checkpoints, is in `specs/Counts.antt`, and how many coins it asks for in the contract of
 //! `Recording::follow`. `specs/inner/` has what only private contracts cite.
 #![tactic(auto)]

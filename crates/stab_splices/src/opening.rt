@@ -4,7 +4,7 @@ ghost use Rattle.stab_io.specs.Refusals.{Refuses};
 ghost use Rattle.stab_gates.specs.Limits.{most_qubits};
 ghost use Rattle.stab_items.specs.Steps.{unroll, observables_of, check_within};
 ghost use Rattle.stab_edits.specs.Views.{circuit_items};
-ghost use Rattle.stab_edits.specs.Cursors.{IsApart};
+ghost use Rattle.stab_edits.specs.Cursors.{HasDistinctQubits};
 ghost use Rattle.stab_edits.specs.Repeats.{AreRepeats};
 ghost use Rattle.stab_run.specs.Records.{ones};
 ghost use Rattle.stab_run.specs.Points.{all_coins_of};
@@ -38,7 +38,7 @@ pub fn record_run<C: Coins>(
     requires stride { 1 ≤ stride }
     ensures kept { IfOk result (λ r. IsRecording n (C.sequence coins.old) stride (unroll (circuit_items circuit.now)) (observables_of (circuit_items circuit.now)) r.recording) }
     ensures repeats { IfOk result (λ r. AreRepeats 0 (unroll (circuit_items circuit.now)) r.repeats.items) }
-    ensures apart { OnOk result (All IsApart (unroll (circuit_items circuit.now))) }
+    ensures distinct { OnOk result (All HasDistinctQubits (unroll (circuit_items circuit.now))) }
     ensures refused { Refuses result (check_within n (circuit_items circuit.now)) }
     ensures same_coins { C.sequence coins.new ≡ C.sequence coins.old }
     ensures asks { C.asks coins.new ≤ C.asks coins.old + all_coins_of (unroll (circuit_items circuit.now)) }
@@ -61,7 +61,7 @@ fn run_checked<C: Coins>(
     requires checked { check_within n (circuit_items circuit.now) ≡ None }
     ensures kept { IfOk result (λ r. IsRecording n (C.sequence coins.old) stride (unroll (circuit_items circuit.now)) (observables_of (circuit_items circuit.now)) r.recording) }
     ensures repeats { IfOk result (λ r. AreRepeats 0 (unroll (circuit_items circuit.now)) r.repeats.items) }
-    ensures apart { OnOk result (All IsApart (unroll (circuit_items circuit.now))) }
+    ensures distinct { OnOk result (All HasDistinctQubits (unroll (circuit_items circuit.now))) }
     ensures same_coins { C.sequence coins.new ≡ C.sequence coins.old }
     ensures asks { C.asks coins.new ≤ C.asks coins.old + all_coins_of (unroll (circuit_items circuit.now)) }
     ensures asks_free { IfOk result (λ r. C.asks coins.new ≤ C.asks coins.old + ones r.recording.outputs.free.items) }

@@ -14,10 +14,10 @@ use stab_edits::Cursor;
 use stab_frames::{Pivots, Propagation};
 use stab_io::Refusal;
 use stab_pauli::Pauli;
-use stab_recording::{Checkpoint, Stop, count_before, framed_checkpoint, propagate_steps};
+use stab_recording::{Checkpoint, Stop, count_before, propagate_steps, propagated_checkpoint};
 use std::alloc::{AllocError, Global};
 
-/// Pauli gates that are where others stood, at one place or at several: the same at each.
+/// Pauli gates that are where others were, at one place or at several: the same at each.
 #[derive(Drop)]
 pub struct PauliChange {
     /// The letters of the old gates at a place and of the new ones, multiplied.
@@ -57,15 +57,15 @@ fn propagate_exactly(
     free: &[bool],
     cursor: &mut Cursor,
     count: usize,
-    framed: &mut u64,
+    by_frame: &mut u64,
 ) -> Result<bool, AllocError>
     requires same_length { strings.now.qubits ≡ length propagation.old.letters }
     requires fits { All (StepFits (length propagation.old.letters)) cursor.old.left }
     requires placed { IsPlaced free.now propagation.old }
     requires few { propagation.old.coin + length cursor.old.left < 2 ^ 63 }
-    requires few_framed { framed.old + length cursor.old.left < 2 ^ 63 }
-    ensures most { framed.new ≤ framed.old + length cursor.old.left }
-    ensures counted { IfOk result (λ went. went ≡ true → framed.new + length cursor.new.left ≤ framed.old + length cursor.old.left) }
+    requires few_propagated { by_frame.old + length cursor.old.left < 2 ^ 63 }
+    ensures most { by_frame.new ≤ by_frame.old + length cursor.old.left }
+    ensures counted { IfOk result (λ went. went ≡ true → by_frame.new + length cursor.new.left ≤ by_frame.old + length cursor.old.left) }
     ensures all { cursor.new.all ≡ cursor.old.all }
     ensures length { length propagation.new.letters ≡ length propagation.old.letters }
     ensures placed { OnOk result (IsPlaced free.now propagation.new) }
@@ -74,31 +74,40 @@ fn propagate_exactly(
     ensures propagated { IfOk result (λ went. went ≡ true → PropagatesOver (length propagation.old.letters) (pivot_at strings.now.strings free.now) (take count cursor.old.left) propagation.old propagation.new) }
     ensures enough { IfOk result (λ went. went ≡ true → AreEnoughBy (length propagation.old.letters) (pivot_at strings.now.strings free.now) free.now cursor.old.left count propagation.old) }
 {
-    let propagated = propagate_steps(propagation, strings, free, cursor, count, 0, false, framed)?;
+    let propagated = propagate_steps(
+        propagation,
+        strings,
+        free,
+        cursor,
+        count,
+        0,
+        false,
+        by_frame,
+    )?;
     Ok(propagated.stop != Stop::NoString && propagated.steps == count)
 }
 
 /// How far a step is after a place, if that is no less than one number and no more than another.
-fn behind_place(step: usize, place: usize, least: usize, most: usize) -> Option<usize>
-    ensures some { IfSome result (λ behind. (least ≤ behind) × (behind ≤ most) × (place + behind ≡ step)) }
+fn after_place(step: usize, place: usize, least: usize, most: usize) -> Option<usize>
+    ensures some { IfSome result (λ following. (least ≤ following) × (following ≤ most) × (place + following ≡ step)) }
 {
-    let behind = step.checked_sub(place)?;
-    if least <= behind && behind <= most {
-        Some(behind)
+    let following = step.checked_sub(place)?;
+    if least <= following && following <= most {
+        Some(following)
     } else {
         None
     }
 }
 
 /// Propagates a frame over the steps of a gap, which a cursor has next. They come after `old` steps of the old run
-/// and `new` steps of the new one, and are the same in both. It goes past copies of the old run that are among them. It
-/// makes each such checkpoint one of the new run, after others. False if a string is missing, or a checkpoint
+/// and `new` steps of the new one, and are the same in both. It goes past checkpoints of the old run that are among them. It
+/// makes each such checkpoint one of the new run, after others. False if a pivot is missing, or a checkpoint
 /// is elsewhere. The steps that it passes are counted either way.
 ///
 /// Refusal `OutOfMemory` alone.
 fn propagate_piece(
     alloc: Global,
-    copies: &[Checkpoint],
+    checkpoints: &[Checkpoint],
     old: usize,
     new: usize,
     gap: usize,
@@ -107,67 +116,74 @@ fn propagate_piece(
     cursor: &mut Cursor,
     propagation: &mut Propagation,
     passed: &mut Vec<Checkpoint>,
-    framed: &mut u64,
+    by_frame: &mut u64,
 ) -> Result<bool, Refusal>
     requires same_length { strings.now.qubits ≡ length propagation.old.letters }
     requires fits { All (StepFits (length propagation.old.letters)) cursor.old.left }
     requires placed { IsPlaced free.now propagation.old }
     requires few { propagation.old.coin + length cursor.old.left < 2 ^ 63 }
-    requires same_qubits { All (λ c. c.tableau.qubits ≡ length propagation.old.letters) copies.now }
-    requires few_framed { framed.old + length cursor.old.left < 2 ^ 63 }
-    ensures most { framed.new ≤ framed.old + length cursor.old.left }
-    ensures counted { IfOk result (λ went. went ≡ true → framed.new + length cursor.new.left ≤ framed.old + length cursor.old.left) }
+    requires same_qubits { All (λ c. c.tableau.qubits ≡ length propagation.old.letters) checkpoints.now }
+    requires few_propagated { by_frame.old + length cursor.old.left < 2 ^ 63 }
+    ensures most { by_frame.new ≤ by_frame.old + length cursor.old.left }
+    ensures counted { IfOk result (λ went. went ≡ true → by_frame.new + length cursor.new.left ≤ by_frame.old + length cursor.old.left) }
     ensures all { cursor.new.all ≡ cursor.old.all }
     ensures length { length propagation.new.letters ≡ length propagation.old.letters }
     ensures placed { OnOk result (IsPlaced free.now propagation.new) }
     ensures left { IfOk result (λ went. went ≡ true → cursor.new.left ≡ drop gap cursor.old.left) }
     ensures coin { IfOk result (λ went. went ≡ true → propagation.new.coin + length cursor.new.left ≤ propagation.old.coin + length cursor.old.left) }
-    ensures count { IfOk result (λ went. went ≡ true → length passed.new.items ≡ length passed.old.items + length copies.now) }
+    ensures count { IfOk result (λ went. went ≡ true → length passed.new.items ≡ length passed.old.items + length checkpoints.now) }
     ensures between { IfOk result (λ went. went ≡ true → (coins : ℕ → Bool) (xs : List Step) (base : ℕ) (front : RunOutput) → IsBeforePiece (length propagation.old.letters) coins xs cursor.old.all (pivot_at strings.now.strings free.now) free.now base front old new gap cursor.old.left propagation.old → IsFrameBetween (length propagation.old.letters) coins xs cursor.old.all (pivot_at strings.now.strings free.now) free.now base front (old + gap) (new + gap) propagation.new) }
-    ensures copies { IfOk result (λ went. went ≡ true → (coins : ℕ → Bool) (xs : List Step) (base : ℕ) (front : RunOutput) → IsBeforePiece (length propagation.old.letters) coins xs cursor.old.all (pivot_at strings.now.strings free.now) free.now base front old new gap cursor.old.left propagation.old → All (IsCheckpoint (length propagation.old.letters) coins xs) copies.now → All (IsCheckpoint (length propagation.old.letters) coins cursor.old.all) passed.old.items → All (IsCheckpoint (length propagation.old.letters) coins cursor.old.all) passed.new.items) }
+    ensures checkpoints { IfOk result (λ went. went ≡ true → (coins : ℕ → Bool) (xs : List Step) (base : ℕ) (front : RunOutput) → IsBeforePiece (length propagation.old.letters) coins xs cursor.old.all (pivot_at strings.now.strings free.now) free.now base front old new gap cursor.old.left propagation.old → All (IsCheckpoint (length propagation.old.letters) coins xs) checkpoints.now → All (IsCheckpoint (length propagation.old.letters) coins cursor.old.all) passed.old.items → All (IsCheckpoint (length propagation.old.letters) coins cursor.old.all) passed.new.items) }
     ensures err { IfErr result (λ r. r ≡ OutOfMemory) }
 {
     let mut gone = 0;
-    for copy in copies {
-        let Some(behind) = behind_place(copy.step, old, gone, gap) else {
+    for checkpoint in checkpoints {
+        let Some(following) = after_place(checkpoint.step, old, gone, gap) else {
             return Ok(false);
         };
-        if !propagate_exactly(propagation, strings, free, cursor, behind - gone, framed)? {
+        if !propagate_exactly(
+            propagation,
+            strings,
+            free,
+            cursor,
+            following - gone,
+            by_frame,
+        )? {
             return Ok(false);
         }
         passed.push(Checkpoint {
-            step: new.saturating_add(behind),
-            lengths: copy.lengths,
-            tableau: framed_checkpoint(alloc, &copy.tableau, propagation.letters())?,
+            step: new.saturating_add(following),
+            lengths: checkpoint.lengths,
+            tableau: propagated_checkpoint(alloc, &checkpoint.tableau, propagation.letters())?,
         })?;
-        gone = behind;
+        gone = following;
     }
-    Ok(propagate_exactly(propagation, strings, free, cursor, gap - gone, framed)?)
+    Ok(propagate_exactly(propagation, strings, free, cursor, gap - gone, by_frame)?)
 }
 
 /// The first checkpoints of some, after this many, that are before a step or at it.
-fn copies_until(copies: &[Checkpoint], from: usize, step: usize) -> &[Checkpoint]
-    requires in_range { from ≤ length copies.now }
-    ensures value { (count : ℕ) × (result.now ≡ take count (drop from copies.now)) }
+fn checkpoints_until(checkpoints: &[Checkpoint], from: usize, step: usize) -> &[Checkpoint]
+    requires in_range { from ≤ length checkpoints.now }
+    ensures value { (count : ℕ) × (result.now ≡ take count (drop from checkpoints.now)) }
 {
-    let (_, behind) = copies.split_at(from);
-    let count = count_before(behind, step.saturating_add(1));
-    let (first, _) = behind.split_at(count);
+    let (_, following) = checkpoints.split_at(from);
+    let count = count_before(following, step.saturating_add(1));
+    let (first, _) = following.split_at(count);
     first
 }
 
 /// Propagates a frame that begins before a step, which both runs have, past the places of a change of Pauli
 /// gates, the first of which is at that step, and over what is between them and after the
 /// last. A cursor is at that step of the new run. At each place the frame is multiplied by the string
-/// of the change. Checkpoints of the old run that are there are made copies of the new one, in order.
+/// of the change. Checkpoints of the old run that are there are made checkpoints of the new one, in order.
 ///
-/// False if a string is missing, or a checkpoint is among the gates of a place, or after all. What it
+/// False if a pivot is missing, or a checkpoint is among the gates of a place, or after all. What it
 /// made so far is then irrelevant. The steps that it passes are counted either way.
 ///
 /// Refusal `OutOfMemory` alone.
 pub fn propagate_places(
     alloc: Global,
-    copies: &[Checkpoint],
+    checkpoints: &[Checkpoint],
     first: usize,
     change: &PauliChange,
     strings: &Pivots,
@@ -175,23 +191,23 @@ pub fn propagate_places(
     cursor: &mut Cursor,
     propagation: &mut Propagation,
     passed: &mut Vec<Checkpoint>,
-    framed: &mut u64,
+    by_frame: &mut u64,
 ) -> Result<bool, Refusal>
     requires same_length { strings.now.qubits ≡ length propagation.old.letters }
     requires string { length change.now.string.letters ≡ length propagation.old.letters }
     requires fits { All (StepFits (length propagation.old.letters)) cursor.old.left }
     requires placed { IsPlaced free.now propagation.old }
     requires few { propagation.old.coin + length cursor.old.left < 2 ^ 63 }
-    requires same_qubits { All (λ c. c.tableau.qubits ≡ length propagation.old.letters) copies.now }
+    requires same_qubits { All (λ c. c.tableau.qubits ≡ length propagation.old.letters) checkpoints.now }
     requires nothing { passed.old.items ≡ [] }
-    requires few_framed { framed.old + length cursor.old.left < 2 ^ 63 }
-    ensures most { framed.new ≤ framed.old + length cursor.old.left }
+    requires few_propagated { by_frame.old + length cursor.old.left < 2 ^ 63 }
+    ensures most { by_frame.new ≤ by_frame.old + length cursor.old.left }
     ensures length { length propagation.new.letters ≡ length propagation.old.letters }
     ensures placed { OnOk result (IsPlaced free.now propagation.new) }
     ensures coin { IfOk result (λ went. went ≡ true → propagation.new.coin ≤ propagation.old.coin + length cursor.old.left) }
-    ensures count { IfOk result (λ went. went ≡ true → length passed.new.items ≡ length copies.now) }
+    ensures count { IfOk result (λ went. went ≡ true → length passed.new.items ≡ length checkpoints.now) }
     ensures between { IfOk result (λ went. went ≡ true → (coins : ℕ → Bool) (xs : List Step) (base : ℕ) (front : RunOutput) (s : Span) → s.first ≡ first → IsBeforePlaces (length propagation.old.letters) coins xs cursor.old.all (pivot_at strings.now.strings free.now) free.now base front s change.now cursor.old.left propagation.old → IsFrameBetween (length propagation.old.letters) coins xs cursor.old.all (pivot_at strings.now.strings free.now) free.now base front s.old_end s.new_end propagation.new) }
-    ensures copies { IfOk result (λ went. went ≡ true → (coins : ℕ → Bool) (xs : List Step) (base : ℕ) (front : RunOutput) (s : Span) → s.first ≡ first → IsBeforePlaces (length propagation.old.letters) coins xs cursor.old.all (pivot_at strings.now.strings free.now) free.now base front s change.now cursor.old.left propagation.old → All (IsCheckpoint (length propagation.old.letters) coins xs) copies.now → All (IsCheckpoint (length propagation.old.letters) coins cursor.old.all) passed.new.items) }
+    ensures checkpoints { IfOk result (λ went. went ≡ true → (coins : ℕ → Bool) (xs : List Step) (base : ℕ) (front : RunOutput) (s : Span) → s.first ≡ first → IsBeforePlaces (length propagation.old.letters) coins xs cursor.old.all (pivot_at strings.now.strings free.now) free.now base front s change.now cursor.old.left propagation.old → All (IsCheckpoint (length propagation.old.letters) coins xs) checkpoints.now → All (IsCheckpoint (length propagation.old.letters) coins cursor.old.all) passed.new.items) }
     ensures err { IfErr result (λ r. r ≡ OutOfMemory) }
 {
     let mut old = first;
@@ -203,7 +219,7 @@ pub fn propagate_places(
         propagation.multiply(&change.string);
         old = old.saturating_add(change.old);
         new = new.saturating_add(change.new);
-        let here = copies_until(copies, passed.len(), old.saturating_add(*gap));
+        let here = checkpoints_until(checkpoints, passed.len(), old.saturating_add(*gap));
         if !propagate_piece(
             alloc,
             here,
@@ -215,12 +231,12 @@ pub fn propagate_places(
             cursor,
             propagation,
             passed,
-            framed,
+            by_frame,
         )? {
             return Ok(false);
         }
         old = old.saturating_add(*gap);
         new = new.saturating_add(*gap);
     }
-    Ok(passed.len() == copies.len())
+    Ok(passed.len() == checkpoints.len())
 }

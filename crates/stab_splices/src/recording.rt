@@ -4,17 +4,17 @@ ghost use Rattle.stab_gates.specs.Limits.{most_qubits};
 ghost use Rattle.stab_items.specs.Steps.{Step, unroll, observables_of, check_of, check_within};
 ghost use Rattle.stab_edits.specs.Views.{circuit_items};
 ghost use Rattle.stab_edits.specs.Repeats.{AreRepeats};
-ghost use Rattle.stab_edits.specs.Cursors.{IsApart};
+ghost use Rattle.stab_edits.specs.Cursors.{HasDistinctQubits};
 ghost use Rattle.stab_run.specs.Records.{ones};
 ghost use Rattle.stab_run.specs.Points.{all_coins_of};
 ghost use Rattle.stab_splices.specs.Counts.{IsCounted};
 ghost use Rattle.stab_run.specs.ProgramStates.{output_of};
 ghost use Rattle.stab_frames.specs.Pivots.{front_kept};
 ghost use Rattle.stab_recording.specs.Checkpoints.{checkpoint_steps};
-ghost use Rattle.stab_recording.specs.LaidCheckpoints.{all_laid};
+ghost use Rattle.stab_recording.specs.SavedCheckpoints.{all_saved};
 ghost use Rattle.stab_rounds.specs.Spans.{IsSpan};
-ghost use Rattle.stab_splices.specs.Recordings.{IsRecording, IsSameRecording, Follows, AgreeBehindSpan, AgreeBackBehindSpan};
-ghost use Rattle.stab_splices.specs.inner.Prepared.{Begins, HasCopy, IsRest, IsOldRest, HasRoom, IsPrepared, copies_behind, IsCommitted};
+ghost use Rattle.stab_splices.specs.Recordings.{IsRecording, IsSameRecording, Follows, AgreeAfterSpan, AgreeBackAfterSpan};
+ghost use Rattle.stab_splices.specs.inner.Prepared.{Begins, HasCheckpoint, IsRest, IsOldRest, HasRoom, IsPrepared, checkpoints_after, IsCommitted};
 ghost use Rattle.stab_recording.specs.PivotLists.{IsSpliced};
 
 use crate::flips::flip_outputs;
@@ -23,13 +23,13 @@ use stab_edits::{Circuit, Cursor, Repeat, Span};
 use stab_frames::{PivotRecorder, Pivots, Propagation, count_ones};
 use stab_io::Refusal;
 use stab_pauli::Pauli;
-use stab_recording::{Checkpoint, End, Meeting, Plan, Replay, RestFrame, count_before};
+use stab_recording::{Checkpoint, End, Meeting, OldRun, Plan, Replay, RestFrame, count_before};
 use stab_run::{Coins, Outputs, observables};
 use stab_tableau::Tableau;
 use std::alloc::{AllocError, Global};
 
-/// A run that is kept: the state after the last step, what the steps gave, copies of the state on
-/// the way, the first before the first step, and pivots of its free outcomes. Its steps
+/// A run that is kept: the state after the last step, what the steps gave, checkpoints of the state on
+/// the way, the first before the first step, and pivots of its random outcomes. Its steps
 /// look back to no more records than its lookback window.
 #[derive(Drop)]
 pub struct Recording {
@@ -46,7 +46,7 @@ pub struct Recording {
 #[derive(Clone, Copy)]
 pub struct Followed {
     pub applied: u64,
-    pub framed: u64,
+    pub by_frame: u64,
     pub tried: u64,
 }
 
@@ -58,7 +58,7 @@ struct Prepared {
     strings: Pivots,
     window: u32,
     // The checkpoints kept on the way, the last first.
-    laid: Vec<Checkpoint>,
+    saved: Vec<Checkpoint>,
     rest: Rest,
 }
 
@@ -124,26 +124,26 @@ impl Recording {
     ) -> Result<Replay<'a>, Refusal>
         requires in_range { number < length self.now.checkpoints.items }
         requires checked { check_of (circuit_items circuit.now) ≡ None }
-        requires within { IfSome (slice_get self.now.checkpoints.items number) (λ copy. copy.step ≤ length (unroll (circuit_items circuit.now))) }
-        ensures begins { IfOk result (λ replay. IfSome (slice_get self.now.checkpoints.items number) (λ copy. Begins (unroll (circuit_items circuit.now)) self.now copy replay)) }
+        requires within { IfSome (slice_get self.now.checkpoints.items number) (λ checkpoint. checkpoint.step ≤ length (unroll (circuit_items circuit.now))) }
+        ensures begins { IfOk result (λ replay. IfSome (slice_get self.now.checkpoints.items number) (λ checkpoint. Begins (unroll (circuit_items circuit.now)) self.now checkpoint replay)) }
         ensures err { IfErr result (λ r. r ≡ OutOfMemory) }
     {
-        let copy = &self.checkpoints[number];
+        let checkpoint = &self.checkpoints[number];
         let string = Pauli::identity(alloc, self.tableau.len())?;
-        let tableau = copy.tableau.tableau(alloc, spare)?;
-        let outputs = self.outputs.front(alloc, copy.lengths)?;
+        let tableau = checkpoint.tableau.tableau(alloc, spare)?;
+        let outputs = self.outputs.front(alloc, checkpoint.lengths)?;
         let pivots = self.front_pivots(alloc, outputs.free.as_slice())?;
-        let cursor = Cursor::at(alloc, circuit, copy.step)?;
+        let cursor = Cursor::at(alloc, circuit, checkpoint.step)?;
         Ok(Replay {
             tableau,
             string,
             outputs,
             pivots,
             cursor,
-            step: copy.step,
+            step: checkpoint.step,
             applied: 0,
-            framed: 0,
-            laid: Vec::new(alloc),
+            by_frame: 0,
+            saved: Vec::new(alloc),
         })
     }
 
@@ -171,18 +171,18 @@ impl Recording {
         requires follows { Follows self.old.tableau.qubits (C.sequence coins.old) stride (unroll (circuit_items circuit.now)) span None self.old }
         requires tried { tried ≤ 2 * (length (unroll (circuit_items circuit.now)) - span.first) }
         ensures kept { OnOk result (IsRecording self.old.tableau.qubits (C.sequence coins.old) stride (unroll (circuit_items circuit.now)) (observables_of (circuit_items circuit.now)) self.new) }
-        ensures apart { OnOk result (All IsApart (unroll (circuit_items circuit.now))) }
+        ensures distinct { OnOk result (All HasDistinctQubits (unroll (circuit_items circuit.now))) }
         ensures qubits { self.new.tableau.qubits ≡ self.old.tableau.qubits }
         ensures unchanged { OnErr result (IsSameRecording self.new self.old) }
         ensures same_coins { C.sequence coins.new ≡ C.sequence coins.old }
         ensures asks { IfOk result (λ f. C.asks coins.new ≤ C.asks coins.old + f.applied) }
         ensures asks_free { OnOk result (C.asks coins.new ≤ C.asks coins.old + ones self.new.outputs.free.items) }
         ensures asked { C.asks coins.new ≤ C.asks coins.old + all_coins_of (unroll (circuit_items circuit.now)) }
-        ensures asked_behind { C.asks coins.new ≤ C.asks coins.old + ((length (unroll (circuit_items circuit.now)) - span.first) + stride) }
-        ensures applied { IfOk result (λ f. f.applied + f.framed ≤ (length (unroll (circuit_items circuit.now)) - span.first) + stride) }
+        ensures asked_after { C.asks coins.new ≤ C.asks coins.old + ((length (unroll (circuit_items circuit.now)) - span.first) + stride) }
+        ensures applied { IfOk result (λ f. f.applied + f.by_frame ≤ (length (unroll (circuit_items circuit.now)) - span.first) + stride) }
         ensures tried { IfOk result (λ f. f.tried ≤ 3 * (length (unroll (circuit_items circuit.now)) - span.first)) }
-        ensures few { IfOk result (λ f. (xs : List Step) (count far : ℕ) → IsRecording self.old.tableau.qubits (C.sequence coins.old) stride xs count self.old → IsSpan xs (unroll (circuit_items circuit.now)) span → AgreeBehindSpan self.old.tableau.qubits (C.sequence coins.old) xs (unroll (circuit_items circuit.now)) span far → f.applied + f.framed ≤ ((span.new_end - span.first) + 2 * stride) + far) }
-        ensures counted { IfOk result (λ f. (xs : List Step) (count : ℕ) → IsRecording self.old.tableau.qubits (C.sequence coins.old) stride xs count self.old → IsSpan xs (unroll (circuit_items circuit.now)) span → IsCounted (AgreeBehindSpan self.old.tableau.qubits (C.sequence coins.old) xs (unroll (circuit_items circuit.now)) span) (AgreeBackBehindSpan self.old.tableau.qubits (C.sequence coins.old) xs (unroll (circuit_items circuit.now)) span) (checkpoint_steps self.old.checkpoints.items) span.first span.old_end span.new_end (length (unroll (circuit_items circuit.now))) (f.applied + f.framed)) }
+        ensures few { IfOk result (λ f. (xs : List Step) (count far : ℕ) → IsRecording self.old.tableau.qubits (C.sequence coins.old) stride xs count self.old → IsSpan xs (unroll (circuit_items circuit.now)) span → AgreeAfterSpan self.old.tableau.qubits (C.sequence coins.old) xs (unroll (circuit_items circuit.now)) span far → f.applied + f.by_frame ≤ ((span.new_end - span.first) + 2 * stride) + far) }
+        ensures counted { IfOk result (λ f. (xs : List Step) (count : ℕ) → IsRecording self.old.tableau.qubits (C.sequence coins.old) stride xs count self.old → IsSpan xs (unroll (circuit_items circuit.now)) span → IsCounted (AgreeAfterSpan self.old.tableau.qubits (C.sequence coins.old) xs (unroll (circuit_items circuit.now)) span) (AgreeBackAfterSpan self.old.tableau.qubits (C.sequence coins.old) xs (unroll (circuit_items circuit.now)) span) (checkpoint_steps self.old.checkpoints.items) span.first span.old_end span.new_end (length (unroll (circuit_items circuit.now))) (f.applied + f.by_frame)) }
         ensures err { IfErr result (λ r. r ≡ OutOfMemory) }
     {
         let before = count_before(self.checkpoints.as_slice(), span.first + 1);
@@ -197,21 +197,16 @@ impl Recording {
             base: replay.outputs.records.len(),
             window: self.window,
         };
-        let end = replay.follow(
-            alloc,
-            circuit,
-            repeats,
-            self.checkpoints.as_slice(),
-            &self.outputs,
-            &self.strings,
-            plan,
-            coins,
-            &mut tried,
-        )?;
+        let old = OldRun {
+            checkpoints: self.checkpoints.as_slice(),
+            outputs: &self.outputs,
+            pivots: &self.strings,
+        };
+        let end = replay.follow(alloc, circuit, repeats, &old, plan, coins, &mut tried)?;
         let place = self.place_of(&end, replay.step, span, plan.total);
         let followed = Followed {
             applied: replay.applied,
-            framed: replay.framed + (place - replay.step) as u64,
+            by_frame: replay.by_frame + (place - replay.step) as u64,
             tried,
         };
         let prepared = self.prepare(alloc, replay, end, circuit.observables(), spare)?;
@@ -228,19 +223,19 @@ impl Recording {
         count: usize,
         spare: &mut Option<Tableau>,
     ) -> Result<Prepared, Refusal>
-        requires in_range { HasCopy self.old.tableau.qubits self.old.checkpoints.items end }
+        requires in_range { HasCheckpoint self.old.tableau.qubits self.old.checkpoints.items end }
         requires same_length { replay.pivots.strings.qubits ≡ self.old.strings.qubits }
         ensures unchanged { IsSameRecording self.new self.old }
         ensures prepared { IfOk result (IsPrepared self.old replay.entry count end) }
         ensures room { IfOk result (λ p. HasRoom self.new.tableau.qubits p.rest self.new.checkpoints.items) }
-        ensures capacity { IfOk result (λ p. length self.new.checkpoints.items + length p.laid.items ≤ vec_capacity self.new.checkpoints) }
+        ensures capacity { IfOk result (λ p. length self.new.checkpoints.items + length p.saved.items ≤ vec_capacity self.new.checkpoints) }
         ensures err { IfErr result (λ r. r ≡ OutOfMemory) }
     {
         let Replay {
             tableau,
             mut outputs,
             pivots,
-            mut laid,
+            mut saved,
             step,
             ..
         } = replay;
@@ -252,14 +247,14 @@ impl Recording {
         let rest = self.rest(alloc, tableau, &mut outputs, &mut strings, step, end, spare)?;
         strings.cut();
         let observables = observables(alloc, count, outputs.additions.as_slice())?;
-        self.checkpoints.reserve(laid.len())?;
-        laid.reverse();
+        self.checkpoints.reserve(saved.len())?;
+        saved.reverse();
         Ok(Prepared {
             outputs,
             observables,
             strings,
             window,
-            laid,
+            saved,
             rest,
         })
     }
@@ -279,7 +274,7 @@ impl Recording {
         end: End,
         spare: &mut Option<Tableau>,
     ) -> Result<Rest, Refusal>
-        requires in_range { HasCopy self.now.tableau.qubits self.now.checkpoints.items end }
+        requires in_range { HasCheckpoint self.now.tableau.qubits self.now.checkpoints.items end }
         requires same_length { strings.old.qubits ≡ self.now.strings.qubits }
         ensures rest { IfOk result (IsRest self.now tableau (output_of outputs.old) strings.old step end (output_of outputs.new) strings.new) }
         ensures room { IfOk result (λ rest. HasRoom self.now.tableau.qubits rest self.now.checkpoints.items) }
@@ -290,17 +285,17 @@ impl Recording {
             End::Joined(number) => {
                 *spare = Some(tableau);
                 let propagation = Propagation::new(alloc, self.tableau.len(), &[], 0)?;
-                let framed = RestFrame {
+                let by_frame = RestFrame {
                     number,
                     compared: 0,
                     propagation,
                     conjugated: Vec::new(alloc),
                 };
-                self.old_rest(alloc, outputs, strings, step, framed)
+                self.old_rest(alloc, outputs, strings, step, by_frame)
             }
-            End::Framed(framed) => {
+            End::Propagated(by_frame) => {
                 *spare = Some(tableau);
-                self.old_rest(alloc, outputs, strings, step, framed)
+                self.old_rest(alloc, outputs, strings, step, by_frame)
             }
         }
     }
@@ -315,13 +310,13 @@ impl Recording {
         outputs: &mut Outputs,
         strings: &mut Pivots,
         step: usize,
-        framed: RestFrame,
+        by_frame: RestFrame,
     ) -> Result<Rest, Refusal>
-        requires in_range { framed.number < length self.now.checkpoints.items }
-        requires few { framed.number + length framed.conjugated.items ≤ length self.now.checkpoints.items }
-        requires letters { length framed.propagation.letters ≡ self.now.tableau.qubits }
+        requires in_range { by_frame.number < length self.now.checkpoints.items }
+        requires few { by_frame.number + length by_frame.conjugated.items ≤ length self.now.checkpoints.items }
+        requires letters { length by_frame.propagation.letters ≡ self.now.tableau.qubits }
         requires same_length { strings.old.qubits ≡ self.now.strings.qubits }
-        ensures rest { IfOk result (λ rest. IfSome (slice_get self.now.checkpoints.items framed.number) (IsOldRest self.now (output_of outputs.old) strings.old step framed.number framed.compared framed.propagation framed.conjugated.items (output_of outputs.new) strings.new rest)) }
+        ensures rest { IfOk result (λ rest. IfSome (slice_get self.now.checkpoints.items by_frame.number) (IsOldRest self.now (output_of outputs.old) strings.old step by_frame.number by_frame.compared by_frame.propagation by_frame.conjugated.items (output_of outputs.new) strings.new rest)) }
         ensures room { IfOk result (λ rest. HasRoom self.now.tableau.qubits rest self.now.checkpoints.items) }
         ensures err { IfErr result (λ r. r ≡ OutOfMemory) }
     {
@@ -330,18 +325,18 @@ impl Recording {
             compared,
             propagation,
             conjugated,
-        } = framed;
-        let copy = &self.checkpoints[number];
+        } = by_frame;
+        let checkpoint = &self.checkpoints[number];
         let lengths = outputs.lengths();
-        outputs.append_rest(&self.outputs, copy.lengths)?;
+        outputs.append_rest(&self.outputs, checkpoint.lengths)?;
         flip_outputs(outputs, lengths, &propagation, compared);
-        self.append_strings(strings, copy.lengths.free, outputs.free.as_slice())?;
+        self.append_strings(strings, checkpoint.lengths.free, outputs.free.as_slice())?;
         Ok(Rest::Old(OldRest {
             number,
             meeting: Meeting {
-                old_step: copy.step,
+                old_step: checkpoint.step,
                 new_step: step,
-                old_lengths: copy.lengths,
+                old_lengths: checkpoint.lengths,
                 new_lengths: lengths,
             },
             propagation,
@@ -360,8 +355,8 @@ impl Recording {
         spare: &mut Option<Tableau>,
     )
         requires room { HasRoom self.old.tableau.qubits prepared.rest self.old.checkpoints.items }
-        requires capacity { length self.old.checkpoints.items + length prepared.laid.items ≤ vec_capacity self.old.checkpoints }
-        requires behind { before + length (copies_behind prepared.rest self.old.checkpoints.items) ≤ length self.old.checkpoints.items }
+        requires capacity { length self.old.checkpoints.items + length prepared.saved.items ≤ vec_capacity self.old.checkpoints }
+        requires following { before + length (checkpoints_after prepared.rest self.old.checkpoints.items) ≤ length self.old.checkpoints.items }
         ensures committed { IsCommitted self.old prepared before stride self.new }
     {
         let Prepared {
@@ -369,7 +364,7 @@ impl Recording {
             observables,
             strings,
             window,
-            mut laid,
+            mut saved,
             rest,
         } = prepared;
         self.outputs = outputs;
@@ -379,9 +374,9 @@ impl Recording {
         match rest {
             Rest::Nothing(tableau) => {
                 *spare = Some(std::mem::replace(&mut self.tableau, tableau));
-                self.lay_behind(before, &mut laid, stride);
+                self.save_after(before, &mut saved, stride);
             }
-            Rest::Old(rest) => self.put_rest(rest, before, &mut laid, stride),
+            Rest::Old(rest) => self.put_rest(rest, before, &mut saved, stride),
         }
     }
 }

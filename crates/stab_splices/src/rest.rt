@@ -3,16 +3,16 @@ ghost use Rattle.stab_io.specs.declared.refusal.Refusal.TheVariants.{OutOfMemory
 ghost use Rattle.stab_run.specs.Records.{ones};
 ghost use Rattle.stab_recording.specs.PivotLists.{IsSpliced};
 ghost use Rattle.stab_run.specs.ProgramStates.{output_of};
-ghost use Rattle.stab_recording.specs.LaidCheckpoints.{all_laid};
+ghost use Rattle.stab_recording.specs.SavedCheckpoints.{all_saved};
 ghost use Rattle.stab_recording.specs.RestFrames.{with_states};
 ghost use Rattle.stab_splices.specs.inner.OldRests.{HasRoomFor, IsRestPut, conjugated_end};
-ghost use Rattle.stab_splices.specs.inner.Prepared.{HasCopy, end_of};
+ghost use Rattle.stab_splices.specs.inner.Prepared.{HasCheckpoint, end_of};
 
 use crate::recording::Recording;
 use stab_edits::Span;
 use stab_frames::{Pivots, Propagation, count_ones};
 use stab_io::Refusal;
-use stab_recording::{Checkpoint, End, Meeting, apply_frame, lay_all, shifted, take_moved};
+use stab_recording::{Checkpoint, End, Meeting, apply_frame, save_all, shifted, take_moved};
 use stab_tableau::CompactTableau;
 
 /// The run from a checkpoint on, which a frame conjugates, and which moves to another place.
@@ -31,36 +31,41 @@ pub(crate) struct OldRest {
 }
 
 /// Where a checkpoint is among the new steps once it has moved with a span, or the end where there is none.
-pub(crate) fn end_place(copies: &[Checkpoint], number: usize, span: Span, total: usize) -> usize
-    ensures value { result ≡ conjugated_end span total (slice_get copies.now number) }
+pub(crate) fn end_place(
+    checkpoints: &[Checkpoint],
+    number: usize,
+    span: Span,
+    total: usize,
+) -> usize
+    ensures value { result ≡ conjugated_end span total (slice_get checkpoints.now number) }
 {
-    match copies.get(number) {
-        Some(copy) => shifted(span.old_end, span.new_end, copy.step),
+    match checkpoints.get(number) {
+        Some(checkpoint) => shifted(span.old_end, span.new_end, checkpoint.step),
         None => total,
     }
 }
 
 /// Puts states in place of those of checkpoints, from a place on. It takes no memory.
-fn put_states(copies: &mut Vec<Checkpoint>, from: usize, states: &mut Vec<CompactTableau>)
-    requires in_range { from + length states.old.items ≤ length copies.old.items }
-    ensures value { copies.new.items ≡ take from copies.old.items ++ with_states states.old.items (drop from copies.old.items) }
-    ensures capacity { vec_capacity copies.new ≡ vec_capacity copies.old }
+fn put_states(checkpoints: &mut Vec<Checkpoint>, from: usize, states: &mut Vec<CompactTableau>)
+    requires in_range { from + length states.old.items ≤ length checkpoints.old.items }
+    ensures value { checkpoints.new.items ≡ take from checkpoints.old.items ++ with_states states.old.items (drop from checkpoints.old.items) }
+    ensures capacity { vec_capacity checkpoints.new ≡ vec_capacity checkpoints.old }
 {
     while let Some(state) = states.pop() {
-        copies[from + states.len()].tableau = state;
+        checkpoints[from + states.len()].tableau = state;
     }
 }
 
 impl Recording {
     /// Where a replay of the new steps ended, which is before this one if no frame was propagated on.
     pub(crate) fn place_of(&self, end: &End, step: usize, span: Span, total: usize) -> usize
-        requires in_range { HasCopy self.now.tableau.qubits self.now.checkpoints.items end.now }
+        requires in_range { HasCheckpoint self.now.tableau.qubits self.now.checkpoints.items end.now }
         ensures value { result ≡ end_of span total step self.now.checkpoints.items end.now }
     {
         match end {
-            End::Framed(framed) => end_place(
+            End::Propagated(by_frame) => end_place(
                 self.checkpoints.as_slice(),
-                framed.number + framed.conjugated.len(),
+                by_frame.number + by_frame.conjugated.len(),
                 span,
                 total,
             ),
@@ -70,19 +75,19 @@ impl Recording {
 
     /// Keeps checkpoints, the last of them first, after this many of those that are kept. It takes no
     /// memory.
-    pub(crate) fn lay_behind(&mut self, before: usize, laid: &mut Vec<Checkpoint>, stride: usize)
-        requires room { before + length laid.old.items ≤ vec_capacity self.old.checkpoints }
+    pub(crate) fn save_after(&mut self, before: usize, saved: &mut Vec<Checkpoint>, stride: usize)
+        requires room { before + length saved.old.items ≤ vec_capacity self.old.checkpoints }
         ensures tableau { self.new.tableau ≡ self.old.tableau }
         ensures output { output_of self.new.outputs ≡ output_of self.old.outputs }
         ensures observables { self.new.observables.items ≡ self.old.observables.items }
         ensures strings { self.new.strings ≡ self.old.strings }
         ensures window { self.new.window ≡ self.old.window }
-        ensures checkpoints { self.new.checkpoints.items ≡ all_laid stride (reverse laid.old.items) (take before self.old.checkpoints.items) }
-        ensures shorter { length self.new.checkpoints.items ≤ before + length laid.old.items }
+        ensures checkpoints { self.new.checkpoints.items ≡ all_saved stride (reverse saved.old.items) (take before self.old.checkpoints.items) }
+        ensures shorter { length self.new.checkpoints.items ≤ before + length saved.old.items }
         ensures capacity { vec_capacity self.new.checkpoints ≡ vec_capacity self.old.checkpoints }
     {
         self.checkpoints.truncate(before);
-        lay_all(&mut self.checkpoints, laid, stride);
+        save_all(&mut self.checkpoints, saved, stride);
     }
 
     /// Puts the rest of the run in place, after checkpoints, the last of them first, that come after this many of those that are kept. It
@@ -91,13 +96,13 @@ impl Recording {
         &mut self,
         rest: OldRest,
         before: usize,
-        laid: &mut Vec<Checkpoint>,
+        saved: &mut Vec<Checkpoint>,
         stride: usize,
     )
         requires room { HasRoomFor self.old.tableau.qubits rest self.old.checkpoints.items }
         requires order { before ≤ rest.number }
-        requires capacity { before + length laid.old.items + length self.old.checkpoints.items ≤ vec_capacity self.old.checkpoints + rest.number }
-        ensures put { IsRestPut self.old rest before stride (reverse laid.old.items) self.new }
+        requires capacity { before + length saved.old.items + length self.old.checkpoints.items ≤ vec_capacity self.old.checkpoints + rest.number }
+        ensures put { IsRestPut self.old rest before stride (reverse saved.old.items) self.new }
     {
         let OldRest {
             number,
@@ -109,11 +114,11 @@ impl Recording {
         apply_frame(&mut self.tableau, propagation.letters());
         put_states(&mut self.checkpoints, number, &mut conjugated);
         take_moved(&mut self.checkpoints, number, meeting, &mut room);
-        self.lay_behind(before, laid, stride);
-        lay_all(&mut self.checkpoints, &mut room, stride);
+        self.save_after(before, saved, stride);
+        save_all(&mut self.checkpoints, &mut room, stride);
     }
 
-    /// Appends the strings of free outcomes from this coin number on to those before, in a run with
+    /// Appends the pivots of random outcomes from this coin number on to those before, in a run with
     /// these flags.
     ///
     /// Refusal `OutOfMemory` alone.

@@ -46,8 +46,8 @@ module _ (t : TableauState) where
     dual : (j k : ℕ) → j < t.qubits → k < t.qubits → strings_anticommute (destabiliser_of t k).letters (stabiliser_of t j).letters ≡ eqb j k
     dual j k lj lk = strings_anticommute-comm (destabiliser_of t k).letters (stabiliser_of t j).letters ∙ (are-dual t is onto j k lj lk).both
 
-    apart : (j k : ℕ) → j < t.qubits → k < t.qubits → j ≢ k → strings_anticommute (destabiliser_of t k).letters (stabiliser_of t j).letters ≡ false
-    apart j k lj lk ne = elim (eqb_tells j k) [
+    distinct : (j k : ℕ) → j < t.qubits → k < t.qubits → j ≢ k → strings_anticommute (destabiliser_of t k).letters (stabiliser_of t j).letters ≡ false
+    distinct j k lj lk ne = elim (eqb_tells j k) [
       | inl same ↦ absurd (ne same.1)
       | inr other ↦ dual j k lj lk ∙ other.0
     ]
@@ -57,7 +57,7 @@ module _ (t : TableauState) where
     dual_test-later v j zero lj le = refl
     dual_test-later v j (suc k) lj le =
         (λ i. and-false (v k) (strings_anticommute (destabiliser_of t k).letters (stabiliser_of t j).letters)
-        (apart j k lj (omega arith) (λ e. absurd (omega (arith, e)))) i
+        (distinct j k lj (omega arith) (λ e. absurd (omega (arith, e)))) i
         ⊕ dual_test-later v j k lj (omega arith) i)
 
     dual_test-is : (v : ℕ → Bool) (j k : ℕ) → j < k → k ≤ t.qubits → dual_test v k (stabiliser_of t j).letters ≡ v j
@@ -70,7 +70,7 @@ module _ (t : TableauState) where
           ∙ parity-false (v k) ∙ ap v (sym e)
       | inr other ↦ let ne : j ≢ k = other.1 in
           (λ i. and-false (v k) (strings_anticommute (destabiliser_of t k).letters (stabiliser_of t j).letters)
-          (apart j k (omega arith) (omega arith) ne) i
+          (distinct j k (omega arith) (omega arith) ne) i
           ⊕ dual_test-is v j k (omega (arith, ne)) (omega arith) i)
     ]
 

@@ -1,5 +1,5 @@
 -- Bits of strings: those of a product, and that they determine a string.
-use Rattle.stab_tableau.proofs.Names.{lt-ltb, ltb-true, ltb-false, eqb_tells, ◌≡◌, ◌≢◌, subst, ℕ, zero, suc, ◌+◌, ◌-◌, ◌<◌, ◌≤◌, Bool, true, false, nat_lt, inl, inr, refl, sym, ◌∙◌, ap, List, length, arith, if◌then◌else◌, ext_get_or, length-replicate, Letter, I, X, Z, ◌⊕◌, letter_product, letters_anticommute, identity, string_product, parity-self, letters_anticommute-comm, letters_anticommute-product, letters_anticommute-tells, get_or-string_product, string_product-self, clash, letter_at, bit_at, IsFirst}
+use Rattle.stab_tableau.proofs.Names.{lt-ltb, ltb-true, ltb-false, eqb_tells, ◌≡◌, ◌≢◌, subst, ℕ, zero, suc, ◌+◌, ◌-◌, ◌<◌, ◌≤◌, Bool, true, false, nat_lt, inl, inr, refl, sym, ◌∙◌, ap, List, length, arith, if◌then◌else◌, ext_get_or, length-replicate, Letter, I, X, Z, ◌⊕◌, letter_product, letters_anticommute, identity, string_product, parity-self, letters_anticommute-comm, letters_anticommute-product, letters_anticommute-determines, get_or-string_product, string_product-self, clash, letter_at, bit_at, IsFirst}
 use Rattle.std.proofs.Common.{◌⊎◌}
 
 pub bit-x : (n : ℕ) (p : List Letter) (k : ℕ) → k < n → bit_at n p k ≡ letters_anticommute Z (letter_at p k)
@@ -41,11 +41,11 @@ bit-product n p q k = by_side (nat_lt k n)
     by_side false = at X (k - n)
 
 -- strings are determined by their bits
-pub bits-tell : (n : ℕ) (p q : List Letter) → length p ≡ n → length q ≡ n → ((k : ℕ) → k < n + n → bit_at n p k ≡ bit_at n q k) → p ≡ q
-bits-tell n p q lp lq same =
+pub bits-determine : (n : ℕ) (p q : List Letter) → length p ≡ n → length q ≡ n → ((k : ℕ) → k < n + n → bit_at n p k ≡ bit_at n q k) → p ≡ q
+bits-determine n p q lp lq same =
     ext_get_or I p q (lp ∙ sym lq)
     (λ k lt. let ln : k < n = (omega arith) in
-    letters_anticommute-tells (letter_at p k) (letter_at q k)
+    letters_anticommute-determines (letter_at p k) (letter_at q k)
     (letters_anticommute-comm (letter_at p k) X ∙ sym (bit-z n p k) ∙ same (n + k) (omega arith) ∙ bit-z n q k ∙ letters_anticommute-comm X (letter_at q k))
     (letters_anticommute-comm (letter_at p k) Z ∙ sym (bit-x n p k ln) ∙ same k (omega arith) ∙ bit-x n q k ln ∙ letters_anticommute-comm Z (letter_at q k)))
 
@@ -58,8 +58,8 @@ bit-identity n k =
 
 -- places
 
-pub nat-apart : (a b : ℕ) → a ≢ b → (a < b) ⊎ (b < a)
-nat-apart a b ne = by_test (nat_lt a b) refl
+pub nat-distinct : (a b : ℕ) → a ≢ b → (a < b) ⊎ (b < a)
+nat-distinct a b ne = by_test (nat_lt a b) refl
   where
     by_test : (t : Bool) → nat_lt a b ≡ t → (a < b) ⊎ (b < a)
     by_test true e = inl (ltb-true a b e)
@@ -94,7 +94,7 @@ find-first f (suc m) = elim (find-first f m) [
 pub first-one : (n : ℕ) (p : List Letter) (j k : ℕ) → IsFirst n p j → IsFirst n p k → j ≡ k
 first-one n p j k a b = elim (eqb_tells j k) [
   | inl same ↦ same.1
-  | inr other ↦ elim (nat-apart j k other.1) [
+  | inr other ↦ elim (nat-distinct j k other.1) [
     | inl lt ↦ absurd (clash (bit_at n p j) a.1 (b.2 j lt))
     | inr lt ↦ absurd (clash (bit_at n p k) b.1 (a.2 k lt))
   ]

@@ -1,14 +1,14 @@
 -- Collapsed groups: the rows of 32 qubits after a measurement, by the masks that say which are multiplied and whose signs are flipped.
-use Rattle.stab_tableau.proofs.Names.{◌≡◌, ℕ, ◌+◌, ◌-◌, ◌<◌, ◌≤◌, true, false, inl, inr, refl, sym, ◌∙◌, ap, subst, List, length, arith, ◌⊎◌, bit_xor, cases_lt, get_or_past, Letter, I, Z, ◌⊕◌, letters_anticommute, has_x, chooses, Signed, anticommute, with_sign, phased, product_times_i_if, clash, chooses-xor, phased-with_sign, InverseRow, OfX, OfZ, letter_at, InverseRows, rows_at, row_place, row_letter, row_string, ArePairsChosen, collapsed_row, CollapsedRow, IsTold}
+use Rattle.stab_tableau.proofs.Names.{◌≡◌, ℕ, ◌+◌, ◌-◌, ◌<◌, ◌≤◌, true, false, inl, inr, refl, sym, ◌∙◌, ap, subst, List, length, arith, ◌⊎◌, bit_xor, cases_lt, get_or_past, Letter, I, Z, ◌⊕◌, letters_anticommute, has_x, chooses, Signed, anticommute, with_sign, phased, product_times_i_if, clash, chooses-xor, phased-with_sign, InverseRow, OfX, OfZ, letter_at, InverseRows, rows_at, row_place, row_letter, row_string, ArePairsChosen, collapsed_row, CollapsedRow, IsDetermined}
 use Rattle.stab_tableau.proofs.CollapsedStringLemmas.{collapsed-bit}
-use Rattle.stab_tableau.proofs.RowsApartLemmas.{apart-I}
+use Rattle.stab_tableau.proofs.AnticommutingRowsLemmas.{commutes-I}
 use Rattle.stab_tableau.proofs.DiagonalLemmas.{x-with_Z}
 
 -- either row of a qubit
-told-string : (w : InverseRow) (k : ℕ) (j : Signed) (l : Letter) (row : InverseRows) → IsTold k j l row
+determined-string : (w : InverseRow) (k : ℕ) (j : Signed) (l : Letter) (row : InverseRows) → IsDetermined k j l row
     → anticommute (row_string w row) j ≡ letters_anticommute Z (letter_at (row_string w row).letters k) ⊕ letters_anticommute (row_letter w) l
-told-string OfX k j l row told = told.x
-told-string OfZ k j l row told = told.z
+determined-string OfX k j l row determined = determined.x
+determined-string OfZ k j l row determined = determined.z
 
 -- the bit of a row that is not there
 no-row : (w : InverseRow) (rows : List InverseRows) (q place : ℕ) → length rows ≤ q → has_x (letter_at (row_string w (rows_at rows q)).letters place) ≡ false
@@ -17,25 +17,25 @@ no-row OfZ rows q place le = ap (λ (r : InverseRows). has_x (letter_at r.z.lett
 
 module _ (place : ℕ) (j : Signed) (letters : List Letter) (first with_w with_r : ℕ) (old : List InverseRows)
     (size : length letters ≡ length old)
-    (told : (q : ℕ) → first ≤ q → q < length old → IsTold place j (letter_at letters q) (rows_at old q))
+    (determined : (q : ℕ) → first ≤ q → q < length old → IsDetermined place j (letter_at letters q) (rows_at old q))
     (with_w_is : (w : InverseRow) (k : ℕ) → k < 32 → chooses with_w (row_place w k) ≡ has_x (letter_at (row_string w (rows_at old (first + k))).letters place))
     (with_r_is : (w : InverseRow) (k : ℕ) → k < 32 → chooses with_r (row_place w k) ≡ letters_anticommute (row_letter w) (letter_at letters (first + k))) where
   -- the masks say which rows anticommute with the multiplier
-  told-row : (w : InverseRow) (k : ℕ) → k < 32 → first + k < length old
+  determined-row : (w : InverseRow) (k : ℕ) → k < 32 → first + k < length old
       → anticommute (row_string w (rows_at old (first + k))) j ≡ chooses with_w (row_place w k) ⊕ chooses with_r (row_place w k)
-  told-row w k lk lt =
-      told-string w place j (letter_at letters (first + k)) (rows_at old (first + k)) (told (first + k) (omega arith) lt)
+  determined-row w k lk lt =
+      determined-string w place j (letter_at letters (first + k)) (rows_at old (first + k)) (determined (first + k) (omega arith) lt)
       ∙ (λ i. (x-with_Z (letter_at (row_string w (rows_at old (first + k))).letters place) ∙ sym (with_w_is w k lk)) i ⊕ sym (with_r_is w k lk) i)
 
-  told-both : (w : InverseRow) (k : ℕ) → k < 32 → first + k < length old
+  determined-both : (w : InverseRow) (k : ℕ) → k < 32 → first + k < length old
       → anticommute (row_string w (rows_at old (first + k))) j ≡ chooses (bit_xor with_w with_r) (row_place w k)
-  told-both w k lk lt = told-row w k lk lt ∙ sym (chooses-xor with_w with_r (row_place w k))
+  determined-both w k lk lt = determined-row w k lk lt ∙ sym (chooses-xor with_w with_r (row_place w k))
 
   -- they choose no row that is not there
   none-there : (w : InverseRow) (k : ℕ) → k < 32 → length old ≤ first + k → (chooses with_w (row_place w k) ≡ false) × (chooses with_r (row_place w k) ≡ false)
   none-there w k lk le = (
     with_w_is w k lk ∙ no-row w old (first + k) place le,
-    with_r_is w k lk ∙ apart-I w letters (first + k) (get_or_past letters (first + k) I (omega arith)),
+    with_r_is w k lk ∙ commutes-I w letters (first + k) (get_or_past letters (first + k) I (omega arith)),
   )
 
   pub multiplied-in : (w : InverseRow) (k : ℕ) → k < 32 → chooses (bit_xor with_w with_r) (row_place w k) ≡ true → first + k < length old
@@ -47,9 +47,9 @@ module _ (place : ℕ) (j : Signed) (letters : List Letter) (first with_w with_r
           let none = none-there w k lk le in
           clash (chooses (bit_xor with_w with_r) (row_place w k)) one (chooses-xor with_w with_r (row_place w k) ∙ (λ i. none.0 i ⊕ none.1 i))
 
-  pub multiplied-apart : (w : InverseRow) (k : ℕ) → k < 32 → chooses (bit_xor with_w with_r) (row_place w k) ≡ true
+  pub multiplied-distinct : (w : InverseRow) (k : ℕ) → k < 32 → chooses (bit_xor with_w with_r) (row_place w k) ≡ true
       → anticommute (row_string w (rows_at old (first + k))) j ≡ true
-  multiplied-apart w k lk one = told-both w k lk (multiplied-in w k lk one) ∙ one
+  multiplied-distinct w k lk one = determined-both w k lk (multiplied-in w k lk one) ∙ one
 
   module _ (mid new : List InverseRows) (multiplied : ArePairsChosen first (bit_xor with_w with_r) (λ b p. product_times_i_if b p j) old mid)
       (conjugated : ArePairsChosen first with_r with_sign mid new) where
@@ -59,9 +59,9 @@ module _ (place : ℕ) (j : Signed) (letters : List Letter) (first with_w with_r
     string-collapsed w k lk lt =
         let s = row_string w (rows_at old (first + k)) in
         let r = chooses with_r (row_place w k) in
-        ap phased (conjugated.within w k lk ∙ ap (with_sign r) (multiplied.within w k lk ∙ ap (λ b. product_times_i_if b s j) (sym (told-both w k lk lt))))
+        ap phased (conjugated.within w k lk ∙ ap (with_sign r) (multiplied.within w k lk ∙ ap (λ b. product_times_i_if b s j) (sym (determined-both w k lk lt))))
         ∙ phased-with_sign r (product_times_i_if (anticommute s j) s j)
-        ∙ collapsed-bit s j (anticommute s j) (chooses with_w (row_place w k)) r refl (told-row w k lk lt)
+        ∙ collapsed-bit s j (anticommute s j) (chooses with_w (row_place w k)) r refl (determined-row w k lk lt)
         ∙ ap (λ b. collapsed_row b (anticommute s j) (phased j) (phased s)) (with_w_is w k lk ∙ sym (x-with_Z (letter_at s.letters place)))
 
     collapsed-at : (k : ℕ) → k < 32 → first + k < length old → CollapsedRow place j (rows_at old (first + k)) (rows_at new (first + k))

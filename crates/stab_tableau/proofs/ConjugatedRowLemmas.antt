@@ -7,13 +7,13 @@ use Rattle.stab_tableau.proofs.SignTableLemmas.{same-count, same-table, same-ont
 -- one letter
 
 pub letter-back : (l : Letter) (a b : Bool) → letter_anticommuting (a ⊕ (letters_anticommute l X ⊕ a)) (b ⊕ (letters_anticommute l Z ⊕ b)) ≡ l
-letter-back l a b = (λ i. letter_anticommuting (cancels a (letters_anticommute l X) i) (cancels b (letters_anticommute l Z) i)) ∙ told l
+letter-back l a b = (λ i. letter_anticommuting (cancels a (letters_anticommute l X) i) (cancels b (letters_anticommute l Z) i)) ∙ determined l
   where
     cancels : (x y : Bool) → x ⊕ (y ⊕ x) ≡ y
     cancels x y = grind arith
 
-    told : (l : Letter) → letter_anticommuting (letters_anticommute l X) (letters_anticommute l Z) ≡ l
-    told = each_letter (λ l. letter_anticommuting (letters_anticommute l X) (letters_anticommute l Z) ≡ l) refl refl refl refl
+    determined : (l : Letter) → letter_anticommuting (letters_anticommute l X) (letters_anticommute l Z) ≡ l
+    determined = each_letter (λ l. letter_anticommuting (letters_anticommute l X) (letters_anticommute l Z) ≡ l) refl refl refl refl
 
 frame-none : (r : InverseRows) → frame_letter r r ≡ I
 frame-none r = λ i. letter_anticommuting (parity-self r.x.negative i) (parity-self r.z.negative i)
@@ -71,10 +71,10 @@ pub frame-conjugates : (n : ℕ) (rows others : List InverseRows) → SameLetter
 frame-conjugates n rows others s p lp = frame-stabilises n rows others s p
 
 -- the same for the states that contracts see
-pub told-conjugated : (rows others : List InverseRows) → SameLetters rows others → (t u : TableauState)
+pub determined-conjugated : (rows others : List InverseRows) → SameLetters rows others → (t u : TableauState)
     → record { qubits = length rows; rows = rows } ≡ t → record { qubits = length others; rows = others } ≡ u
     → (f : List Letter) → f ≡ sign_frame rows others → IsConjugated t.qubits f (stabilises t) (stabilises u)
-told-conjugated rows others s t u tv uv f e =
+determined-conjugated rows others s t u tv uv f e =
     subst (λ (u : TableauState). IsConjugated t.qubits f (stabilises t) (stabilises u)) uv
     (subst (λ (t : TableauState). IsConjugated t.qubits f (stabilises t) (stabilises (record { qubits = length others; rows = others }))) tv
     (subst (λ f. IsConjugated (length rows) f (stabilises (record { qubits = length rows; rows = rows })) (stabilises (record { qubits = length others; rows = others })))

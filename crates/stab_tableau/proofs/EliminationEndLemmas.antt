@@ -1,7 +1,7 @@
 -- The end of an elimination: rows that have come to the last place are the reduced rows of their group.
 use Rattle.stab_tableau.proofs.Names.{eqb_tells, ◌≡◌, ◌≢◌, ℕ, zero, suc, ◌+◌, ◌<◌, ◌≤◌, Bool, true, false, ◌&&◌, inl, inr, refl, sym, ◌∙◌, ap, subst, List, [], ◌∷◌, length, arith, Letter, ◌⊕◌, Signed, string_product, Rows, parity-self, parity-mid, length-string_product, clash, bit_at, IsLead, IsRowAt, AreRowsFrom, AreReduced, IsLinear, HasCome}
 use Rattle.std.proofs.Common.{◌⊎◌}
-use Rattle.stab_tableau.proofs.BitLemmas.{bit-product, bits-tell, nat-apart, up-to}
+use Rattle.stab_tableau.proofs.BitLemmas.{bit-product, bits-determine, nat-distinct, up-to}
 use Rattle.stab_tableau.proofs.EliminationStepLemmas.{rows_of, at, and-false, and-true, and-parity}
 
 -- a linear test of a string of zeros is 0: the string is its own product with itself
@@ -9,7 +9,7 @@ zeros-quiet : (n : ℕ) (f : List Letter → Bool) → IsLinear f → (p : List 
 zeros-quiet n f linear p lp zeros = ap f twice ∙ linear p p ∙ parity-self (f p)
   where
     twice : p ≡ string_product p p
-    twice = bits-tell n p (string_product p p) lp (length-string_product n p p lp lp)
+    twice = bits-determine n p (string_product p p) lp (length-string_product n p p lp lp)
         (λ k lt. zeros k lt ∙ sym (bit-product n p p k ∙ parity-self (bit_at n p k)))
 
 left-false : (a b : Bool) → a ≡ false → (a && b) ≡ false
@@ -106,7 +106,7 @@ module _ (member : Signed → Bool) (n used : ℕ) (xs : List Signed) (h : HasCo
   found k (p, lp, mp, first) = elim (search_lead k used) [
     | inr some ↦ some
     | inl none ↦ absurd (clash (residue k used p.letters)
-        (residue-same k used p.letters (λ b lb. quiet b lb (nat-apart (h.lead b) k (none b lb))) ∙ first.1)
+        (residue-same k used p.letters (λ b lb. quiet b lb (nat-distinct (h.lead b) k (none b lb))) ∙ first.1)
         (h.basis.spans (residue k used) (residue-linear k used) (λ a la. residue-row k a (let e = all-used in omega arith) used (let e = all-used in omega arith) (omega arith)) p lp mp))
   ]
     where
@@ -119,11 +119,11 @@ module _ (member : Signed → Bool) (n used : ℕ) (xs : List Signed) (h : HasCo
     size = h.basis.over b (let f = h.few in omega arith);
     passes = h.basis.passes b (let f = h.few in omega arith);
     first = h.first b lb;
-    others = λ l lead ne. apart l ne (found l lead);
+    others = λ l lead ne. distinct l ne (found l lead);
   }
     where
-      apart : (l : ℕ) → l ≢ h.lead b → (c : ℕ) × (c < used) × (h.lead c ≡ l) → bit_at n (at n xs b).letters l ≡ false
-      apart l ne (c, lc, e) = ap (bit_at n (at n xs b).letters) (sym e) ∙ h.clear c b lc lb (λ f. ne (sym e ∙ ap h.lead (sym f)))
+      distinct : (l : ℕ) → l ≢ h.lead b → (c : ℕ) × (c < used) × (h.lead c ≡ l) → bit_at n (at n xs b).letters l ≡ false
+      distinct l ne (c, lc, e) = ap (bit_at n (at n xs b).letters) (sym e) ∙ h.clear c b lc lb (λ f. ne (sym e ∙ ap h.lead (sym f)))
 
   end-core : AreReduced n member xs
   end-core =

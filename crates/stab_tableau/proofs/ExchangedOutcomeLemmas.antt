@@ -16,7 +16,7 @@ column-exchanges t is onto q lq k lt e = record {
   size = stabiliser-length t is onto k lt;
   negative = (stabiliser_of t k).negative;
   stabilises = stabiliser-member t is onto k lt;
-  apart =
+  anticommutes =
       sym (kept-anticommute t.qubits t.qubits (string_preimage t.qubits t.rows) is.keeps (column Z k t.rows) q.letters (stabiliser-length t is onto k lt) lq)
       ∙ ap (λ s. strings_anticommute s (string_preimage t.qubits t.rows q.letters).letters) (column-preimage t.qubits t.rows is onto Z k lt)
       ∙ one_letter-anticommute t.qubits k Z (string_preimage t.qubits t.rows q.letters).letters (is.keeps.size q.letters lq) lt

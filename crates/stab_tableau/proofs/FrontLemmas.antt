@@ -18,12 +18,12 @@ front-before zero (l ∷ p) q lt = absurd (omega arith)
 front-before (suc k) (l ∷ p) zero lt = refl
 front-before (suc k) (l ∷ p) (suc q) lt = front-before k p q (omega arith)
 
-pub front-behind : (k : ℕ) (p : List Letter) (q : ℕ) → k ≤ q → get_or (front k p) q I ≡ I
-front-behind k [] q le = refl
-front-behind zero (l ∷ p) zero le = refl
-front-behind zero (l ∷ p) (suc q) le = front-behind zero p q (omega arith)
-front-behind (suc k) (l ∷ p) zero le = absurd (omega arith)
-front-behind (suc k) (l ∷ p) (suc q) le = front-behind k p q (omega arith)
+pub front-following : (k : ℕ) (p : List Letter) (q : ℕ) → k ≤ q → get_or (front k p) q I ≡ I
+front-following k [] q le = refl
+front-following zero (l ∷ p) zero le = refl
+front-following zero (l ∷ p) (suc q) le = front-following zero p q (omega arith)
+front-following (suc k) (l ∷ p) zero le = absurd (omega arith)
+front-following (suc k) (l ∷ p) (suc q) le = front-following k p q (omega arith)
 
 pub front-none : (p : List Letter) → front zero p ≡ blank (length p)
 front-none [] = refl

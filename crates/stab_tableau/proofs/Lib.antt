@@ -35,7 +35,7 @@ pub mod FixedLemmas
 pub mod TableauColumnLemmas
 pub mod BitLemmas
 pub mod ReducedLemmas
-pub mod RowsTellLemmas
+pub mod RowsDetermineLemmas
 pub mod SearchLemmas
 pub mod RowsExistLemmas
 pub mod ExchangeLemmas
@@ -50,7 +50,7 @@ pub mod SameStateLemmas
 pub mod ConjugatedRowLemmas
 pub mod ExchangedOutcomeLemmas
 pub mod PairsChosenLemmas
-pub mod RowsApartLemmas
+pub mod AnticommutingRowsLemmas
 pub mod MaskHalfLemmas
 pub mod CollapsedGroupLemmas
 pub mod PutLettersLemmas

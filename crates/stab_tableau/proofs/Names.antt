@@ -8,7 +8,7 @@ pub use Rattle.std.proofs.lemmas.Result.{IfOk-weaker}
 pub use Rattle.std.specs.Bool.{beq}
 pub use Rattle.std.specs.List.{list_any}
 pub use Rattle.std.specs.Prelude.{if◌then◌else◌, ◌⊎◌, bit_xor, Option, None, IfSome, IfNone, bit_and, bit_or, slice_set, max}
-pub use Rattle.stab_gates.proofs.LetterLemmas.{letters_anticommute-comm, letters_anticommute-product, letters_anticommute-tells, letters_anticommute-I, letters_anticommute-self, each_letter}
+pub use Rattle.stab_gates.proofs.LetterLemmas.{letters_anticommute-comm, letters_anticommute-product, letters_anticommute-determines, letters_anticommute-I, letters_anticommute-self, each_letter}
 pub use Rattle.stab_gates.proofs.ParityLemmas.{parity-self, parity-false, parity-mid, parity-comm, parity-twice, parity-assoc, parity-not_right}
 pub use Rattle.stab_gates.proofs.PhaseLemmas.{phase_of_sign-parity, phase_of_sign-twice, phase_add-zero, phase_of_sign-sign_of_phase, is_even-twice, phase_of_sign-injective, phase_add-comm, phase_add-cancel, phase_add-assoc, phase_add-left, sign_of_phase-phase_of_sign}
 pub use Rattle.stab_gates.specs.Letters.{◌⊕◌, letter_product, letters_anticommute, letter_phase}
@@ -23,12 +23,12 @@ pub use Rattle.stab_gates.specs.declared.phase.Phase.{Phase}
 pub use Rattle.stab_gates.specs.declared.phase.Phase.TheVariants.{Zero, Quarter, Half, ThreeQuarters}
 pub use Rattle.stab_pauli.proofs.BitLemmas.{two_cases, below_two}
 pub use Rattle.stab_pauli.proofs.ChosenLemmas.{past-rows}
-pub use Rattle.stab_pauli.proofs.MaskLemmas.{clash, chooses-xor, spared, none-chosen, chosen-first, chosen-second}
-pub use Rattle.stab_pauli.proofs.NextLetterLemmas.{bit_behind}
+pub use Rattle.stab_pauli.proofs.MaskLemmas.{clash, chooses-xor, unchosen, none-chosen, chosen-first, chosen-second}
+pub use Rattle.stab_pauli.proofs.NextLetterLemmas.{bit_after}
 pub use Rattle.stab_pauli.proofs.PhasedLemmas.{times_phase-times_phase, times_phase-comm, times_phase-plain, phased_product-times_phase_left, phased_product-times_phase_right, phased_product-assoc, phased_product-swap, phased_product-comm, phased_product-unit_right, length-phased_product, phased_path, phased_product-self, phased_product-unit_left}
 pub use Rattle.stab_pauli.proofs.SeenLemmas.{phased_product-times_phase}
 pub use Rattle.stab_pauli.proofs.SignedLemmas.{phased-with_sign, length-product, product-self, product-minus_right, anticommute-product, anticommute-comm, phased-minus, phased-product, product-assoc, product-comm, product-identity_right, product-twice, signed_path}
-pub use Rattle.stab_pauli.proofs.StringLemmas.{strings_anticommute-comm, strings_anticommute-product, string_product-self, get_or-string_product, length-string_product, strings_anticommute-self, strings_anticommute-blank, strings_anticommute-product_right, string_phase-self, string_phase-twice, strings_anticommute-blank_right, strings_anticommute-tells, string_product-blank_right, string_phase-blank_right, string_product-blank, string_phase-blank, is_even-string_phase}
+pub use Rattle.stab_pauli.proofs.StringLemmas.{strings_anticommute-comm, strings_anticommute-product, string_product-self, get_or-string_product, length-string_product, strings_anticommute-self, strings_anticommute-blank, strings_anticommute-product_right, string_phase-self, string_phase-twice, strings_anticommute-blank_right, strings_anticommute-determines, string_product-blank_right, string_phase-blank_right, string_product-blank, string_phase-blank, is_even-string_phase}
 pub use Rattle.stab_pauli.specs.Masks.{chooses, AreChosen}
 pub use Rattle.stab_pauli.specs.Paulis.{Signed, anticommute, strings_anticommute, product, string_product, identity, with_sign, single, string_phase, minus, commute}
 pub use Rattle.stab_pauli.specs.Phaseds.{Phased, plain, times_phase, phased_product, phased}
@@ -45,7 +45,7 @@ pub use Rattle.stab_tableau.specs.Tableaus.{TableauState, stabilises, stabilises
 pub use Rattle.stab_tableau.specs.Traces.{diagonal, Event, applied, applied_pair, projected, member, is_free, Fits, IsSound, outcome}
 pub use Rattle.stab_tableau.specs.declared.table.InverseRow.{InverseRow}
 pub use Rattle.stab_tableau.specs.declared.table.InverseRow.TheVariants.{OfX, OfZ}
-pub use Rattle.stab_tableau.specs.inner.Collapses.{collapsed_row, CollapsedRow, IsTold}
+pub use Rattle.stab_tableau.specs.inner.Collapses.{collapsed_row, CollapsedRow, IsDetermined}
 pub use Rattle.stab_tableau.specs.inner.ColumnLetters.{letter_anticommuting, column}
 pub use Rattle.stab_tableau.specs.inner.Eliminations.{IsLinear, IsBasis, HasCome, ComesTo, exchanged, AreExchanged, cleared_with, AreCleared, HasStepped}
 pub use Rattle.stab_tableau.specs.inner.Frames.{SameLetters, conjugated_row, frame_letter, sign_frame}

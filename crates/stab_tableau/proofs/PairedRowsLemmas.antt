@@ -46,13 +46,13 @@ module _ (d : Signed) (r : InverseRows) where
 
 -- places
 
-pub places-apart : (v w : InverseRow) (a b : ℕ) → (v ≢ w) ⊎ (a ≢ b) → row_place v a ≢ row_place w b
-places-apart OfX OfX a b (inl ne) = λ e. ne refl
-places-apart OfX OfX a b (inr ne) = λ e. ne (omega arith)
-places-apart OfX OfZ a b apart = λ e. omega arith
-places-apart OfZ OfX a b apart = λ e. omega arith
-places-apart OfZ OfZ a b (inl ne) = λ e. ne refl
-places-apart OfZ OfZ a b (inr ne) = λ e. ne (omega arith)
+pub places-distinct : (v w : InverseRow) (a b : ℕ) → (v ≢ w) ⊎ (a ≢ b) → row_place v a ≢ row_place w b
+places-distinct OfX OfX a b (inl ne) = λ e. ne refl
+places-distinct OfX OfX a b (inr ne) = λ e. ne (omega arith)
+places-distinct OfX OfZ a b distinct = λ e. omega arith
+places-distinct OfZ OfX a b distinct = λ e. omega arith
+places-distinct OfZ OfZ a b (inl ne) = λ e. ne refl
+places-distinct OfZ OfZ a b (inr ne) = λ e. ne (omega arith)
 
 pub length-put : (w : InverseRow) (q : ℕ) (p : Signed) (rows : List InverseRows) → length (put w q p rows) ≡ length rows
 length-put w q p rows = length-set rows q (with_string w p (rows_at rows q))
@@ -134,8 +134,8 @@ module _ (r : Rows) (is : IsPaired r) (t : List InverseRows) (view : paired r.ro
   seen-written w q k lt e new p s made same =
       pair-written r is w q new p s (seen-in q lt) (made ∙ ap (λ k. with_row r k p) e) same ∙ ap (put w q s) view
 
-  pub seen-apart : (v w : InverseRow) (a b j k : ℕ) → j ≡ row_place v a → k ≡ row_place w b → (v ≢ w) ⊎ (a ≢ b) → j ≢ k
-  seen-apart v w a b j k ej ek apart = λ e. places-apart v w a b apart (sym ej ∙ e ∙ ek)
+  pub seen-distinct : (v w : InverseRow) (a b j k : ℕ) → j ≡ row_place v a → k ≡ row_place w b → (v ≢ w) ⊎ (a ≢ b) → j ≢ k
+  seen-distinct v w a b j k ej ek distinct = λ e. places-distinct v w a b distinct (sym ej ∙ e ∙ ek)
 
   pub seen-exchanged : (v w : InverseRow) (a b j k : ℕ) → a < length t → b < length t → j ≡ row_place v a → k ≡ row_place w b
       → (new : Rows) → new ≡ swapped_rows r j k → paired new.rows ≡ rows_exchanged v a w b t

@@ -9,9 +9,9 @@ pub place-below : (w : InverseRow) (k : ℕ) → k < 32 → row_place w k < 64
 place-below OfX k lt = omega arith
 place-below OfZ k lt = omega arith
 
-pub place-behind : (w : InverseRow) (first k : ℕ) → 2 * first + row_place w k ≡ row_place w (first + k)
-place-behind OfX first k = omega arith
-place-behind OfZ first k = omega arith
+pub place-following : (w : InverseRow) (first k : ℕ) → 2 * first + row_place w k ≡ row_place w (first + k)
+place-following OfX first k = omega arith
+place-following OfZ first k = omega arith
 
 -- a place among 64 is that of one of 32 qubits
 pub record IsPlace (i : ℕ) : Type 0 where
@@ -43,7 +43,7 @@ module _ (r : Rows) (is : IsPaired r) (first mask : ℕ)
   chosen-in i lt one =
       let at = place-of i lt in
       let e = at.place in
-      let f = place-behind at.row first at.qubit in
+      let f = place-following at.row first at.qubit in
       let there = pair-in r is at.row (first + at.qubit) (within at.row at.qubit at.below (ap (chooses mask) (sym e) ∙ one)) in
       omega arith
 
@@ -53,7 +53,7 @@ module _ (r : Rows) (is : IsPaired r) (first mask : ℕ)
   chosen-is P holds i lt one =
       let at = place-of i lt in
       let chosen : chooses mask (row_place at.row at.qubit) ≡ true = ap (chooses mask) (sym at.place) ∙ one in
-      ap (λ j. P (string_at r j)) (ap (λ k. 2 * first + k) at.place ∙ place-behind at.row first at.qubit)
+      ap (λ j. P (string_at r j)) (ap (λ k. 2 * first + k) at.place ∙ place-following at.row first at.qubit)
       ∙ ap P (pair-read r is at.row (first + at.qubit) (within at.row at.qubit at.below chosen))
       ∙ holds at.row at.qubit at.below chosen
 
@@ -78,20 +78,20 @@ module _ (r : Rows) (is : IsPaired r) (first mask : ℕ)
             → row_string w (rows_at (paired new.rows) (first + k)) ≡ change (chooses mask (row_place w k)) (row_string w (rows_at (paired r.rows) (first + k)))
         by_place (inl lt) =
             sym (pair-read new chosen-paired w (first + k) (let l = same-length in omega arith))
-            ∙ ap (string_at new) (sym (place-behind w first k))
+            ∙ ap (string_at new) (sym (place-following w first k))
             ∙ chosen.within (row_place w k) (place-below w k lk)
-            ∙ ap (change (chooses mask (row_place w k))) (ap (string_at r) (place-behind w first k) ∙ pair-read r is w (first + k) lt)
+            ∙ ap (change (chooses mask (row_place w k))) (ap (string_at r) (place-following w first k) ∙ pair-read r is w (first + k) lt)
         by_place (inr le) =
             ap (row_string w) (past (first + k) le)
             ∙ sym (stays (row_string w (rows_at (paired r.rows) (first + k))))
             ∙ ap (λ b. change b (row_string w (rows_at (paired r.rows) (first + k))))
             (sym (not-true (chooses mask (row_place w k)) (λ one. let lt = within w k lk one in omega arith)))
 
-    apart : (w : InverseRow) (q : ℕ) → (q < first) ⊎ (first + 32 ≤ q) → (row_place w q < 2 * first) ⊎ (2 * first + 64 ≤ row_place w q)
-    apart OfX q (inl lt) = inl (omega arith)
-    apart OfX q (inr le) = inr (omega arith)
-    apart OfZ q (inl lt) = inl (omega arith)
-    apart OfZ q (inr le) = inr (omega arith)
+    distinct : (w : InverseRow) (q : ℕ) → (q < first) ⊎ (first + 32 ≤ q) → (row_place w q < 2 * first) ⊎ (2 * first + 64 ≤ row_place w q)
+    distinct OfX q (inl lt) = inl (omega arith)
+    distinct OfX q (inr le) = inr (omega arith)
+    distinct OfZ q (inl lt) = inl (omega arith)
+    distinct OfZ q (inr le) = inr (omega arith)
 
     others : (q : ℕ) → (q < first) ⊎ (first + 32 ≤ q) → rows_at (paired new.rows) q ≡ rows_at (paired r.rows) q
     others q away = by_place (cases_lt q (length (paired r.rows)))
@@ -99,7 +99,7 @@ module _ (r : Rows) (is : IsPaired r) (first mask : ℕ)
         by_place : (q < length (paired r.rows)) ⊎ (length (paired r.rows) ≤ q) → rows_at (paired new.rows) q ≡ rows_at (paired r.rows) q
         by_place (inl lt) = both (rows_at (paired new.rows) q) (rows_at (paired r.rows) q) (λ w.
             sym (pair-read new chosen-paired w q (let l = same-length in omega arith))
-            ∙ chosen.others (row_place w q) (apart w q away)
+            ∙ chosen.others (row_place w q) (distinct w q away)
             ∙ pair-read r is w q lt)
         by_place (inr le) = past q le
 
@@ -132,16 +132,16 @@ module _ (r : Rows) (is : IsPaired r) (t : List InverseRows) (view : paired r.ro
 
 -- which rows of qubits have X or Y at a place
 module _ (r : Rows) (is : IsPaired r) (first place mask : ℕ)
-    (tells : (i : ℕ) → i < 64 → chooses mask i ≡ has_x (get_or (string_at r (2 * first + i)).letters place I)) where
+    (determines : (i : ℕ) → i < 64 → chooses mask i ≡ has_x (get_or (string_at r (2 * first + i)).letters place I)) where
   pub pairs-with_x : (w : InverseRow) (k : ℕ) → k < 32 → chooses mask (row_place w k) ≡ has_x (letter_at (row_string w (rows_at (paired r.rows) (first + k))).letters place)
   pairs-with_x w k lk =
-      tells (row_place w k) (place-below w k lk)
-      ∙ ap (λ j. has_x (get_or (string_at r j).letters place I)) (place-behind w first k)
+      determines (row_place w k) (place-below w k lk)
+      ∙ ap (λ j. has_x (get_or (string_at r j).letters place I)) (place-following w first k)
       ∙ by_place (cases_lt (first + k) (length (paired r.rows)))
     where
-      behind : (v : InverseRow) (q : ℕ) → length r.rows ≡ 2 * r.qubits → r.qubits ≤ q → length r.rows ≤ row_place v q
-      behind OfX q e le = omega arith
-      behind OfZ q e le = omega arith
+      following : (v : InverseRow) (q : ℕ) → length r.rows ≡ 2 * r.qubits → r.qubits ≤ q → length r.rows ≤ row_place v q
+      following OfX q e le = omega arith
+      following OfZ q e le = omega arith
 
       empty : (v : InverseRow) → has_x (letter_at (row_string v none).letters place) ≡ false
       empty OfX = refl
@@ -151,5 +151,5 @@ module _ (r : Rows) (is : IsPaired r) (first place mask : ℕ)
           → has_x (get_or (string_at r (row_place w (first + k))).letters place I) ≡ has_x (letter_at (row_string w (rows_at (paired r.rows) (first + k))).letters place)
       by_place (inl lt) = ap (λ (p : Signed). has_x (letter_at p.letters place)) (pair-read r is w (first + k) lt)
       by_place (inr le) =
-          past-rows r (row_place w (first + k)) place (behind w (first + k) is.size (let e = pairs-are r is in omega arith))
+          past-rows r (row_place w (first + k)) place (following w (first + k) is.size (let e = pairs-are r is in omega arith))
           ∙ sym (ap (λ p. has_x (letter_at (row_string w p).letters place)) (get_or_past (paired r.rows) (first + k) _ le) ∙ empty w)

@@ -1,7 +1,7 @@
 -- Reduced rows: a group has at most one list of them.
 use Rattle.stab_tableau.proofs.Names.{eqb_tells, ◌≡◌, ◌≢◌, eqb, subst, ℕ, suc, ◌+◌, ◌<◌, Bool, true, false, not, inl, inr, refl, sym, ◌∙◌, ap, List, [], ◌∷◌, length, arith, ◌⊕◌, Signed, minus, product, signed_path, length-product, clash, IsStabiliserGroup, SameGroup, bit_at, IsLead, IsRowAt, AreRowsFrom, AreReduced}
 use Rattle.std.proofs.Common.{◌⊎◌}
-use Rattle.stab_tableau.proofs.BitLemmas.{bit-product, bits-tell, HasFirst, find-first}
+use Rattle.stab_tableau.proofs.BitLemmas.{bit-product, bits-determine, HasFirst, find-first}
 
 -- two members with the same letters are one
 pub same-letters : (n : ℕ) (member : Signed → Bool) → IsStabiliserGroup n member → (p q : Signed) → length p.letters ≡ n
@@ -31,7 +31,7 @@ module _ (n : ℕ) (member : Signed → Bool) (g : IsStabiliserGroup n member) w
   IsRowAt-one k p q rp rq =
       elim (find-first (bit_at n (product p q).letters) (n + n)) [
         | inl none ↦ same-letters n member g p q rp.size rp.passes rq.passes
-            (bits-tell n p.letters q.letters rp.size rq.size (λ j lt. even _ _ (sym (bit-product n p.letters q.letters j) ∙ none j lt)))
+            (bits-determine n p.letters q.letters rp.size rq.size (λ j lt. even _ _ (sym (bit-product n p.letters q.letters j) ∙ none j lt)))
         | inr h ↦ absurd (no_first h)
       ]
     where

@@ -2,7 +2,7 @@
 -- first 1 there is cleared by the rows that are there already.
 use Rattle.stab_tableau.proofs.Names.{eqb_tells, ◌≡◌, ◌≢◌, eqb, subst, ℕ, zero, suc, ◌+◌, ◌<◌, ◌≤◌, Bool, true, false, inl, inr, refl, ◌∙◌, ap, List, [], ◌∷◌, length, arith, Letter, ◌⊕◌, Signed, product, length-product, clash, IsStabiliserGroup, bit_at, IsFirst, IsLead, IsRowAt, AreRowsFrom, AreReduced}
 use Rattle.std.proofs.Common.{◌⊎◌}
-use Rattle.stab_tableau.proofs.BitLemmas.{bit-product, nat-apart, find-first, first-one}
+use Rattle.stab_tableau.proofs.BitLemmas.{bit-product, nat-distinct, find-first, first-one}
 use Rattle.stab_tableau.proofs.SearchLemmas.{Decides, HasNone, HasSome, search}
 
 -- whether a place is a lead
@@ -71,7 +71,7 @@ module _ (n : ℕ) (member : Signed → Bool) (g : IsStabiliserGroup n member) w
     same = λ j lt. c.same j (omega arith) ∙ same j lt;
     clear = λ l ll lead. elim (eqb_tells l k) [
       | inl here ↦ ap (bit_at n q.letters) here.1 ∙ c.same k (omega arith) ∙ zero_there
-      | inr other ↦ elim (nat-apart l k other.1) [
+      | inr other ↦ elim (nat-distinct l k other.1) [
         | inl lt ↦ absurd (none l ll lt lead)
         | inr lt ↦ c.clear l (omega arith) lead
       ]
@@ -130,7 +130,7 @@ module _ (n : ℕ) (member : Signed → Bool) (g : IsStabiliserGroup n member) w
         size = c.1.size;
         passes = c.1.passes;
         first = first;
-        others = λ l ld ne. elim (nat-apart l low ne) [
+        others = λ l ld ne. elim (nat-distinct l low ne) [
           | inl lt ↦ first.2 l lt
           | inr lt ↦ c.1.clear l (omega arith) ld
         ];

@@ -34,14 +34,14 @@ module _ (rows : List InverseRows) (scratch : InverseRows) (is : IsTableau (leng
 
 module _ (rows : List InverseRows) (scratch : InverseRows) (is : IsTableau (length rows) rows scratch)
     (u : TableauState) (g : IsStabiliserGroup u.qubits (stabilises u)) (same : u.qubits ≡ length rows) where
-  pub tells-yes : (k : ℕ) → length rows ≤ k → ((j : ℕ) → j < k → stabilises u (stabiliser_of (state_of rows) j) ≡ true)
+  pub determines-yes : (k : ℕ) → length rows ≤ k → ((j : ℕ) → j < k → stabilises u (stabiliser_of (state_of rows) j) ≡ true)
       → SameGroup (length rows) (stabilises (state_of rows)) (stabilises u)
-  tells-yes k le has =
+  determines-yes k le has =
       same-group (state_of rows) is.table is.onto (stabilises u) (subst (λ n. IsStabiliserGroup n (stabilises u)) same g) (λ j lt. has j (omega arith))
 
-  pub tells-no : (k : ℕ) → k < length rows → (stabilises u (stabiliser_of (state_of rows) k) ≡ true → ⊥)
+  pub determines-no : (k : ℕ) → k < length rows → (stabilises u (stabiliser_of (state_of rows) k) ≡ true → ⊥)
       → SameGroup (length rows) (stabilises (state_of rows)) (stabilises u) → ⊥
-  tells-no k lt absent agree =
+  determines-no k lt absent agree =
       absent (sym (agree (stabiliser_of (state_of rows) k) (stabiliser-length (state_of rows) is.table is.onto k lt))
       ∙ stabiliser-member (state_of rows) is.table is.onto k lt)
 

@@ -15,11 +15,11 @@ abbrev pub HasSome : ℕ → (List Letter → Type 0) → Type 0
 HasSome n P = (p : List Letter) × (length p ≡ n) × P p
 
 -- strings with a letter before them
-abbrev behind : Letter → (List Letter → Type 0) → List Letter → Type 0
-behind l P p = P (l ∷ p)
+abbrev following : Letter → (List Letter → Type 0) → List Letter → Type 0
+following l P p = P (l ∷ p)
 
 -- a string after a letter is a string
-longer : (n : ℕ) (P : List Letter → Type 0) (l : Letter) → HasSome n (behind l P) → HasSome (suc n) P
+longer : (n : ℕ) (P : List Letter → Type 0) (l : Letter) → HasSome n (following l P) → HasSome (suc n) P
 longer n P l (p, lp, here) = (l ∷ p, ap suc lp, here)
 
 -- the empty string is the one of no letters
@@ -28,7 +28,7 @@ none-empty P none [] lp here = none here
 none-empty P none (l ∷ p) lp here = omega (arith, lp)
 
 -- a string of more letters has one of the four first
-none-longer : (n : ℕ) (P : List Letter → Type 0) → HasNone n (behind I P) → HasNone n (behind X P) → HasNone n (behind Y P) → HasNone n (behind Z P)
+none-longer : (n : ℕ) (P : List Letter → Type 0) → HasNone n (following I P) → HasNone n (following X P) → HasNone n (following Y P) → HasNone n (following Z P)
     → HasNone (suc n) P
 none-longer n P i x y z [] lp here = omega (arith, lp)
 none-longer n P i x y z (I ∷ p) lp here = i p (omega (arith, lp)) here
@@ -37,8 +37,8 @@ none-longer n P i x y z (Y ∷ p) lp here = y p (omega (arith, lp)) here
 none-longer n P i x y z (Z ∷ p) lp here = z p (omega (arith, lp)) here
 
 by_letters : (n : ℕ) (P : List Letter → Type 0)
-    → HasNone n (behind I P) ⊎ HasSome n (behind I P) → HasNone n (behind X P) ⊎ HasSome n (behind X P)
-    → HasNone n (behind Y P) ⊎ HasSome n (behind Y P) → HasNone n (behind Z P) ⊎ HasSome n (behind Z P)
+    → HasNone n (following I P) ⊎ HasSome n (following I P) → HasNone n (following X P) ⊎ HasSome n (following X P)
+    → HasNone n (following Y P) ⊎ HasSome n (following Y P) → HasNone n (following Z P) ⊎ HasSome n (following Z P)
     → HasNone (suc n) P ⊎ HasSome (suc n) P
 by_letters n P (inr i) x y z = inr (longer n P I i)
 by_letters n P (inl i) (inr x) y z = inr (longer n P X x)
@@ -54,5 +54,5 @@ by_empty P (inr here) = inr ([], refl, here)
 pub search : (n : ℕ) (P : List Letter → Type 0) → ((p : List Letter) → Decides (P p)) → HasNone n P ⊎ HasSome n P
 search zero P decide = by_empty P (decide [])
 search (suc n) P decide =
-    by_letters n P (search n (behind I P) (λ p. decide (I ∷ p))) (search n (behind X P) (λ p. decide (X ∷ p)))
-    (search n (behind Y P) (λ p. decide (Y ∷ p))) (search n (behind Z P) (λ p. decide (Z ∷ p)))
+    by_letters n P (search n (following I P) (λ p. decide (I ∷ p))) (search n (following X P) (λ p. decide (X ∷ p)))
+    (search n (following Y P) (λ p. decide (Y ∷ p))) (search n (following Z P) (λ p. decide (Z ∷ p)))

@@ -70,15 +70,15 @@ module _ (words : List ℕ) (at old places : ℕ) (lt : at < length words) (read
   pub places-kept : (a place : ℕ) → chooses (get_or words a 0) place ≡ true → chooses (get_or (set words at (bit_or old places)) a 0) place ≡ true
   places-kept a place one = by_place (cases_order a at)
     where
-      apart : a ≢ at → chooses (get_or (set words at (bit_or old places)) a 0) place ≡ true
-      apart ne = ap (λ n. chooses n place) (get_or-set_other words at a (bit_or old places) 0 ne) ∙ one
+      distinct : a ≢ at → chooses (get_or (set words at (bit_or old places)) a 0) place ≡ true
+      distinct ne = ap (λ n. chooses n place) (get_or-set_other words at a (bit_or old places) 0 ne) ∙ one
 
       by_place : (a ≡ at) ⊎ ((a < at) ⊎ (at < a)) → chooses (get_or (set words at (bit_or old places)) a 0) place ≡ true
       by_place (inl e) =
           ap (λ n. chooses (get_or (set words at (bit_or old places)) n 0) place) e ∙ ap (λ n. chooses n place) here
           ∙ chosen-first (get_or words at 0) places place (ap (λ n. chooses (get_or words n 0) place) (sym e) ∙ one)
-      by_place (inr (inl lt)) = apart (omega arith)
-      by_place (inr (inr gt)) = apart (omega arith)
+      by_place (inr (inl lt)) = distinct (omega arith)
+      by_place (inr (inr gt)) = distinct (omega arith)
 
 -- chosen rows multiplied by a string
 
@@ -118,8 +118,8 @@ multiplied-covered s new_s group mask q old new same kept added chosen covers = 
             kept g w p (covers.holds g k w p lk lw lp (ap (λ n. has_x (get_or (row_at old (64 * n + k)).letters (64 * w + p) I)) e ∙ before) known)
         by_letter (inr there) = ap (λ n. has_place new_s n w p) e ∙ added w p lp there
     by_group g k w p lk lw lp x known (inr away) =
-        kept g w p (covers.holds g k w p lk lw lp (ap (λ (t : Signed). has_x (get_or t.letters (64 * w + p) I)) (sym (chosen.others (64 * g + k) (apart away))) ∙ x) known)
+        kept g w p (covers.holds g k w p lk lw lp (ap (λ (t : Signed). has_x (get_or t.letters (64 * w + p) I)) (sym (chosen.others (64 * g + k) (distinct away))) ∙ x) known)
       where
-        apart : (g < group) ⊎ (group < g) → (64 * g + k < 64 * group) ⊎ (64 * group + 64 ≤ 64 * g + k)
-        apart (inl lt) = inl (omega arith)
-        apart (inr gt) = inr (omega arith)
+        distinct : (g < group) ⊎ (group < g) → (64 * g + k < 64 * group) ⊎ (64 * group + 64 ≤ 64 * g + k)
+        distinct (inl lt) = inl (omega arith)
+        distinct (inr gt) = inr (omega arith)

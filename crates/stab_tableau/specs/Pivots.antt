@@ -10,4 +10,4 @@ pub record IsPivot (n : ℕ) (member : Signed → Bool) (measured : Signed) (let
   pub size : length letters ≡ n
   pub negative : Bool
   pub stabilises : member (record { negative = negative; letters = letters }) ≡ true
-  pub apart : strings_anticommute letters measured.letters ≡ true
+  pub anticommutes : strings_anticommute letters measured.letters ≡ true

@@ -92,7 +92,7 @@ fn clear(rows: &mut PauliRows, row: usize, leading: usize, place: usize)
     requires in_range { place < rows.old.qubits + rows.old.qubits }
     requires row_in_range { row < length rows.old.rows }
     requires leading_in_range { leading < length rows.old.rows }
-    requires apart { row ≢ leading }
+    requires distinct { row ≢ leading }
     requires commuting { anticommute (row_at rows.old row) (row_at rows.old leading) ≡ false }
     ensures value { rows.new ≡ with_row rows.old row (cleared_with rows.old.qubits place (row_at rows.old leading) (row_at rows.old row)) }
 {

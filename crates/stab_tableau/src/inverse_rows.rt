@@ -60,7 +60,7 @@ pub fn apply(table: &mut Table, gate: Gate, qubit: usize)
 pub fn apply_pair(table: &mut Table, gate: PairGate, first: usize, second: usize)
     requires first_in_range { first < length table.old }
     requires second_in_range { second < length table.old }
-    requires apart { second ≢ first }
+    requires distinct { second ≢ first }
     requires rows { AreRows (length table.old) (rows_at table.old first) (rows_at table.old second) }
     ensures gated { IsPairGated gate first second table.old table.new }
 {
@@ -91,8 +91,8 @@ pub fn multiply_into(table: &Table, qubit: usize, letter: Letter, out: &mut Paul
     requires in_range { qubit < length table.now }
     requires same_length { length out.old.letters ≡ length table.now }
     requires row { IsRow (length table.now) (rows_at table.now qubit) }
-    requires apart_x { anticommute out.old (rows_at table.now qubit).x ≡ false }
-    requires apart_z { anticommute out.old (rows_at table.now qubit).z ≡ false }
+    requires commutes_x { anticommute out.old (rows_at table.now qubit).x ≡ false }
+    requires commutes_z { anticommute out.old (rows_at table.now qubit).z ≡ false }
     ensures value { phased out.new ≡ phased_product (phased out.old) (letter_preimage (length table.now) (rows_at table.now qubit) letter) }
 {
     match letter {

@@ -152,7 +152,7 @@ impl Table {
     pub fn exchange(&mut self, row: InverseRow, qubit: usize, other: InverseRow, other_qubit: usize)
         requires in_range { qubit < length self.old }
         requires other_in_range { other_qubit < length self.old }
-        requires apart { (row ≢ other) ⊎ (qubit ≢ other_qubit) }
+        requires distinct { (row ≢ other) ⊎ (qubit ≢ other_qubit) }
         ensures value { self.new ≡ rows_exchanged row qubit other other_qubit self.old }
     {
         self.rows.swap(row.place(qubit), other.place(other_qubit));
@@ -165,7 +165,7 @@ impl Table {
     pub fn multiply(&mut self, row: InverseRow, qubit: usize, other: InverseRow, other_qubit: usize)
         requires in_range { qubit < length self.old }
         requires other_in_range { other_qubit < length self.old }
-        requires apart { (row ≢ other) ⊎ (qubit ≢ other_qubit) }
+        requires distinct { (row ≢ other) ⊎ (qubit ≢ other_qubit) }
         requires commuting { anticommute (row_string row (rows_at self.old qubit)) (row_string other (rows_at self.old other_qubit)) ≡ false }
         ensures value { self.new ≡ put row qubit (product (row_string row (rows_at self.old qubit)) (row_string other (rows_at self.old other_qubit))) self.old }
     {
@@ -185,7 +185,7 @@ impl Table {
     )
         requires in_range { qubit < length self.old }
         requires other_in_range { other_qubit < length self.old }
-        requires apart { (row ≢ other) ⊎ (qubit ≢ other_qubit) }
+        requires distinct { (row ≢ other) ⊎ (qubit ≢ other_qubit) }
         requires anticommuting { anticommute (row_string row (rows_at self.old qubit)) (row_string other (rows_at self.old other_qubit)) ≡ true }
         ensures value { self.new ≡ put row qubit (product_times_i (row_string row (rows_at self.old qubit)) (row_string other (rows_at self.old other_qubit))) self.old }
     {

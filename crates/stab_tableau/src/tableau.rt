@@ -136,7 +136,7 @@ impl Tableau {
     pub fn apply_pair(&mut self, gate: PairGate, first: usize, second: usize)
         requires first_in_range { first < self.old.qubits }
         requires second_in_range { second < self.old.qubits }
-        requires apart { second ≢ first }
+        requires distinct { second ≢ first }
         ensures qubits { self.new.qubits ≡ self.old.qubits }
         ensures members { (p : Signed) → length p.letters ≡ self.old.qubits → stabilises self.new p ≡ stabilises self.old (back_pair gate first second p) }
     {

@@ -1,6 +1,6 @@
 -- Laws of the bits of faults: bits that are set and set back, the rows of a table, and how many there are.
 use Rattle.stab_texts.proofs.Names.{◌≡◌, ◌≢◌, refl, sym, ap, ap₂, ◌∙◌, subst, ℕ, zero, suc, ◌+◌, ◌<◌, ◌≤◌, Bool, true, false, ◌==◌, ◌&&◌, List, [], ◌∷◌, length, map, replicate, get_or, set, All, if◌then◌else◌, arith, nat_tests, get_or-set_other, length-set, length-map, length-replicate, All-nil, All-cons, Items, unroll, FaultPlace, faults_of, flipped, flips, numbers_where, bits_in, IsFaultTable, set_all}
-use Rattle.stab_texts.proofs.RandomLaws.{zero_at}
+use Rattle.stab_run.proofs.LookbackLemmas.{zeros-at}
 
 -- as many bits as before
 pub length-set_all : (ks : List ℕ) (v : Bool) (bits : List Bool) → length (set_all ks v bits) ≡ length bits
@@ -58,7 +58,7 @@ zeros_all (b ∷ bits) h = ap₂ (λ x xs. x ∷ xs) (h 0) (zeros_all bits (λ i
 -- bits that were 0, and of which some were set and set back
 pub set_back : (ks : List ℕ) (n : ℕ) → set_all ks false (set_all ks true (replicate n false)) ≡ replicate n false
 set_back ks n =
-    let all_zero = cleared ks (set_all ks true (replicate n false)) (λ j e. untouched ks true (replicate n false) j e ∙ zero_at n j) in
+    let all_zero = cleared ks (set_all ks true (replicate n false)) (λ j e. untouched ks true (replicate n false) j e ∙ zeros-at n j) in
     zeros_all (set_all ks false (set_all ks true (replicate n false))) all_zero
     ∙ ap (λ m. replicate m false) (length-set_all ks false (set_all ks true (replicate n false)) ∙ length-set_all ks true (replicate n false) ∙ length-replicate n false)
 

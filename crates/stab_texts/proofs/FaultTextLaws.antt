@@ -1,5 +1,5 @@
 -- Laws of the text of faults: the parts of a line, and lines one after another.
-use Rattle.stab_texts.proofs.Names.{◌≡◌, refl, sym, ap, ap₂, ◌∙◌, ℕ, zero, suc, ◌+◌, ◌*◌, ◌-◌, ◌<◌, ◌≤◌, Bool, List, [], ◌∷◌, ◌++◌, length, take, drop, replicate, get_or, codes, decimal, append_assoc, append-nil, Option, Some, None, arith, add-one, flat_map, slice_get, length-append, slice_get_within, get_or_from_slice_get, OutputView, TookAndFailed, Fault, failed_within, entry, Items, Step, Path, path_text, paths_of, outside, Kinds, FaultPlace, Site, fault_on, faults_on, faults_from, sites_at, bit_text, fault_line, told_text, random_bit, random_line, fault_text, table_line, table_lines, path_at, row_head, texts_joined, Random}
+use Rattle.stab_texts.proofs.Names.{◌≡◌, refl, sym, ap, ap₂, ◌∙◌, ℕ, zero, suc, ◌+◌, ◌*◌, ◌-◌, ◌<◌, ◌≤◌, Bool, List, [], ◌∷◌, ◌++◌, length, take, drop, replicate, get_or, codes, decimal, append_assoc, append-nil, Option, Some, None, arith, add-one, flat_map, slice_get, length-append, slice_get_within, get_or_from_slice_get, OutputView, TookAndFailed, Fault, failed_within, entry, Items, Step, Path, path_text, paths_of, outside, Kinds, FaultPlace, Site, fault_on, faults_on, faults_from, sites_at, bit_text, fault_line, reported_text, random_bit, random_line, fault_text, table_line, table_lines, path_at, row_head, texts_joined, Random}
 use Rattle.std.proofs.Common.{drop-cons}
 use Rattle.stab_gates.specs.declared.letter.Letter.TheVariants as letter
 
@@ -33,9 +33,9 @@ pub joined_three : (a b c rest : List ℕ) → texts_joined (a ∷ b ∷ c ∷ [
 joined_three a b c rest = append_assoc a (b ++ (c ++ [])) rest ∙ ap (λ l. a ++ l) (append_assoc b (c ++ []) rest ∙ ap (λ l. b ++ (l ++ rest)) (append-nil c))
 
 -- what is cut off within a fault's line is cut off within what says the fault
-pub failed_told : {a b : OutputView} (f : Fault) (u : Option Random) → TookAndFailed a b (fault_line f) → TookAndFailed a b (told_text f u)
-failed_told f None failed = failed
-failed_told f (Some u) failed = failed_within (fault_line f) (random_line u) failed
+pub failed_reported : {a b : OutputView} (f : Fault) (u : Option Random) → TookAndFailed a b (fault_line f) → TookAndFailed a b (reported_text f u)
+failed_reported f None failed = failed
+failed_reported f (Some u) failed = failed_within (fault_line f) (random_line u) failed
 
 -- lists
 

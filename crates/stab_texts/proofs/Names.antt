@@ -29,13 +29,13 @@ pub use Rattle.stab_io.specs.declared.refusal.Refusal.{Refusal}
 pub use Rattle.stab_io.specs.declared.refusal.Refusal.TheVariants.{WriteFault, OutOfMemory}
 pub use Rattle.stab_lines.proofs.WriteLemmas.{writes_failed, writes_then}
 pub use Rattle.stab_lines.specs.declared.product.Factor.{Factor}
-pub use Rattle.stab_regions.specs.Faults.{FaultPlace, Site, fault_on, faults_on, faults_from, sites_at, bits_in, numbers_where, faults_of, flipped, flips, IsFaultTable, bit, IsDeterministic, AreDeterministic, in_front, behind}
+pub use Rattle.stab_regions.specs.Faults.{FaultPlace, Site, fault_on, faults_on, faults_from, sites_at, bits_in, numbers_where, faults_of, flipped, flips, IsFaultTable, bit, IsDeterministic, AreDeterministic, in_front, following}
 pub use Rattle.stab_regions.specs.Tables.{steps_before_detector}
 pub use Rattle.stab_results.specs.Formats.{entry, shot_bytes}
 pub use Rattle.stab_results.specs.declared.format.Kinds.{Kinds}
 pub use Rattle.stab_run.specs.Records.{parity}
 pub use Rattle.stab_run.specs.Runs.{State, start, effect, run}
-pub use Rattle.stab_texts.specs.FaultLines.{fault_line, refused_text, bit_text, told_text, random_bit, random_line}
+pub use Rattle.stab_texts.specs.FaultLines.{fault_line, refused_text, bit_text, reported_text, random_bit, random_line}
 pub use Rattle.stab_texts.specs.FaultTables.{fault_text, table_line, table_lines, set_all}
 pub use Rattle.stab_texts.specs.Places.{path_at, bit_of, adds_to, steps_before_adding, steps_before_bit}
 pub use Rattle.stab_texts.specs.Texts.{row_head, texts_joined, placed_coin, texts_from}

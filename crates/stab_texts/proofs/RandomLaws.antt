@@ -1,5 +1,6 @@
 -- Laws of bits that are not deterministic: that some step makes each, and which is the first.
-use Rattle.stab_texts.proofs.Names.{◌≡◌, ◌≢◌, refl, sym, ap, ◌∙◌, subst, ℕ, zero, suc, ◌+◌, ◌-◌, ◌<◌, ◌≤◌, Bool, true, false, ◌==◌, nat_lt, List, [], ◌∷◌, ◌++◌, length, replicate, get_or, if◌then◌else◌, arith, ltb-true, ltb-false, nat_tests, get_or-set_other, length-append, Items, Step, one, two, controlled, collapse, product, detector, observable, unroll, observables_of, is_detector, detectors_of, parity, State, start, run, effect, steps_before_detector, IsDeterministic, AreDeterministic, bits_in, bit, Bit, Detector, Observable, adds_to, steps_before_adding, steps_before_bit, bit_of}
+use Rattle.stab_texts.proofs.Names.{◌≡◌, ◌≢◌, refl, sym, ap, ◌∙◌, subst, ℕ, zero, suc, ◌+◌, ◌-◌, ◌<◌, ◌≤◌, Bool, true, false, ◌==◌, nat_lt, List, [], ◌∷◌, ◌++◌, length, get_or, if◌then◌else◌, arith, ltb-true, ltb-false, nat_tests, get_or-set_other, length-append, Items, Step, one, two, controlled, collapse, product, detector, observable, unroll, observables_of, is_detector, detectors_of, parity, State, start, run, effect, steps_before_detector, IsDeterministic, AreDeterministic, bits_in, bit, Bit, Detector, Observable, adds_to, steps_before_adding, steps_before_bit, bit_of}
+use Rattle.stab_run.proofs.LookbackLemmas.{zeros-at}
 
 -- some step makes a detector
 
@@ -71,28 +72,22 @@ detectors_grow n coins (detector ks ∷ xs) s =
     let more : length (s.detectors ++ parity s.records ks ∷ []) ≡ length s.detectors + 1 = length-append s.detectors (parity s.records ks ∷ []) in
     omega (arith, later, more)
 
-pub zero_at : (n i : ℕ) → get_or (replicate n false) i false ≡ false
-zero_at zero zero = refl
-zero_at zero (suc i) = refl
-zero_at (suc n) zero = refl
-zero_at (suc n) (suc i) = zero_at n i
-
 -- a bit after the detectors
-behind_front : (ds os : List Bool) (i d : ℕ) → length ds ≡ d → d ≤ i → get_or (ds ++ os) i false ≡ get_or os (i - d) false
-behind_front [] os i zero e h = let same : i ≡ i - 0 = omega arith in ap (λ k. get_or os k false) same
-behind_front [] os i (suc d) e h = absurd (omega arith)
-behind_front (b ∷ ds) os i zero e h = absurd (omega arith)
-behind_front (b ∷ ds) os zero (suc d) e h = absurd (omega arith)
-behind_front (b ∷ ds) os (suc i) (suc d) e h = let less : i - d ≡ suc i - suc d = omega arith in behind_front ds os i d (omega arith) (omega arith) ∙ ap (λ k. get_or os k false) less
+after_front : (ds os : List Bool) (i d : ℕ) → length ds ≡ d → d ≤ i → get_or (ds ++ os) i false ≡ get_or os (i - d) false
+after_front [] os i zero e h = let same : i ≡ i - 0 = omega arith in ap (λ k. get_or os k false) same
+after_front [] os i (suc d) e h = absurd (omega arith)
+after_front (b ∷ ds) os i zero e h = absurd (omega arith)
+after_front (b ∷ ds) os zero (suc d) e h = absurd (omega arith)
+after_front (b ∷ ds) os (suc i) (suc d) e h = let less : i - d ≡ suc i - suc d = omega arith in after_front ds os i d (omega arith) (omega arith) ∙ ap (λ k. get_or os k false) less
 
 -- the bit of an observable that no step adds to is 0
 unnamed_bit : (n count : ℕ) (coins : ℕ → Bool) (xs : List Step) (i : ℕ) → detectors_of xs ≤ i → some_adds (i - detectors_of xs) xs ≡ false → bit n count coins xs i ≡ false
 unnamed_bit n count coins xs i h e =
     let s = run n coins xs (start count) in
     let none : 0 + detectors_of xs ≡ detectors_of xs = omega arith in
-    behind_front s.detectors s.observables i (detectors_of xs) (detectors_grow n coins xs (start count) ∙ none) h
+    after_front s.detectors s.observables i (detectors_of xs) (detectors_grow n coins xs (start count) ∙ none) h
     ∙ observable_stays n coins (i - detectors_of xs) xs (start count) e
-    ∙ zero_at count (i - detectors_of xs)
+    ∙ zeros-at count (i - detectors_of xs)
 
 -- some step makes each bit that is not deterministic
 pub random_within : (n : ℕ) (items : Items) (i : ℕ) (b : Bit) → b ≡ bit_of (detectors_of (unroll items)) i → (IsDeterministic n items i → ⊥) → length (steps_before_bit b (unroll items)) < length (unroll items)

@@ -60,9 +60,9 @@ cut_place : (xs ys rest front back : List ℕ) → ys ≡ front ++ back → (xs 
 cut_place xs ys rest front back e = ap (λ l. (xs ++ l) ++ rest) e ∙ ap (λ l. l ++ rest) (sym (append_assoc xs front back)) ∙ append_assoc (xs ++ front) back rest
 
 -- what is cut off after some text, and before the rest, is cut off
-pub cut_off_behind : {old mid new : OutputView} (xs ys rest : List ℕ) (f : Fault) → Took old mid xs → CutOff mid new ys f → CutOff old new ((xs ++ ys) ++ rest) f
-cut_off_behind xs ys rest f before (inl failed) = inl (failed.0, failed_within (xs ++ ys) rest (took_and_failed xs ys before failed.1))
-cut_off_behind xs ys rest f before (inr some) =
+pub cut_off_after : {old mid new : OutputView} (xs ys rest : List ℕ) (f : Fault) → Took old mid xs → CutOff mid new ys f → CutOff old new ((xs ++ ys) ++ rest) f
+cut_off_after xs ys rest f before (inl failed) = inl (failed.0, failed_within (xs ++ ys) rest (took_and_failed xs ys before failed.1))
+cut_off_after xs ys rest f before (inr some) =
     let part = some.1 in
     inr (some.0, record { front = xs ++ part.front; rest = part.rest ++ rest; split = cut_place xs ys rest part.front part.rest part.split; took = took_more xs part.front before part.took })
 
@@ -72,7 +72,7 @@ pub shots_cut_off : {old mid new : OutputView} (bytes_of : ℕ → List ℕ) (fi
 shots_cut_off {old} {mid} {new} bytes_of first shot shots f less before call =
     let more = more_shots bytes_of first shot shots less in
     let sent = texts_from bytes_of first shot in
-    let cut : CutOff old new ((sent ++ bytes_of (first + shot)) ++ more.0) f = cut_off_behind sent (bytes_of (first + shot)) more.0 f before call in
+    let cut : CutOff old new ((sent ++ bytes_of (first + shot)) ++ more.0) f = cut_off_after sent (bytes_of (first + shot)) more.0 f before call in
     subst (λ l. CutOff old new l f) (sym more.1) cut
 
 -- a shot that fails ends the shots
@@ -107,7 +107,7 @@ batches_break_off {old} {mid} {new} bytes_of first n m shots f (Err y) within be
     let rest = texts_from bytes_of (first + (n + m)) (shots - (n + m)) in
     let whole : (texts_from bytes_of first n ++ texts_from bytes_of (first + n) m) ++ rest ≡ texts_from bytes_of first shots =
     ap (λ l. l ++ rest) (parts_join bytes_of first n m) ∙ parts_join bytes_of first (n + m) (shots - (n + m)) ∙ ap (texts_from bytes_of first) (part_and_rest (n + m) shots within) in
-    let cut = cut_off_behind (texts_from bytes_of first n) (texts_from bytes_of (first + n) m) rest f before call in
+    let cut = cut_off_after (texts_from bytes_of first n) (texts_from bytes_of (first + n) m) rest f before call in
     subst (λ g. CutOff old new (texts_from bytes_of first shots) g) (sym is) (subst (λ l. CutOff old new l f) whole cut)
 
 -- what is cut off is sent in part

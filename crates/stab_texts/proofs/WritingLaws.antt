@@ -6,13 +6,13 @@ pub took_some_none : (old : OutputView) (bytes : List ℕ) → TookSome old old 
 took_some_none old bytes = record { front = []; rest = bytes; split = refl; took = took_none old }
 
 -- a call that writes after what was written
-pub writes_behind : {T : Type 0} {o p : OutputView} (q : OutputView) (xs ys : List ℕ) (r : Result T Refusal) → Took o p xs → WritesAll p q ys r → WritesAll o q (xs ++ ys) r
-writes_behind q xs ys (Ok x) before call = took_more xs ys before call
-writes_behind q xs ys (Err e) before call = (call.0, took_and_failed xs ys before call.1)
+pub writes_after : {T : Type 0} {o p : OutputView} (q : OutputView) (xs ys : List ℕ) (r : Result T Refusal) → Took o p xs → WritesAll p q ys r → WritesAll o q (xs ++ ys) r
+writes_after q xs ys (Ok x) before call = took_more xs ys before call
+writes_after q xs ys (Err e) before call = (call.0, took_and_failed xs ys before call.1)
 
 -- the same of the last of three
 pub writes_third : {T : Type 0} {o p q : OutputView} (s : OutputView) (xs ys zs : List ℕ) (r : Result T Refusal) → Took o p xs → Took p q ys → WritesAll q s zs r → WritesAll o s (xs ++ (ys ++ zs)) r
-writes_third s xs ys zs r first second call = writes_behind s xs (ys ++ zs) r first (writes_behind s ys zs r second call)
+writes_third s xs ys zs r first second call = writes_after s xs (ys ++ zs) r first (writes_after s ys zs r second call)
 
 -- the second of three failed
 pub failed_second : {o p q : OutputView} (xs ys zs : List ℕ) → Took o p xs → TookAndFailed p q ys → TookAndFailed o q (xs ++ (ys ++ zs))

@@ -26,7 +26,7 @@ use Rattle.stab_jobs.specs.declared.job.SearchedLayout.TheVariants.{Table, Wcnf}
 use Rattle.stab_errors.specs.Errors.{Error, letter, letters, wrong_record, first_fault, errors_of}
 use Rattle.stab_errors.specs.Parts.{AreSearched}
 use Rattle.stab_errors.specs.ErrorTables.{ErrorTableState, IsErrorTable}
-use Rattle.stab_errors.specs.Unseen.{IsDistance, IsSetCount, TellsUnseen, error_at}
+use Rattle.stab_errors.specs.Unseen.{IsDistance, IsSetCount, ReportsUnseen, error_at}
 use Rattle.stab_texts.specs.declared.random.Random.{Random}
 use Rattle.stab_texts.specs.Deterministic.{kinds_of}
 use Rattle.stab_texts.specs.Endings.{Ends}
@@ -191,7 +191,7 @@ pub record HearsSearch (options : DistanceOptions) (items : Items) (old new : Op
   pub t : ErrorTableState
   pub are : AreErrorsOf options items t
   pub found : IfOk result (IsDistance options.graphlike options.observable (qubits_of items) items t.errors options.most)
-  pub told : TellsUnseen options.graphlike options.observable (qubits_of items) items t.errors options.most old new result
+  pub reported : ReportsUnseen options.graphlike options.observable (qubits_of items) items t.errors options.most old new result
 
 -- what is heard of a call with the items of a circuit: nothing, if it ended before its search, or what its search reports
 abbrev pub HearsDistance : {T : Type 0} → DistanceOptions → Items → Option (List Heard) → Option (List Heard) → Result T Fault → Type 0
@@ -199,13 +199,13 @@ HearsDistance options items old new (Ok x) = (answer : Answer) × HearsSearch op
 HearsDistance options items old new (Err f) = (new ≡ old) ⊎ ((answer : Result Answer Refusal) × HearsSearch options items old new answer)
 
 -- What is heard of a call of `distance`, over an input.
-abbrev pub TellsDistance : {T : Type 0} → DistanceOptions → InputView → InputView → Option (List Heard) → Option (List Heard) → Result T Fault → Type 0
-TellsDistance options i i' old new r = Ends (λ _. new ≡ old) (λ items. HearsDistance options items old new) i i' r
+abbrev pub ReportsDistance : {T : Type 0} → DistanceOptions → InputView → InputView → Option (List Heard) → Option (List Heard) → Result T Fault → Type 0
+ReportsDistance options i i' old new r = Ends (λ _. new ≡ old) (λ items. HearsDistance options items old new) i i' r
 
 -- what is heard of a call with the items of a circuit that searches for each observable, or not at all: nothing, or how many errors it looks at
 abbrev pub HearsErrors : DistanceOptions → Items → Option (List Heard) → Option (List Heard) → Type 0
 HearsErrors options items old new = (new ≡ old) ⊎ ((t : ErrorTableState) × AreErrorsOf options items t × Hears old new (begins (length t.errors) ∷ []))
 
 -- What is heard of a call that writes the distance of each observable in turn, or the errors that are searched, over an input.
-abbrev pub TellsErrors : {T : Type 0} → DistanceOptions → InputView → InputView → Option (List Heard) → Option (List Heard) → Result T Fault → Type 0
-TellsErrors options i i' old new r = Ends (λ _. new ≡ old) (λ items _. HearsErrors options items old new) i i' r
+abbrev pub ReportsErrors : {T : Type 0} → DistanceOptions → InputView → InputView → Option (List Heard) → Option (List Heard) → Result T Fault → Type 0
+ReportsErrors options i i' old new r = Ends (λ _. new ≡ old) (λ items _. HearsErrors options items old new) i i' r

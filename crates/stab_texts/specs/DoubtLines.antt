@@ -29,9 +29,9 @@ abbrev pub doubt_lines : Items → List DoubtfulMark → List ℕ
 doubt_lines items ms = flat_map (doubt_line items) ms
 
 -- they are reported: their lines were written, or the output failed once after some first bytes of them; if there are none, it is untouched
-abbrev pub TellsDoubts : Items → List DoubtfulMark → OutputView → OutputView → Type 0
-TellsDoubts items [] old new = new ≡ old
-TellsDoubts items (m ∷ ms) old new = TookOrFailed old new (doubt_lines items (m ∷ ms))
+abbrev pub ReportsDoubts : Items → List DoubtfulMark → OutputView → OutputView → Type 0
+ReportsDoubts items [] old new = new ≡ old
+ReportsDoubts items (m ∷ ms) old new = TookOrFailed old new (doubt_lines items (m ∷ ms))
 
 -- the doubtful marks that a call looks at: none if it takes errors everywhere
 abbrev pub doubts_of : (everywhere : Bool) → Items → List DoubtfulMark
@@ -39,12 +39,12 @@ doubts_of true items = []
 doubts_of false items = doubts_from 0 items
 
 -- a call with the items of a circuit reports these marks if it ends without a fault, and else leaves the error output untouched
-abbrev pub TellsIfOk : {T : Type 0} → Items → List DoubtfulMark → OutputView → OutputView → Result T Fault → Type 0
-TellsIfOk items ms old new (Ok x) = TellsDoubts items ms old new
-TellsIfOk items ms old new (Err f) = new ≡ old
+abbrev pub ReportsIfOk : {T : Type 0} → Items → List DoubtfulMark → OutputView → OutputView → Result T Fault → Type 0
+ReportsIfOk items ms old new (Ok x) = ReportsDoubts items ms old new
+ReportsIfOk items ms old new (Err f) = new ≡ old
 
 -- What a call that reads a circuit leaves of the error output: its doubtful marks are reported after a call without a fault, and else
 -- it is untouched.
 abbrev pub Warns : {T : Type 0} → (everywhere : Bool) → InputView → InputView → OutputView → OutputView → Result T Fault → Type 0
-Warns everywhere i i' e e' (Ok x) = (items : Items) × GaveCircuit i i' items × TellsDoubts items (doubts_of everywhere items) e e'
+Warns everywhere i i' e e' (Ok x) = (items : Items) × GaveCircuit i i' items × ReportsDoubts items (doubts_of everywhere items) e e'
 Warns everywhere i i' e e' (Err f) = e' ≡ e

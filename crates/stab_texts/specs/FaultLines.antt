@@ -33,14 +33,14 @@ abbrev pub random_line : Random → List ℕ
 random_line u = random_bit u ++ (codes ", is not the same for all coins: " ++ (placed_coin u.decider.coin u.decider.path ++ codes " decides it\n"))
 
 -- what says a fault: its line, and after it that of the bit that it names, if any
-abbrev pub told_text : Fault → Option Random → List ℕ
-told_text f None = fault_line f
-told_text f (Some u) = fault_line f ++ random_line u
+abbrev pub reported_text : Fault → Option Random → List ℕ
+reported_text f None = fault_line f
+reported_text f (Some u) = fault_line f ++ random_line u
 
 -- the output took these bytes, or failed once after some first bytes of them
 abbrev pub TookOrFailed : OutputView → OutputView → List ℕ → Type 0
 TookOrFailed old new bytes = Took old new bytes ⊎ TookAndFailed old new bytes
 
 -- a fault is reported: its line was written, or the output failed once after some first bytes of it
-abbrev pub TellsFault : Fault → OutputView → OutputView → Type 0
-TellsFault f old new = TookOrFailed old new (fault_line f)
+abbrev pub ReportsFault : Fault → OutputView → OutputView → Type 0
+ReportsFault f old new = TookOrFailed old new (fault_line f)

@@ -3,7 +3,7 @@ ghost use Rattle.std.specs.Prelude.{◌≡◌, ◌<◌, None, All, length};
 ghost use Rattle.stab_io.specs.Devices.{WritesAll};
 ghost use Rattle.stab_circuit.specs.Steps.{check_of, unroll};
 ghost use Rattle.stab_edits.specs.Views.{circuit_items};
-ghost use Rattle.stab_texts.specs.DoubtLines.{TellsDoubts, doubt_line, doubt_lines, doubt_text};
+ghost use Rattle.stab_texts.specs.DoubtLines.{ReportsDoubts, doubt_line, doubt_lines, doubt_text};
 
 use stab_circuit::{Circuit, write_path};
 use stab_errors::{Doubt, DoubtfulMark};
@@ -52,10 +52,10 @@ fn write_doubts<O: Output>(
 
 /// Reports doubtful marks, a line for each, such as `stabsim: item 3/0: a pair of a qubit with itself`. If there are none,
 /// or the output fails, it goes on.
-pub fn tell_doubts<E: Output>(err: &mut E, circuit: &Circuit, marks: &[DoubtfulMark])
+pub fn report_doubts<E: Output>(err: &mut E, circuit: &Circuit, marks: &[DoubtfulMark])
     requires checked { check_of (circuit_items circuit.now) ≡ None }
     requires inside { All (λ m. m.step < length (unroll (circuit_items circuit.now))) marks.now }
-    ensures tells { TellsDoubts (circuit_items circuit.now) marks.now (E.seen err.old) (E.seen err.new) }
+    ensures reports { ReportsDoubts (circuit_items circuit.now) marks.now (E.seen err.old) (E.seen err.new) }
 {
     if marks.is_empty() {
         return;

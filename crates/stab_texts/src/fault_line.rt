@@ -1,7 +1,7 @@
 //! The lines that say a fault.
 ghost use Rattle.std.specs.Prelude.{◌≡◌, ◌++◌, codes, decimal};
 ghost use Rattle.stab_io.specs.Devices.{WritesAll};
-ghost use Rattle.stab_texts.specs.FaultLines.{bit_text, fault_line, told_text, random_bit, random_line};
+ghost use Rattle.stab_texts.specs.FaultLines.{bit_text, fault_line, reported_text, random_bit, random_line};
 ghost use Rattle.stab_texts.specs.Texts.{placed_coin};
 
 use crate::random::{Bit, Decider, FaultsRefused, Random};
@@ -87,7 +87,7 @@ fn write_random<O: Output>(out: &mut O, random: &Random) -> Result<(), Refusal>
 ///
 /// Refusal `WriteFault` after a prefix of the lines.
 pub fn write_refused<O: Output>(out: &mut O, refused: &FaultsRefused) -> Result<(), Refusal>
-    ensures writes { WritesAll (O.seen out.old) (O.seen out.new) (told_text refused.now.fault refused.now.random) result }
+    ensures writes { WritesAll (O.seen out.old) (O.seen out.new) (reported_text refused.now.fault refused.now.random) result }
 {
     write_fault(out, refused.fault)?;
     match &refused.random {

@@ -55,7 +55,7 @@ fn steps_before(step: usize, site: Site) -> usize
     requires few { step ≤ most_steps }
     ensures value { result ≡ (fault_on step (site_shown site) letter.X).before }
 {
-    if site.behind { step + 1 } else { step }
+    if site.following { step + 1 } else { step }
 }
 
 /// Writes the lines of X and of Z at a place of step number `step`, by what each flips.

@@ -3,7 +3,7 @@ ghost use Rattle.std.specs.Prelude.{◌≡◌, true, false, slice_get, [], ◌�
 ghost use Rattle.std.specs.List.{flat_map};
 ghost use Rattle.stab_circuit.specs.Steps.{one};
 ghost use Rattle.stab_edits.specs.Cursors.{step_shown};
-ghost use Rattle.stab_regions.specs.Faults.{all_at, behind, in_front, marked_at, sites_at};
+ghost use Rattle.stab_regions.specs.Faults.{all_at, following, in_front, marked_at, sites_at};
 ghost use Rattle.stab_texts.specs.inner.FaultSites.{factor_sites, site_found, site_shown};
 
 use stab_circuit::{Factor, Step};
@@ -13,7 +13,7 @@ use stab_tableau::Gate;
 #[derive(Clone, Copy)]
 pub(crate) struct Site {
     pub qubit: usize,
-    pub behind: bool,
+    pub following: bool,
 }
 
 /// A qubit in front of a step.
@@ -22,17 +22,17 @@ fn in_front(qubit: usize) -> Site
 {
     Site {
         qubit,
-        behind: false,
+        following: false,
     }
 }
 
 /// A qubit after a step.
-fn behind(qubit: usize) -> Site
-    ensures value { site_shown result ≡ behind qubit }
+fn following(qubit: usize) -> Site
+    ensures value { site_shown result ≡ following qubit }
 {
     Site {
         qubit,
-        behind: true,
+        following: true,
     }
 }
 
@@ -63,7 +63,7 @@ fn factor_site(factors: &[Factor], number: usize) -> Option<Site>
         return None;
     }
     let qubit = factors[factor].qubit.number();
-    two_sites(in_front(qubit), behind(qubit), number % 2)
+    two_sites(in_front(qubit), following(qubit), number % 2)
 }
 
 /// The place of this number that a gate marks.
@@ -88,12 +88,12 @@ fn marked_site(step: Step, number: usize) -> Option<Site>
 
 /// The place of this number at a measurement or a reset of a letter.
 fn collapse_site(qubit: usize, recorded: bool, number: usize) -> Option<Site>
-    ensures value { site_found result ≡ slice_get (if recorded then in_front qubit ∷ behind qubit ∷ [] else behind qubit ∷ []) number }
+    ensures value { site_found result ≡ slice_get (if recorded then in_front qubit ∷ following qubit ∷ [] else following qubit ∷ []) number }
 {
     if recorded {
-        two_sites(in_front(qubit), behind(qubit), number)
+        two_sites(in_front(qubit), following(qubit), number)
     } else {
-        one_site(behind(qubit), number)
+        one_site(following(qubit), number)
     }
 }
 
@@ -102,9 +102,9 @@ fn any_site(step: Step, number: usize) -> Option<Site>
     ensures value { site_found result ≡ slice_get (all_at (step_shown step.entry)) number }
 {
     match step {
-        Step::One(_, qubit) => one_site(behind(qubit), number),
-        Step::Two(_, first, second) => two_sites(behind(first), behind(second), number),
-        Step::Controlled(_, _, qubit) => one_site(behind(qubit), number),
+        Step::One(_, qubit) => one_site(following(qubit), number),
+        Step::Two(_, first, second) => two_sites(following(first), following(second), number),
+        Step::Controlled(_, _, qubit) => one_site(following(qubit), number),
         Step::Collapse {
             qubit,
             recorded,

@@ -31,11 +31,11 @@ mod missing_observable;
 mod random;
 mod writing;
 
-pub use doubt_lines::tell_doubts;
+pub use doubt_lines::report_doubts;
 pub use error_lines::{write_all_errors, write_errors, write_where};
 pub use fault_bits::{write_row, write_shots};
 pub use fault_line::{write_decider, write_fault, write_refused};
 pub use fault_lines::write_lines;
-pub use missing_observable::tell_missing;
+pub use missing_observable::report_missing;
 pub use random::{Bit, Decider, FaultsRefused, Random};
 pub use writing::{finish, write_head, write_texts};

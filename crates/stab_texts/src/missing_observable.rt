@@ -1,7 +1,7 @@
 //! An observable that is asked for, but that the circuit lacks, as a line.
 ghost use Rattle.std.specs.Prelude.{Some};
 ghost use Rattle.stab_io.specs.Devices.{WritesAll};
-ghost use Rattle.stab_texts.specs.MissingObservables.{TellsMissing, missing_line};
+ghost use Rattle.stab_texts.specs.MissingObservables.{ReportsMissing, missing_line};
 
 use crate::writing::write_texts;
 use itoa::Buffer;
@@ -28,8 +28,8 @@ fn write_missing<O: Output>(out: &mut O, observable: usize, count: usize) -> Res
 }
 
 /// Reports an observable if it is none of this many. If it is one of them, or the output fails, it goes on.
-fn tell_number<E: Output>(err: &mut E, observable: usize, count: usize)
-    ensures tells { TellsMissing (Some observable) count (E.seen err.old) (E.seen err.new) }
+fn report_number<E: Output>(err: &mut E, observable: usize, count: usize)
+    ensures reports { ReportsMissing (Some observable) count (E.seen err.old) (E.seen err.new) }
 {
     if observable < count {
         return;
@@ -39,11 +39,11 @@ fn tell_number<E: Output>(err: &mut E, observable: usize, count: usize)
 
 /// Reports an observable that is asked for, if one is and a circuit with this many lacks it, such as
 /// `stabsim: the circuit has no L2, observables: 2`. If the output fails, it goes on.
-pub fn tell_missing<E: Output>(err: &mut E, observable: Option<usize>, count: usize)
-    ensures tells { TellsMissing observable count (E.seen err.old) (E.seen err.new) }
+pub fn report_missing<E: Output>(err: &mut E, observable: Option<usize>, count: usize)
+    ensures reports { ReportsMissing observable count (E.seen err.old) (E.seen err.new) }
 {
     match observable {
-        Some(number) => tell_number(err, number, count),
+        Some(number) => report_number(err, number, count),
         None => {}
     }
 }

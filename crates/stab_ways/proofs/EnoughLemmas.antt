@@ -3,8 +3,8 @@ use Rattle.stab_ways.proofs.Names.{◌≡◌, ℕ, zero, suc, ◌+◌, ◌<◌, 
 use Rattle.stab_ways.proofs.FixedLemmas.{flips-more}
 
 -- a free outcome whose coin differs exactly if the frame anticommutes
-one-enough : (change free apart : Bool) → change ≡ (free && apart) → change ⊕ apart ≡ true → free ≡ false
-one-enough change false apart e h = refl
+one-enough : (change free distinct : Bool) → change ≡ (free && distinct) → change ⊕ distinct ≡ true → free ≡ false
+one-enough change false distinct e h = refl
 one-enough true true true e h = cc
 one-enough true true false e h = cc
 one-enough false true true e h = cc
@@ -46,16 +46,16 @@ module _ (n : ℕ) (coins changes : ℕ → Bool) where
 
 -- a bit of one list after another
 
-pub get_or-behind : (xs ys : List Bool) (m t : ℕ) → length xs ≡ m → get_or (xs ++ ys) (m + t) false ≡ get_or ys t false
-get_or-behind xs ys zero t e = behind xs e
+pub get_or-following : (xs ys : List Bool) (m t : ℕ) → length xs ≡ m → get_or (xs ++ ys) (m + t) false ≡ get_or ys t false
+get_or-following xs ys zero t e = following xs e
   where
-    behind : (xs : List Bool) → length xs ≡ 0 → get_or (xs ++ ys) (0 + t) false ≡ get_or ys t false
-    behind [] e = let same : 0 + t ≡ t = omega arith in ap (λ k. get_or ys k false) same
-    behind (x ∷ xs) e = absurd (omega (arith, e))
-get_or-behind [] ys (suc m) t e = absurd (omega (arith, e))
-get_or-behind (x ∷ xs) ys (suc m) t e =
+    following : (xs : List Bool) → length xs ≡ 0 → get_or (xs ++ ys) (0 + t) false ≡ get_or ys t false
+    following [] e = let same : 0 + t ≡ t = omega arith in ap (λ k. get_or ys k false) same
+    following (x ∷ xs) e = absurd (omega (arith, e))
+get_or-following [] ys (suc m) t e = absurd (omega (arith, e))
+get_or-following (x ∷ xs) ys (suc m) t e =
     let next : suc m + t ≡ suc (m + t) = omega arith in
-    ap (λ k. get_or (x ∷ (xs ++ ys)) k false) next ∙ get_or-behind xs ys m t (omega (arith, e))
+    ap (λ k. get_or (x ∷ (xs ++ ys)) k false) next ∙ get_or-following xs ys m t (omega (arith, e))
 
 pub get_or-front : (xs ys : List Bool) (t : ℕ) → t < length xs → get_or (xs ++ ys) t false ≡ get_or xs t false
 get_or-front [] ys t lt = absurd (omega (arith, lt))

@@ -26,15 +26,15 @@ module _ (n : ℕ) (t : List Event) (group : IsStabiliserGroup n (member t)) (l 
   abbrev s : Signed
   s = single n q l
 
-  abbrev apart : Bool
-  apart = anticommute (single n q (flip_of l)) s
+  abbrev distinct : Bool
+  distinct = anticommute (single n q (flip_of l)) s
 
   reset-stabilises : (bit : Bool) → Stabilises (applied_where bit (flip_of l) q (projected s bit ∷ t)) s
   reset-stabilises false = record { negative = false; is = measured-stabilises n t group s (length-one_letter n q l) false }
   reset-stabilises true = record {
-    negative = (with_sign apart (with_sign true s)).negative;
+    negative = (with_sign distinct (with_sign true s)).negative;
     is = ap (member (projected s true ∷ t))
-        (back-letter n q (flip_of l) (with_sign apart (with_sign true s)) (length-one_letter n q l) lt ∙ sign-twice apart (with_sign true s))
+        (back-letter n q (flip_of l) (with_sign distinct (with_sign true s)) (length-one_letter n q l) lt ∙ sign-twice distinct (with_sign true s))
         ∙ measured-stabilises n t group s (length-one_letter n q l) true;
   }
 
@@ -53,13 +53,13 @@ module _ (n : ℕ) (coins changes : ℕ → Bool) where
   left-out us vs f flips fits s size is fronts true =
       let u = member (point_after n coins us origin).trace in
       let v = member (point_after n others vs origin).trace in record {
-        framed = record {
-          size = length-string_product n f.letters s.letters fronts.framed.size size;
+        by_frame = record {
+          size = length-string_product n f.letters s.letters fronts.by_frame.size size;
           group = conjugated-comm n s.letters f.letters u v
-              (conjugated-over n s.letters f.letters u u v (conjugated-stabiliser n s.letters u (group-origin n coins us fits) size is.negative is.is) fronts.framed.group);
-          coin = fronts.framed.coin;
-          count = fronts.framed.count;
-          records = fronts.framed.records;
+              (conjugated-over n s.letters f.letters u u v (conjugated-stabiliser n s.letters u (group-origin n coins us fits) size is.negative is.is) fronts.by_frame.group);
+          coin = fronts.by_frame.coin;
+          count = fronts.by_frame.count;
+          records = fronts.by_frame.records;
         };
         given = fronts.given;
         matches = fronts.matches;

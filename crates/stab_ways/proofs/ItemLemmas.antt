@@ -1,6 +1,6 @@
 -- Items: their instructions one after another and in rounds, and the walk over them.
-use Rattle.stab_ways.proofs.Names.{◌≡◌, ℕ, zero, suc, ◌+◌, ◌-◌, ◌*◌, ◌<◌, ◌≤◌, refl, sym, ◌∙◌, ap, subst, Bool, false, List, [], ◌∷◌, ◌++◌, length, take, drop, All, get_or, nat_lt, arith, append_assoc, append-nil, length-append, length-take, length-drop, le-ltb, true, put_in, take-append-drop, take_more, take-append_seam, drop-append_seam, All-take, All-drop, Option, Some, None, if◌then◌else◌, flat_map-append, Letter, Items, OneItem, next, block, done, before, listed, join, listed-append, listed_pushed, Step, steps_of, unroll, rounds, length-rounds, unroll-join, StepFits, parts_of, part_rounds, WalkState, past_steps, told, over_part, walked}
-use Rattle.stab_ways.proofs.WalkedLemmas.{steps_in, walked-append, passed-none, turned-same}
+use Rattle.stab_ways.proofs.Names.{◌≡◌, ℕ, zero, suc, ◌+◌, ◌-◌, ◌*◌, ◌<◌, ◌≤◌, refl, sym, ◌∙◌, ap, subst, Bool, false, List, [], ◌∷◌, ◌++◌, length, take, drop, All, get_or, nat_lt, arith, append_assoc, append-nil, length-append, length-take, length-drop, le-ltb, true, put_in, take-append-drop, take_more, take-append_seam, drop-append_seam, All-take, All-drop, Option, Some, None, if◌then◌else◌, flat_map-append, Letter, Items, OneItem, next, block, done, before, listed, join, listed-append, listed_pushed, Step, steps_of, unroll, rounds, length-rounds, unroll-join, StepFits, parts_of, part_rounds, WalkState, past_steps, reported, over_part, walked}
+use Rattle.stab_ways.proofs.WalkedLemmas.{steps_in, walked-append, passed-none, changed_string-same}
 
 -- the instructions of items one after another
 
@@ -28,22 +28,22 @@ long-rounds k items =
     ap length (steps-rounds k (parts_of items) ∙ ap (rounds k) (steps-unrolled items)) ∙ length-rounds k (unroll items)
 
 -- one round more, after the others
-pub rounds-behind : (k : ℕ) (parts : List (List Step)) → part_rounds (k + 1) parts ≡ part_rounds k parts ++ parts
-rounds-behind zero parts = append-nil parts
-rounds-behind (suc k) parts =
+pub rounds-following : (k : ℕ) (parts : List (List Step)) → part_rounds (k + 1) parts ≡ part_rounds k parts ++ parts
+rounds-following zero parts = append-nil parts
+rounds-following (suc k) parts =
     let further : suc k + 1 ≡ suc (k + 1) = omega arith in
-    ap (λ m. part_rounds m parts) further ∙ ap (λ more. parts ++ more) (rounds-behind k parts) ∙ sym (append_assoc parts (part_rounds k parts) parts)
+    ap (λ m. part_rounds m parts) further ∙ ap (λ more. parts ++ more) (rounds-following k parts) ∙ sym (append_assoc parts (part_rounds k parts) parts)
 
 -- one item more
 
-items-more : (xs : List OneItem) (k : ℕ) (x : OneItem) → k < length xs → x ≡ get_or xs k x → listed (take (k + 1) xs) ≡ join (listed (take k xs)) (before x done)
+pub items-more : (xs : List OneItem) (k : ℕ) (x : OneItem) → k < length xs → x ≡ get_or xs k x → listed (take (k + 1) xs) ≡ join (listed (take k xs)) (before x done)
 items-more xs k x lt is = ap listed (take_more xs k x lt ∙ ap (λ y. take k xs ++ y ∷ []) (sym is)) ∙ listed_pushed (take k xs) x
 
 pub parts-more : (xs : List OneItem) (k : ℕ) (x : OneItem) → k < length xs → x ≡ get_or xs k x
     → parts_of (listed (take (k + 1) xs)) ≡ parts_of (listed (take k xs)) ++ parts_of (before x done)
 parts-more xs k x lt is = ap parts_of (items-more xs k x lt is) ∙ parts-join (listed (take k xs)) (before x done)
 
-steps-more : (xs : List OneItem) (k : ℕ) (x : OneItem) → k < length xs → x ≡ get_or xs k x
+pub steps-more : (xs : List OneItem) (k : ℕ) (x : OneItem) → k < length xs → x ≡ get_or xs k x
     → unroll (listed (take (k + 1) xs)) ≡ unroll (listed (take k xs)) ++ unroll (before x done)
 steps-more xs k x lt is = ap unroll (items-more xs k x lt is) ∙ unroll-join (listed (take k xs)) (before x done)
 
@@ -83,7 +83,7 @@ block-steps count tag body = ap length (append-nil (rounds count (unroll body)))
 -- how many steps a walk passes
 
 after-steps : (n k : ℕ) (string : List Letter) (ys : List Step) (w : WalkState) (b : Bool)
-    → (if b then told n (drop k ys) (put_in string (past_steps n (take k ys) w)) else record (past_steps n ys w) { waits = Some (k - length ys) }).steps ≡ w.steps + length ys
+    → (if b then reported n (drop k ys) (put_in string (past_steps n (take k ys) w)) else record (past_steps n ys w) { waits = Some (k - length ys) }).steps ≡ w.steps + length ys
 after-steps n k string ys w true = omega (arith, length-take k ys, length-drop k ys)
 after-steps n k string ys w false = refl
 
@@ -105,12 +105,12 @@ over-empty n string None w e size =
       steps = none i;
       waits = w.waits;
       frame = passed-none n w.frame i;
-      turns = (ap (λ ts. w.turns ++ ts) (turned-same (w.steps + 0) n w.frame.letters size) ∙ append-nil w.turns) i;
+      turns = (ap (λ ts. w.turns ++ ts) (changed_string-same (w.steps + 0) n w.frame.letters size) ∙ append-nil w.turns) i;
     })
 over-empty n string (Some k) w e size =
     let none : w.steps + 0 ≡ w.steps = omega arith in
     let same : k - 0 ≡ k = omega arith in
-    ap (λ (b : Bool). if b then told n (drop k []) (put_in string (past_steps n (take k []) w)) else record (past_steps n [] w) { waits = Some (k - 0) }) (le-ltb k 0 (omega arith))
+    ap (λ (b : Bool). if b then reported n (drop k []) (put_in string (past_steps n (take k []) w)) else record (past_steps n [] w) { waits = Some (k - 0) }) (le-ltb k 0 (omega arith))
     ∙ (λ i. record { steps = none i; waits = (ap (λ m. Some m) same ∙ sym e) i; frame = passed-none n w.frame i; turns = w.turns })
 
 pub walked-empty : (n : ℕ) (string : List Letter) (parts : List (List Step)) (w : WalkState) → length (steps_in parts) ≡ 0 → length w.frame.letters ≡ n
@@ -139,7 +139,7 @@ pub walked-round : (n k : ℕ) (string : List Letter) (body : Items) (start mid 
 walked-round n k string body start mid new before is =
     is ∙ ap (walked n string (parts_of body)) before
     ∙ sym (walked-append n string (part_rounds k (parts_of body)) (parts_of body) start)
-    ∙ ap (λ ps. walked n string ps start) (sym (rounds-behind k (parts_of body)))
+    ∙ ap (λ ps. walked n string ps start) (sym (rounds-following k (parts_of body)))
 
 pub round-steps : (n k : ℕ) (string : List Letter) (body : Items) (start mid : WalkState) → mid ≡ walked n string (part_rounds k (parts_of body)) start
     → mid.steps ≡ start.steps + k * length (unroll body)

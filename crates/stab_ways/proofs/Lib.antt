@@ -10,5 +10,6 @@ pub mod StringLemmas
 pub mod TogetherLemmas
 pub mod PassLemmas
 pub mod ItemLemmas
+pub mod TickLemmas
 pub mod WalkLemmas
 pub mod EndLemmas

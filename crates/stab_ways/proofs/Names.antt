@@ -48,16 +48,16 @@ pub use Rattle.stab_frames.specs.inner.Touches.{acts}
 pub use Rattle.stab_frames.proofs.FreeLemmas.{pivot-none}
 pub use Rattle.stab_frames.proofs.StepsPropagatedLemmas.{propagation-same, fits-over}
 pub use Rattle.stab_frames.proofs.OverLemmas.{frame-append, flips-append}
-pub use Rattle.stab_frames.proofs.StartLemmas.{framed-same}
+pub use Rattle.stab_frames.proofs.StartLemmas.{by_frame-same}
 pub use Rattle.stab_frames.proofs.EditLemmas.{flipped-run, fronts-go-on, fronts-take-paulis}
 pub use Rattle.stab_frames.proofs.GoesOverLemmas.{fits-mapped}
 pub use Rattle.stab_frames.proofs.FrontLemmas.{group-origin}
-pub use Rattle.stab_frames.proofs.FramedLemmas.{conjugated-over, conjugated-comm, conjugated-stabiliser}
+pub use Rattle.stab_frames.proofs.PropagatedPointLemmas.{conjugated-over, conjugated-comm, conjugated-stabiliser}
 pub use Rattle.stab_frames.proofs.SignLemmas.{sign-twice, back-letter}
 pub use Rattle.stab_ways.specs.PutIn.{letter_gates, with_string, by_letters, reset_leaves, step_leaves, way_after, way_over, way_flips, frame_begun, string_after, string_flips}
 pub use Rattle.stab_ways.specs.Laws.{coins_with, StringsFlipRuns, FixedOutcomesKeepCoins}
-pub use Rattle.stab_ways.specs.Ways.{Turn, placed, differ, turned, turns, part_rounds, parts_of, parts_after, string_turns, turn_shown}
-pub use Rattle.stab_ways.specs.inner.Walks.{EndsTogether, IsFront, has_letter_at, steps_leave, passed, WalkState, put_in, ended, past_steps, told, over_part, walked, walk_shown, IsWalk}
+pub use Rattle.stab_ways.specs.Ways.{Turn, placed, differ, changed_string, turns, part_rounds, parts_of, parts_after, string_turns, turn_shown}
+pub use Rattle.stab_ways.specs.inner.Walks.{EndsTogether, IsFront, has_letter_at, steps_leave, passed, WalkState, put_in, ended, past_steps, reported, over_part, walked, walk_shown, IsWalk}
 pub use Rattle.stab_ways.specs.declared.way.PlacedLetter.{PlacedLetter}
 pub use Rattle.stab_run.specs.Records.{ones}
 pub use Rattle.stab_items.specs.StepValues.{lookbacks_of, step_shown, steps_shown}

@@ -1,6 +1,6 @@
 -- Runs: what a string that is put in flips in them.
-use Rattle.stab_ways.proofs.Names.{◌≡◌, ℕ, ◌+◌, ◌-◌, ◌<◌, ◌≤◌, refl, sym, ◌∙◌, ap, subst, Bool, false, ◌&&◌, List, [], ◌∷◌, ◌++◌, length, take, drop, All, replicate, get_or, arith, zero, suc, take-take, take-append-drop, All-take, All-nil, All-drop, Letter, I, string_product, string_product-blank, ◌⊕◌, member, IsConjugated, Step, records_of, State, start, run, Point, RunOutput, origin, nothing, all_coins_of, point_after, outputs, StepFits, coins-are, flags-counted, outputs-append, run-state, length-replicate, Frame, frame_of, identity_frame, AreFronts, IsFlippedRun, framed-same, flipped-run, letter_gates, with_string, way_over, way_flips, frame_begun, string_after, string_flips, coins_with, StringsFlipRuns, FixedOutcomesKeepCoins}
-use Rattle.stab_ways.proofs.EnoughLemmas.{Differ, differ-front, get_or-behind, get_or-front, long-flips}
+use Rattle.stab_ways.proofs.Names.{◌≡◌, ℕ, ◌+◌, ◌-◌, ◌<◌, ◌≤◌, refl, sym, ◌∙◌, ap, subst, Bool, false, ◌&&◌, List, [], ◌∷◌, ◌++◌, length, take, drop, All, replicate, get_or, arith, zero, suc, take-take, take-append-drop, All-take, All-nil, All-drop, Letter, I, string_product, string_product-blank, ◌⊕◌, member, IsConjugated, Step, records_of, State, start, run, Point, RunOutput, origin, nothing, all_coins_of, point_after, outputs, StepFits, coins-are, flags-counted, outputs-append, run-state, length-replicate, Frame, frame_of, identity_frame, AreFronts, IsFlippedRun, by_frame-same, flipped-run, letter_gates, with_string, way_over, way_flips, frame_begun, string_after, string_flips, coins_with, StringsFlipRuns, FixedOutcomesKeepCoins}
+use Rattle.stab_ways.proofs.EnoughLemmas.{Differ, differ-front, get_or-following, get_or-front, long-flips}
 use Rattle.stab_ways.proofs.BlankLemmas.{blank-over}
 use Rattle.stab_ways.proofs.FrontLemmas.{fronts-way}
 use Rattle.stab_ways.proofs.GateLemmas.{product-whole, letters-put}
@@ -73,8 +73,8 @@ module _ (n k : ℕ) (string : List Letter) (xs : List Step) (coins : ℕ → Bo
   differ-back t lt =
       ap (λ c. changes (c + t)) coin
       ∙ (λ i. (ap (λ fs. get_or fs (all_coins_of front + t) false) flags-parts
-      ∙ get_or-behind (outputs n coins front origin).free (outputs n coins back there).free (all_coins_of front) t (long-flags n coins front)) i
-      && get_or-behind front_flips.outcomes (way_flips n back begun).outcomes (all_coins_of front) t (long-flips n front (identity_frame n 0)) i)
+      ∙ get_or-following (outputs n coins front origin).free (outputs n coins back there).free (all_coins_of front) t (long-flags n coins front)) i
+      && get_or-following front_flips.outcomes (way_flips n back begun).outcomes (all_coins_of front) t (long-flips n front (identity_frame n 0)) i)
     where
       coin : there.coin ≡ all_coins_of front
       coin = omega (arith, coins-are n coins front origin)
@@ -84,7 +84,7 @@ module _ (n k : ℕ) (string : List Letter) (xs : List Step) (coins : ℕ → Bo
   before : AreFronts n coins others front front (way_over n front (identity_frame n 0)) front_flips
   before =
       fronts-way n coins changes front [] [] (identity_frame n 0) nothing (All-nil (StepFits n)) fits-front
-      (record { framed = framed-same n origin; given = refl; matches = record { records = refl; free = refl; outcomes = refl; detectors = refl; observables = refl } })
+      (record { by_frame = by_frame-same n origin; given = refl; matches = record { records = refl; free = refl; outcomes = refl; detectors = refl; observables = refl } })
       differ-begin
 
   none-more : 0 + records_of front ≡ records_of front
@@ -122,7 +122,7 @@ module _ (n k : ℕ) (string : List Letter) (xs : List Step) (coins : ℕ → Bo
   states : (m : ℕ) → k ≤ m → IsConjugated n (string_after n k string xs m) (member (point_after n coins (take m xs) origin).trace)
       (member (point_after n others (with_string k string (take m xs)) origin).trace)
   states m le =
-      let shown = (fronts-way n coins changes (part m) front (front ++ letter_gates 0 string) begun front_flips fits-front (fits-part m) put (differ-part m le)).framed.group in
+      let shown = (fronts-way n coins changes (part m) front (front ++ letter_gates 0 string) begun front_flips fits-front (fits-part m) put (differ-part m le)).by_frame.group in
       subst (λ ys. IsConjugated n (string_after n k string xs m) (member (point_after n coins ys origin).trace) (member (point_after n others (with_string k string (take m xs)) origin).trace))
       (ap (λ us. us ++ part m) (front-is m le) ∙ take-append-drop k (take m xs))
       (subst (λ us. IsConjugated n (string_after n k string xs m) (member (point_after n coins (front ++ part m) origin).trace)

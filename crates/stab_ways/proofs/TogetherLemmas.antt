@@ -3,6 +3,7 @@ use Rattle.stab_ways.proofs.Names.{◌≡◌, ℕ, ◌+◌, ◌<◌, ◌≤◌, 
 use Rattle.stab_lines.specs.declared.control.ControlledPair.TheVariants as pair
 use Rattle.stab_lines.specs.declared.axis.Axis.TheVariants as axis
 use Rattle.stab_ways.proofs.FixedLemmas.{fixed-frame, fixed-flips}
+use Rattle.stab_gates.proofs.LetterLemmas.{letters_anticommute-I}
 
 module _ (n : ℕ) where
   -- one step
@@ -101,15 +102,9 @@ module _ (n : ℕ) where
   none-left r a q s e =
       ap (λ b. times_where b (single n q (letter_of a)).letters s) (ap (λ x. r && not (acts (letter_product x (letter_of a)))) e ∙ both r (acts (letter_of a)) (basis-acts a))
 
-  commutes-I : (l : Letter) → letters_anticommute l I ≡ false
-  commutes-I I = refl
-  commutes-I X = refl
-  commutes-I Y = refl
-  commutes-I Z = refl
-
   commutes-there : (l : Letter) (q : ℕ) (s : List Letter) → length s ≡ n → q < n → letter_at s q ≡ I → strings_anticommute s (single n q l).letters ≡ false
   commutes-there l q s size lt e =
-      strings_anticommute-comm s (single n q l).letters ∙ one_letter-anticommute n q l s size lt ∙ ap (letters_anticommute l) e ∙ commutes-I l
+      strings_anticommute-comm s (single n q l).letters ∙ one_letter-anticommute n q l s size lt ∙ ap (letters_anticommute l) e ∙ letters_anticommute-I l
 
   off : (r b : Bool) → b ≡ false → (r && b) ≡ false
   off true b e = e
@@ -180,12 +175,6 @@ together-first n m (t ∷ ts) f = together-one n (measured m t) f
 pub fits-target : (n m : ℕ) (how : Measurement) (ts : List MeasureTarget) (k : ℕ) (t : MeasureTarget) → All (StepFits n) (map (measured how) ts) → k < length ts → t ≡ get_or ts k t
     → m ≡ n → t.qubit < m
 fits-target n m how ts k t fits lt is same = subst (λ (u : MeasureTarget). u.qubit < m) (sym is) (fits-mapped n m (measured how) ts k t fits lt same)
-
-pub fits-targets : (n : ℕ) (how : Measurement) (ts : List MeasureTarget) → All (StepFits n) (map (measured how) ts) → All (λ t. t.qubit < n) ts
-fits-targets n how [] fits = All-nil (λ (t : MeasureTarget). t.qubit < n)
-fits-targets n how (t ∷ ts) fits =
-    All-cons (λ (t : MeasureTarget). t.qubit < n) t ts (All-head (StepFits n) (measured how t) (map (measured how) ts) fits)
-    (fits-targets n how ts (All-tail (StepFits n) (measured how t) (map (measured how) ts) fits))
 
 leave-append : (n : ℕ) (xs ys : List Step) (s : List Letter) → steps_leave n (xs ++ ys) s ≡ steps_leave n ys (steps_leave n xs s)
 leave-append n [] ys s = refl

@@ -1,8 +1,8 @@
 -- Walks: what the values of the code show of a walk, after steps and after an instruction.
-use Rattle.stab_ways.proofs.Names.{◌≡◌, ℕ, ◌+◌, ◌-◌, ◌≤◌, ◌∙◌, ap, Bool, List, length, take, drop, arith, length-drop, take_all, coins-few, Some, if◌then◌else◌, Letter, Step, PropagationState, passed, WalkState, frame_at, way_over, turned, append-nil, ◌++◌, put_in, past_steps, told, IsWalk}
+use Rattle.stab_ways.proofs.Names.{◌≡◌, ℕ, ◌+◌, ◌-◌, ◌≤◌, ◌∙◌, ap, Bool, List, length, take, drop, arith, length-drop, take_all, coins-few, Some, if◌then◌else◌, Letter, Step, PropagationState, passed, WalkState, frame_at, way_over, changed_string, append-nil, ◌++◌, put_in, past_steps, reported, IsWalk}
 use Rattle.stab_ways.specs.declared.walk.Walk.{Walk}
 use Rattle.stab_ways.proofs.PassLemmas.{none-placed}
-use Rattle.stab_ways.proofs.WalkedLemmas.{turned-same}
+use Rattle.stab_ways.proofs.WalkedLemmas.{changed_string-same}
 
 -- steps are passed
 
@@ -16,13 +16,13 @@ walk-passed n j zs old new walks is size steps strings = record {
   none = ap (λ s. s.strings) strings ∙ walks.none;
 }
 
--- and the string is told, unless it is as it was
+-- and the string is reported, unless it is as it was
 
-pub told-kept : (n : ℕ) (ys : List Step) (w : WalkState) → length w.frame.letters ≡ n → (way_over n ys (frame_at 0 w.frame)).letters ≡ w.frame.letters
-    → told n ys w ≡ past_steps n ys w
-told-kept n ys w size kept = λ i. record (past_steps n ys w) {
-  turns = (ap (λ s. w.turns ++ turned (w.steps + length ys) w.frame.letters s) kept
-      ∙ ap (λ ts. w.turns ++ ts) (turned-same (w.steps + length ys) n w.frame.letters size)
+pub reported-kept : (n : ℕ) (ys : List Step) (w : WalkState) → length w.frame.letters ≡ n → (way_over n ys (frame_at 0 w.frame)).letters ≡ w.frame.letters
+    → reported n ys w ≡ past_steps n ys w
+reported-kept n ys w size kept = λ i. record (past_steps n ys w) {
+  turns = (ap (λ s. w.turns ++ changed_string (w.steps + length ys) w.frame.letters s) kept
+      ∙ ap (λ ts. w.turns ++ ts) (changed_string-same (w.steps + length ys) n w.frame.letters size)
       ∙ append-nil w.turns) i;
 }
 

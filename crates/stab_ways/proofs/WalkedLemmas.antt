@@ -1,5 +1,5 @@
 -- Walked: instructions one after another on the way of a string, and what the walk comes to.
-use Rattle.stab_ways.proofs.Names.{◌≡◌, ℕ, zero, suc, ◌+◌, ◌-◌, ◌<◌, ◌≤◌, refl, sym, ◌∙◌, ap, Bool, true, false, List, [], ◌∷◌, ◌++◌, length, take, drop, replicate, nat_lt, le-ltb, ltb-true, ltb-false, arith, append_assoc, append-nil, length-append, length-take, length-drop, Some, None, if◌then◌else◌, flat_map, list_any, Letter, I, acts, string_product, string_product-self, Step, joined, joined-assoc, joined-nothing, all_coins_of, coins-append, Frame, flips_given, PropagationState, frame_at, by_letters, way_after, way_over, way_flips, Turn, placed, turned, turns, parts_after, passed, WalkState, put_in, past_steps, told, over_part, walked}
+use Rattle.stab_ways.proofs.Names.{◌≡◌, ℕ, zero, suc, ◌+◌, ◌-◌, ◌<◌, ◌≤◌, refl, sym, ◌∙◌, ap, Bool, true, false, List, [], ◌∷◌, ◌++◌, length, take, drop, replicate, nat_lt, le-ltb, ltb-true, ltb-false, arith, append_assoc, append-nil, length-append, length-take, length-drop, Some, None, if◌then◌else◌, flat_map, list_any, Letter, I, acts, string_product, string_product-self, Step, joined, joined-assoc, joined-nothing, all_coins_of, coins-append, Frame, flips_given, PropagationState, frame_at, by_letters, way_after, way_over, way_flips, Turn, placed, changed_string, turns, parts_after, passed, WalkState, put_in, past_steps, reported, over_part, walked}
 use Rattle.stab_ways.proofs.FixedLemmas.{way-more, flips-more}
 
 -- a frame's flips are the records that it flipped
@@ -46,8 +46,8 @@ acts-none : (n : ℕ) → list_any acts (replicate n I) ≡ false
 acts-none zero = refl
 acts-none (suc n) = acts-none n
 
-pub turned-same : (t n : ℕ) (letters : List Letter) → length letters ≡ n → turned t letters letters ≡ []
-turned-same t n letters size = ap (λ b. if b then record { after = t; string = placed 0 letters } ∷ [] else []) (ap (list_any acts) (string_product-self n letters size) ∙ acts-none n)
+pub changed_string-same : (t n : ℕ) (letters : List Letter) → length letters ≡ n → changed_string t letters letters ≡ []
+changed_string-same t n letters size = ap (λ b. if b then record { after = t; string = placed 0 letters } ∷ [] else []) (ap (list_any acts) (string_product-self n letters size) ∙ acts-none n)
 
 -- steps of instructions one after another
 
@@ -64,15 +64,15 @@ walked-append n string (ys ∷ parts) more w = walked-append n string parts more
 abbrev pub under_way : ℕ → PropagationState → List Turn → WalkState
 under_way t p ts = record { steps = t; waits = None; frame = p; turns = ts }
 
-pub walked-told : (n : ℕ) (string : List Letter) (parts : List (List Step)) (t : ℕ) (p : PropagationState) (ts : List Turn)
+pub walked-reported : (n : ℕ) (string : List Letter) (parts : List (List Step)) (t : ℕ) (p : PropagationState) (ts : List Turn)
     → walked n string parts (under_way t p ts) ≡ under_way (t + length (steps_in parts)) (passed n (steps_in parts) p) (ts ++ turns n t (frame_at 0 p) parts)
-walked-told n string [] t p ts =
+walked-reported n string [] t p ts =
     let none : t ≡ t + 0 = omega arith in
     (λ i. under_way (none i) (sym (passed-none n p) i) (sym (append-nil ts) i))
-walked-told n string (ys ∷ parts) t p ts =
+walked-reported n string (ys ∷ parts) t p ts =
     let sum : (t + length ys) + length (steps_in parts) ≡ t + length (ys ++ steps_in parts) = omega (arith, length-append ys (steps_in parts)) in
-    let here = turned (t + length ys) p.letters (passed n ys p).letters in
-    walked-told n string parts (t + length ys) (passed n ys p) (ts ++ here)
+    let here = changed_string (t + length ys) p.letters (passed n ys p).letters in
+    walked-reported n string parts (t + length ys) (passed n ys p) (ts ++ here)
     ∙ (λ i. under_way (sum i) (sym (passed-more n ys (steps_in parts) p) i)
     ((append_assoc ts here (turns n (t + length ys) (frame_at 0 (passed n ys p)) parts)
     ∙ ap (λ f. ts ++ (here ++ turns n (t + length ys) f parts)) (frame-passed n ys p)) i))
@@ -126,7 +126,7 @@ module _ (n : ℕ) (string : List Letter) where
 
   -- in this instruction
   put-here : (k : ℕ) (ys : List Step) (parts : List (List Step)) (t : ℕ) (p : PropagationState) → k < length ys
-      → walked n string parts (told n (drop k ys) (put_in string (past_steps n (take k ys) (waiting k t p)))) ≡
+      → walked n string parts (reported n (drop k ys) (put_in string (past_steps n (take k ys) (waiting k t p)))) ≡
       under_way (t + length (steps_in (ys ∷ parts))) (passed n (drop k (steps_in (ys ∷ parts))) (put_at k (steps_in (ys ∷ parts)) p))
       (turns n (t + k) (frame_at 0 (put_at k (steps_in (ys ∷ parts)) p)) (drop k ys ∷ parts))
   put-here k ys parts t p lt =
@@ -135,12 +135,12 @@ module _ (n : ℕ) (string : List Letter) where
       omega (arith, cut, lt, length-append (drop k ys) (steps_in parts), length-append ys (steps_in parts), length-drop k ys) in
       let front : take k ys ≡ take k (ys ++ steps_in parts) = sym (take-into k ys (steps_in parts) (omega (arith, lt))) in
       let back : drop k ys ++ steps_in parts ≡ drop k (ys ++ steps_in parts) = sym (drop-into k ys (steps_in parts) (omega (arith, lt))) in
-      walked-told n string (drop k ys ∷ parts) (t + length (take k ys)) (with_letters string (passed n (take k ys) p)) []
+      walked-reported n string (drop k ys ∷ parts) (t + length (take k ys)) (with_letters string (passed n (take k ys) p)) []
       ∙ (λ i. under_way (sum i) (passed n (back i) (with_letters string (passed n (front i) p)))
       (turns n (t + cut i) (frame_at 0 (with_letters string (passed n (front i) p))) (drop k ys ∷ parts)))
 
   abbrev pub after : ℕ → List Step → ℕ → PropagationState → Bool → WalkState
-  after k ys t p b = if b then told n (drop k ys) (put_in string (past_steps n (take k ys) (waiting k t p)))
+  after k ys t p b = if b then reported n (drop k ys) (put_in string (past_steps n (take k ys) (waiting k t p)))
       else record (past_steps n ys (waiting k t p)) { waits = Some (k - length ys) }
 
   abbrev pub left : ℕ → List Step → List (List Step) → Bool → List (List Step)
@@ -186,7 +186,7 @@ module _ (n : ℕ) (string : List Letter) where
       let far : nat_lt k (length ys) ≡ false = le-ltb k (length ys) past in
       let sum : (t + length ys) + length (steps_in parts) ≡ t + length (ys ++ steps_in parts) = omega (arith, length-append ys (steps_in parts)) in
       let less : (k - length ys) - length (steps_in parts) ≡ k - length (ys ++ steps_in parts) = omega (arith, length-append ys (steps_in parts)) in
-      ap (λ (b : Bool). walked n string parts (if b then told n (drop k ys) (put_in string (past_steps n (take k ys) (waiting k t p)))
+      ap (λ (b : Bool). walked n string parts (if b then reported n (drop k ys) (put_in string (past_steps n (take k ys) (waiting k t p)))
       else record (past_steps n ys (waiting k t p)) { waits = Some (k - length ys) })) far
       ∙ walked-past (k - length ys) parts (t + length ys) (passed n ys p) (omega (arith, le, length-append ys (steps_in parts)))
       ∙ (λ i. waiting (less i) (sum i) (sym (passed-more n ys (steps_in parts) p) i))

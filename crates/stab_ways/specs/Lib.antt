@@ -1,4 +1,5 @@
 pub mod PutIn
 pub mod Ways
+pub mod Ticks
 pub mod Laws
 pub mod inner

@@ -46,14 +46,14 @@ abbrev pub differ : List Letter → List Letter → Bool
 differ old new = list_any acts (string_product old new)
 
 -- a string after t steps, if it is another one
-abbrev pub turned : ℕ → (old new : List Letter) → List Turn
-turned t old new = if differ old new then record { after = t; string = placed 0 new } ∷ [] else []
+abbrev pub changed_string : ℕ → (old new : List Letter) → List Turn
+changed_string t old new = if differ old new then record { after = t; string = placed 0 new } ∷ [] else []
 
 -- after which instructions a frame's string is another than before them; there are t steps before the first
 abbrev pub turns : ℕ → ℕ → Frame → List (List Step) → List Turn
 turns n t f [] = []
 turns n t f (ys ∷ parts) =
-    turned (t + length ys) f.letters (way_over n ys f).letters ++ turns n (t + length ys) (way_over n ys f) parts
+    changed_string (t + length ys) f.letters (way_over n ys f).letters ++ turns n (t + length ys) (way_over n ys f) parts
 
 -- the same of a string that is put in after k steps of a circuit
 abbrev pub string_turns : ℕ → ℕ → List Letter → Items → List Turn

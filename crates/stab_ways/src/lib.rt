@@ -5,9 +5,10 @@
 //! - `strings`: letters of strings with their qubits, and whether strings differ.
 //! - `resets`: what resets leave of a string.
 //! - `walk`: a string on its way over instructions. `rounds`: over items, and rounds of blocks.
-//! - `whole`: the call.
+//! - `string_ways`: the call.
+//! - `ticks`: how many steps are before each tick. `tick_strings`: the call that gives the string at each.
 //!
-//! `specs/PutIn` says what a string becomes and flips, `specs/Ways` where it becomes another one, `specs/Laws` what that
+//! `specs/PutIn` says what a string becomes and flips, `specs/Ways` where it becomes another one, `specs/Ticks` what it is at ticks, `specs/Laws` what that
 //! means for runs. A reset leaves no letter on its qubit. A measurement that anticommutes with the string is flipped, whether its outcome is random
 //! or not. So the answer depends on the text alone, and no run is made.
 //!
@@ -15,17 +16,20 @@
 //! it flips are exchanged, in place of a stabiliser that is multiplied on, is this project's own.
 //!
 //! Proved: the run with the string put in, and exactly the coins of the random outcomes that it flips exchanged, is the run
-//! without it, flipped as told; and its state after each step is that of the other with the string told there applied.
+//! without it, flipped as reported; and its state after each step is that of the other with the string reported there applied.
 #![tactic(auto)]
 
 pub mod laws;
 mod resets;
 mod rounds;
+mod string_ways;
 mod strings;
+mod tick_strings;
+mod ticks;
 mod walk;
 mod way;
-mod whole;
 
+pub use string_ways::way_of;
 pub use strings::placed;
+pub use tick_strings::way_at_ticks;
 pub use way::{PlacedLetter, Turn, Way};
-pub use whole::way_of;

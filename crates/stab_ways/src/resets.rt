@@ -3,7 +3,7 @@
 ghost use Rattle.std.specs.Prelude.{◌≡◌, ◌<◌, ◌≤◌, Bool, false, All, List, length, map, take};
 ghost use Rattle.std.specs.List.{list_any};
 ghost use Rattle.stab_items.specs.Steps.{measured};
-ghost use Rattle.stab_items.specs.StepValues.{IsApartAlone, step_shown, steps_shown};
+ghost use Rattle.stab_items.specs.StepValues.{HaveDistinctQubits, step_shown, steps_shown};
 ghost use Rattle.stab_run.specs.ProgramStates.{StepFits};
 ghost use Rattle.stab_ways.specs.PutIn.{reset_leaves, step_leaves};
 ghost use Rattle.stab_ways.specs.inner.Walks.{EndsTogether, IsFront, has_letter_at, steps_leave};
@@ -45,7 +45,7 @@ fn without_resets<'a>(
     requires none { measurement.resets ≡ false }
     requires some { 0 < length targets.now }
     ensures front { IsFront (steps_shown result) (map (measured measurement) targets.now) }
-    ensures apart { IsApartAlone result }
+    ensures distinct { HaveDistinctQubits result }
     ensures together { (flips : List Bool) → EndsTogether (length letters.now) (steps_shown result) (record { letters = letters.now; flips = flips }) }
 {
     let _count = letters.len();
@@ -60,7 +60,7 @@ fn first_alone<'a>(
 ) -> Steps<'a>
     requires some { 0 < length targets.now }
     ensures front { IsFront (steps_shown result) (map (measured measurement) targets.now) }
-    ensures apart { IsApartAlone result }
+    ensures distinct { HaveDistinctQubits result }
     ensures together { (flips : List Bool) → EndsTogether (length letters.now) (steps_shown result) (record { letters = letters.now; flips = flips }) }
 {
     let _count = letters.len();
@@ -79,7 +79,7 @@ fn without_letters<'a>(
     requires within { count ≤ length targets.now }
     requires none { list_any (has_letter_at letters.now) (take count targets.now) ≡ false }
     ensures front { IsFront (steps_shown result) (map (measured measurement) targets.now) }
-    ensures apart { IsApartAlone result }
+    ensures distinct { HaveDistinctQubits result }
     ensures together { (flips : List Bool) → EndsTogether (length letters.now) (steps_shown result) (record { letters = letters.now; flips = flips }) }
 {
     let _count = letters.len();
@@ -95,7 +95,7 @@ fn measurements_at_once<'a>(
     requires fits { All (StepFits (length letters.now)) (map (measured measurement) targets.now) }
     requires some { 0 < length targets.now }
     ensures front { IsFront (steps_shown result) (map (measured measurement) targets.now) }
-    ensures apart { IsApartAlone result }
+    ensures distinct { HaveDistinctQubits result }
     ensures together { (flips : List Bool) → EndsTogether (length letters.now) (steps_shown result) (record { letters = letters.now; flips = flips }) }
 {
     if !measurement.resets {
@@ -112,9 +112,9 @@ fn measurements_at_once<'a>(
 pub(crate) fn at_once<'a>(letters: &[Letter], steps: Steps<'a>) -> Steps<'a>
     requires fits { All (StepFits (length letters.now)) (steps_shown steps) }
     requires some { 0 < length (steps_shown steps) }
-    requires apart { IsApartAlone steps }
+    requires distinct { HaveDistinctQubits steps }
     ensures front { IsFront (steps_shown result) (steps_shown steps.entry) }
-    ensures apart { IsApartAlone result }
+    ensures distinct { HaveDistinctQubits result }
     ensures together { (flips : List Bool) → EndsTogether (length letters.now) (steps_shown result) (record { letters = letters.now; flips = flips }) }
 {
     match steps {

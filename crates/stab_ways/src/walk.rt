@@ -6,8 +6,8 @@ ghost use Rattle.stab_run.specs.ProgramStates.{StepFits};
 ghost use Rattle.stab_frames.specs.Propagations.{IsPlaced};
 ghost use Rattle.stab_frames.specs.Frames.{Frame};
 ghost use Rattle.stab_ways.specs.PutIn.{way_over};
-ghost use Rattle.stab_ways.specs.Ways.{turned, turn_shown};
-ghost use Rattle.stab_ways.specs.inner.Walks.{passed, told, put_in as put_in_of, past_steps as past_of, over_part, ended, walk_shown, IsWalk};
+ghost use Rattle.stab_ways.specs.Ways.{changed_string, turn_shown};
+ghost use Rattle.stab_ways.specs.inner.Walks.{passed, reported, put_in as put_in_of, past_steps as past_of, over_part, ended, walk_shown, IsWalk};
 
 use crate::resets::{at_once, leave_out_reset};
 use crate::strings::{differ, placed};
@@ -41,15 +41,15 @@ fn pass(
     kind: &Kind,
     from: usize,
     to: usize,
-    framed: &mut u64,
+    by_frame: &mut u64,
 ) -> Result<(), AllocError>
     requires none { (strings.now.qubits ≡ length propagation.old.letters) × (strings.now.strings ≡ []) }
     requires placed { IsPlaced [] propagation.old }
     requires fits { All (StepFits (length propagation.old.letters)) (steps_of kind.now) }
     requires within { (from ≤ to) × (to ≤ length (steps_of kind.now)) }
     requires few { propagation.old.coin + (to - from) < 2 ^ 63 }
-    requires few_framed { framed.old + (to - from) < 2 ^ 63 }
-    ensures counted { OnOk result (framed.new ≡ framed.old + (to - from)) }
+    requires few_propagated { by_frame.old + (to - from) < 2 ^ 63 }
+    ensures counted { OnOk result (by_frame.new ≡ by_frame.old + (to - from)) }
     ensures length { length propagation.new.letters ≡ length propagation.old.letters }
     ensures passed { OnOk result (propagation.new ≡ passed (length propagation.old.letters) (take (to - from) (drop from (steps_of kind.now))) propagation.old) }
 {
@@ -65,7 +65,7 @@ fn pass(
             return Ok(());
         };
         let front = at_once(propagation.letters(), steps);
-        let went = propagate_instruction(propagation, known, &mut none, front, framed)?;
+        let went = propagate_instruction(propagation, known, &mut none, front, by_frame)?;
         leave_out_reset(propagation, front);
         place += went;
     }
@@ -94,7 +94,7 @@ fn past_steps(walk: &mut Walk, kind: &Kind, from: usize, to: usize) -> Result<()
 }
 
 /// Puts a string with its place after others, if it is another one than it was.
-fn tell(
+fn report(
     alloc: Global,
     turns: &mut Vec<Turn>,
     after: usize,
@@ -102,7 +102,7 @@ fn tell(
     new: &[Letter],
 ) -> Result<(), AllocError>
     requires same_length { length new.now ≡ length old.now }
-    ensures told { OnOk result (map turn_shown turns.new.items ≡ map turn_shown turns.old.items ++ turned after old.now new.now) }
+    ensures reported { OnOk result (map turn_shown turns.new.items ≡ map turn_shown turns.old.items ++ changed_string after old.now new.now) }
 {
     if differ(old, new) {
         let string = placed(alloc, new)?;
@@ -123,7 +123,7 @@ fn keeps_strings(kind: &Kind) -> bool
 }
 
 /// Passes the steps of an instruction from one on, and notes the string if it is another one after them.
-fn tell_steps(
+fn report_steps(
     alloc: Global,
     walk: &mut Walk,
     kind: &Kind,
@@ -136,7 +136,7 @@ fn tell_steps(
     requires within { to ≤ length (steps_of kind.now) }
     requires few { walk.old.steps + (to - from) ≤ most_steps }
     ensures walks { OnOk result (IsWalk (length walk.old.propagation.letters) walk.new) }
-    ensures told { OnOk result (walk_shown walk.new ≡ told (length walk.old.propagation.letters) (take (to - from) (drop from (steps_of kind.now))) (walk_shown walk.old)) }
+    ensures reported { OnOk result (walk_shown walk.new ≡ reported (length walk.old.propagation.letters) (take (to - from) (drop from (steps_of kind.now))) (walk_shown walk.old)) }
 {
     // Most instructions of a circuit are detectors, and then no letters need to be compared.
     if keeps_strings(kind) {
@@ -145,7 +145,7 @@ fn tell_steps(
     }
     let before = Vec::from_slice(alloc, walk.propagation.letters())?;
     past_steps(walk, kind, from, to)?;
-    tell(
+    report(
         alloc,
         &mut walk.turns,
         walk.steps as usize,
@@ -192,13 +192,13 @@ pub(crate) fn over_instruction(
     let count = step_count(kind);
     match walk.waits {
         None => {
-            tell_steps(alloc, walk, kind, 0, count)?;
+            report_steps(alloc, walk, kind, 0, count)?;
             Ok(())
         }
         Some(left) if left < count => {
             past_steps(walk, kind, 0, left)?;
             put_in(walk, string);
-            tell_steps(alloc, walk, kind, left, count)?;
+            report_steps(alloc, walk, kind, left, count)?;
             Ok(())
         }
         Some(left) => {

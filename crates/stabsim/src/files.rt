@@ -257,7 +257,7 @@ impl<W: Write> Write for FirstLine<W> {
     }
 }
 
-/// Whether two paths lead to one regular file, by links too.
+/// Whether two paths come to one regular file, by links too.
 pub(crate) fn are_one_file<R: Files>(files: &R, path: &str, other: &str) -> bool {
     match (fs::metadata(files, path), fs::metadata(files, other)) {
         (Ok(one), Ok(two)) => is_node_of(&one, &two),

@@ -78,7 +78,7 @@ fn words<R: Env + AllocGlobal>(rt: &R) -> Result<Vec<String>, Usage> {
 fn run_hinted(rt: &HostRuntime, job: Job) -> u8 {
     let is_check = matches!(job.command, Command::Check);
     let mut line = FirstLine::new(rt.stderr());
-    let status = run_apart(rt, job, &mut Device::new(&mut line));
+    let status = run_alone(rt, job, &mut Device::new(&mut line));
     if status == 1 && !is_check && line.refuses_circuit() && rt.stderr().is_terminal() {
         let _ = write_all(&mut Device::new(rt.stderr()), HINT.as_bytes());
     }
@@ -86,9 +86,9 @@ fn run_hinted(rt: &HostRuntime, job: Job) -> u8 {
 }
 
 /// Runs a job, unless it would write a file that it reads.
-fn run_apart<E: Output>(rt: &HostRuntime, job: Job, err: &mut E) -> u8 {
+fn run_alone<E: Output>(rt: &HostRuntime, job: Job, err: &mut E) -> u8 {
     match shared_file(rt, &job) {
-        Some(told) => tell_mistake(told, err),
+        Some(reported) => report_mistake(reported, err),
         None => run_with_coins(rt, job, err),
     }
 }
@@ -108,16 +108,16 @@ fn run_with_coins<E: Output>(rt: &HostRuntime, mut job: Job, err: &mut E) -> u8 
 fn coins_of_file<E: Output>(rt: &HostRuntime, path: &str, err: &mut E) -> Result<Vec<bool>, u8> {
     let mut file = match Reader::open(rt, path) {
         Ok(file) => file,
-        Err(error) => return Err(tell_path(rt, Refusal::ReadFault, path, Some(&error), err)),
+        Err(error) => return Err(report_path(rt, Refusal::ReadFault, path, Some(&error), err)),
     };
     match read_coins(rt.alloc(), &mut Device::new(&mut file)) {
         Ok(coins) => Ok(coins),
-        Err(fault) => Err(tell_coins(rt, fault, path, file.error(), err)),
+        Err(fault) => Err(report_coins(rt, fault, path, file.error(), err)),
     }
 }
 
 /// Writes why a file has no coins, and answers the status.
-fn tell_coins<E: Output>(
+fn report_coins<E: Output>(
     rt: &HostRuntime,
     fault: CoinsFault,
     path: &str,
@@ -125,9 +125,9 @@ fn tell_coins<E: Output>(
     err: &mut E,
 ) -> u8 {
     match fault {
-        CoinsFault::Wrong => tell_mistake(NO_COINS, err),
-        CoinsFault::Unread(Refusal::OutOfMemory) => tell_fault(Refusal::OutOfMemory, err),
-        CoinsFault::Unread(refusal) => tell_path(rt, refusal, path, error, err),
+        CoinsFault::Wrong => report_mistake(NO_COINS, err),
+        CoinsFault::Unread(Refusal::OutOfMemory) => report_fault(Refusal::OutOfMemory, err),
+        CoinsFault::Unread(refusal) => report_path(rt, refusal, path, error, err),
     }
 }
 
@@ -153,7 +153,7 @@ fn run_opened<E: Output>(rt: &HostRuntime, job: &Job, err: &mut E) -> u8 {
     match &job.in_path {
         Some(path) => match Reader::open(rt, path.as_str()) {
             Ok(file) => run_created(rt, job, file, err),
-            Err(error) => tell_path(rt, Refusal::ReadFault, path.as_str(), Some(&error), err),
+            Err(error) => report_path(rt, Refusal::ReadFault, path.as_str(), Some(&error), err),
         },
         None if job.reads_script() => run_created(rt, job, Reader::Nothing, err),
         None => run_created(rt, job, Reader::Standard(rt.stdin()), err),
@@ -165,7 +165,7 @@ fn run_created<E: Output>(rt: &HostRuntime, job: &Job, input: Reader, err: &mut 
     match &job.out_path {
         Some(path) => match Replaced::open(rt, path.as_str()) {
             Ok(file) => run_written(rt, job, input, Sink::File(file), err),
-            Err(error) => tell_path(rt, Refusal::WriteFault, path.as_str(), Some(&error), err),
+            Err(error) => report_path(rt, Refusal::WriteFault, path.as_str(), Some(&error), err),
         },
         None => run_written(rt, job, input, Sink::Standard(rt.stdout()), err),
     }
@@ -193,7 +193,7 @@ fn run_written<E: Output>(
             Writer::Gathered(writer),
             err,
         ),
-        Err(_) => tell_fault(Refusal::OutOfMemory, err),
+        Err(_) => report_fault(Refusal::OutOfMemory, err),
     }
 }
 
@@ -268,27 +268,27 @@ fn no_marks(command: Command) -> &'static str {
 }
 
 /// Writes which arguments are bad, and answers its status.
-fn tell_mistake<E: Output>(told: &str, err: &mut E) -> u8 {
-    let _ = write_all(err, told.as_bytes());
+fn report_mistake<E: Output>(reported: &str, err: &mut E) -> u8 {
+    let _ = write_all(err, reported.as_bytes());
     2
 }
 
 /// Writes the line of a fault, and answers its status.
-fn tell_fault<E: Output>(refusal: Refusal, err: &mut E) -> u8 {
+fn report_fault<E: Output>(refusal: Refusal, err: &mut E) -> u8 {
     let _ = write_fault(err, Fault::whole(refusal));
     1
 }
 
 /// Writes the line of a fault of a file that can't be opened or read, and after it the file's name;
 /// and answers the status.
-fn tell_path<E: Output>(
+fn report_path<E: Output>(
     rt: &HostRuntime,
     refusal: Refusal,
     path: &str,
     error: Option<&io::Error>,
     err: &mut E,
 ) -> u8 {
-    let status = tell_fault(refusal, err);
+    let status = report_fault(refusal, err);
     name_file(rt, path, error, err);
     status
 }

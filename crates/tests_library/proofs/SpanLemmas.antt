@@ -6,7 +6,7 @@ use Rattle.stab_circuit.specs.Items.{OneItem, listed, depth}
 use Rattle.stab_circuit.specs.Steps.{unroll, check_of, check_within}
 use Rattle.stab_edits.proofs.EditLemmas.{edits_leave, steps_split}
 use Rattle.stab_edits.specs.Editings.{IsSpanOf}
-use Rattle.stab_edits.specs.Edits.{edit_path, edited, verdict, list_verdict, first_changed, old_end, new_end, behind_taken, behind_put, outermost}
+use Rattle.stab_edits.specs.Edits.{edit_path, edited, verdict, list_verdict, first_changed, old_end, new_end, after_taken, after_put, outermost}
 use Rattle.stab_edits.specs.declared.edit.Edit.{Edit}
 use Rattle.stab_edits.specs.declared.edit.Span.{Span}
 use Rattle.stab_io.specs.declared.refusal.Refusal.{Refusal}
@@ -28,25 +28,25 @@ leaves-checked n edit old new e allowed =
 
 span-is : (edit : Edit) (old new : List OneItem) (s : Span) → edited edit old ≡ Ok new → IsSpanOf edit old new s → length (unroll (listed old)) ≤ 1048576 → length (unroll (listed new)) ≤ 1048576
     → IsSpan (unroll (listed old)) (unroll (listed new)) s
-span-is edit old new s e told few_old few_new =
+span-is edit old new s e reported few_old few_new =
     let rest = edits_leave edit old new e in
-    let old_within = ends-within (outermost (behind_taken edit) (edit_path edit).blocks) old in
-    let new_within = ends-within (outermost (behind_put edit) (edit_path edit).blocks) new in
-    let first : s.first ≡ first_changed edit old = omega (arith, told.first, told.within, few_old) in
-    let old_is : s.old_end ≡ old_end edit old = omega (arith, told.old_end, old_within, few_old) in
-    let new_is : s.new_end ≡ new_end edit new = omega (arith, told.new_end, new_within, few_new) in
+    let old_within = ends-within (outermost (after_taken edit) (edit_path edit).blocks) old in
+    let new_within = ends-within (outermost (after_put edit) (edit_path edit).blocks) new in
+    let first : s.first ≡ first_changed edit old = omega (arith, reported.first, reported.within, few_old) in
+    let old_is : s.old_end ≡ old_end edit old = omega (arith, reported.old_end, old_within, few_old) in
+    let new_is : s.new_end ≡ new_end edit new = omega (arith, reported.new_end, new_within, few_new) in
     record {
-      old_order = told.old_order;
-      new_order = told.new_order;
+      old_order = reported.old_order;
+      new_order = reported.new_order;
       old_within = omega (arith, old_is, old_within);
       new_within = omega (arith, new_is, new_within);
       before = subst (λ k. take k (unroll (listed old)) ≡ take k (unroll (listed new))) (sym first) rest.before;
-      behind = ap (λ k. drop k (unroll (listed old))) old_is ∙ rest.behind ∙ ap (λ k. drop k (unroll (listed new))) (sym new_is);
+      following = ap (λ k. drop k (unroll (listed old))) old_is ∙ rest.following ∙ ap (λ k. drop k (unroll (listed new))) (sym new_is);
     }
 
 -- and says where the steps differ
 pub edit-of : (n : ℕ) (edit : Edit) (old new : List OneItem) (s : Span) → edited edit old ≡ Ok new → verdict n edit old ≡ None → IsSpanOf edit old new s → check_of (listed old) ≡ None
     → IsEditOf (unroll (listed old)) (unroll (listed new)) s
-edit-of n edit old new s e allowed told checked =
+edit-of n edit old new s e allowed reported checked =
     let few_old = check-steps (listed old) checked in
-    (few_old, span-is edit old new s e told few_old (check-steps (listed new) (leaves-checked n edit old new e allowed)))
+    (few_old, span-is edit old new s e reported few_old (check-steps (listed new) (leaves-checked n edit old new e allowed)))

@@ -55,7 +55,7 @@ fn steps_are_counted_up_to_a_place(rt: HostRuntime) -> Result<(), Fail> {
 
 /// The refusal's number, or 0; whether an item came back or was taken out; and which steps were
 /// changed.
-fn told(answer: Result<(Span, Option<Item>), Refused>) -> (u8, bool, [usize; 3]) {
+fn reported(answer: Result<(Span, Option<Item>), Refused>) -> (u8, bool, [usize; 3]) {
     match answer {
         Ok((span, taken)) => (0, is_there(taken), [span.first, span.old_end, span.new_end]),
         Err(Refused { fault, item }) => (fault.refusal.number(), is_there(item), [0; 3]),
@@ -87,7 +87,7 @@ fn judged(
     item: &str,
 ) -> Result<(u8, bool, [usize; 3]), Fault> {
     let edit = edit_of(alloc, call, path_of(numbers), item)?;
-    Ok(told(circuit.edit(n, edit)))
+    Ok(reported(circuit.edit(n, edit)))
 }
 
 const EDITS: &[(Call, &[usize], &str, usize, (u8, bool, [usize; 3]))] = &[

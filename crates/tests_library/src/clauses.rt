@@ -29,7 +29,7 @@ ghost use Rattle.stab_shots.specs.Shots.{AreShots};
 ghost use Rattle.stab_shots.specs.References.{most_pivots, IsReference};
 ghost use Rattle.stab_run.specs.Coins.{zero_coins};
 ghost use Rattle.stab_session.specs.Sessions.{IsSignIn};
-ghost use Rattle.stab_session.specs.Bounds.{steps_from_change, steps_near_change, most_tried, most_refused_asks, most_checkpoints, AgreeBehind, IsCountOf};
+ghost use Rattle.stab_session.specs.Bounds.{steps_from_change, steps_near_change, most_tried, most_refused_asks, most_checkpoints, AgreeAfter, IsCountOf};
 
 use stab_circuit::{Circuit, Item, Path, Refused, Repeat};
 use stab_pauli::{
@@ -50,7 +50,7 @@ fn phase_of_letters(letter: Letter, other: Letter) -> Phase
 }
 
 /// Strings are said to commute if they do.
-fn told_to_commute(string: &Pauli, other: &Pauli) -> bool
+fn reported_to_commute(string: &Pauli, other: &Pauli) -> bool
     requires same_length { length string.now.letters ≡ length other.now.letters }
     ensures value { result ≡ commute string.now other.now }
 {
@@ -115,7 +115,7 @@ fn stabiliser(tableau: &mut Tableau, alloc: Global, k: usize) -> Result<Pauli, R
 }
 
 /// Two states are said to have one group exactly if they do.
-fn told_to_be_of_one_group(one: &mut Tableau, other: &mut Tableau) -> bool
+fn reported_to_be_of_one_group(one: &mut Tableau, other: &mut Tableau) -> bool
     requires same_length { other.old.qubits ≡ one.old.qubits }
     ensures value { (result ≡ true) ↔ SameGroup one.old.qubits (stabilises one.old) (stabilises other.old) }
 {
@@ -228,7 +228,7 @@ fn recorded_reference(
 }
 
 /// A block is said to be long if it has 2,048 steps.
-fn told_to_be_long(repeat: Repeat) -> bool
+fn reported_to_be_long(repeat: Repeat) -> bool
     ensures value { result ≡ nat_le 2048 (repeat.rounds * repeat.length) }
 {
     is_long(repeat)
@@ -268,12 +268,12 @@ fn edited_or_given_back<C: Coins>(session: &mut Session<C>, edit: Edit) -> Resul
 }
 
 /// A report bounds and counts the steps that an edit carried out and those that it went past in another way, or in vain. An edit asks for no more coins
-/// than it carried out steps, and a refused one for few. The report says how many copies of the state are kept, and these are few.
+/// than it carried out steps, and a refused one for few. The report says how many checkpoints are kept, and these are few.
 fn edited_with_counts<C: Coins>(session: &mut Session<C>, edit: Edit) -> Result<Report, Refused>
-    ensures framed { IfOk result (λ r. r.applied + r.framed ≤ steps_from_change edit session.old session.new + r.tried) }
+    ensures by_frame { IfOk result (λ r. r.applied + r.by_frame ≤ steps_from_change edit session.old session.new + r.tried) }
     ensures tried { IfOk result (λ r. r.tried ≤ most_tried edit session.old session.new) }
-    ensures early { IfOk result (λ r. (far : ℕ) → AgreeBehind C.sequence edit session.old session.new far → r.applied + (r.framed - r.tried) ≤ steps_near_change edit session.new + far) }
-    ensures counted { IfOk result (λ r. IsCountOf C.sequence edit session.old session.new (r.applied + (r.framed - r.tried))) }
+    ensures early { IfOk result (λ r. (far : ℕ) → AgreeAfter C.sequence edit session.old session.new far → r.applied + (r.by_frame - r.tried) ≤ steps_near_change edit session.new + far) }
+    ensures counted { IfOk result (λ r. IsCountOf C.sequence edit session.old session.new (r.applied + (r.by_frame - r.tried))) }
     ensures asks { IfOk result (λ r. C.asks session.new.coins ≤ C.asks session.old.coins + r.applied) }
     ensures refused_asks { OnErr result (C.asks session.new.coins ≤ C.asks session.old.coins + most_refused_asks edit session.old) }
     ensures checkpoints { IfOk result (λ r. r.checkpoints ≡ length session.new.checkpoints) }

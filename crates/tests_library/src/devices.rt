@@ -73,7 +73,7 @@ fn reads(fails_at: usize) -> [Result<usize, DeviceFault>; 5] {
 }
 
 #[test]
-fn a_failed_read_is_told(rt: HostRuntime) {
+fn a_failed_read_is_reported(rt: HostRuntime) {
     let fault = Err(DeviceFault);
     for (fails_at, answers) in [
         (0, [Ok(2), Ok(2), Ok(1), Ok(0), Ok(0)]),
@@ -141,7 +141,7 @@ fn flushes(alloc: Global) -> bool {
 }
 
 #[test]
-fn a_failed_write_or_flush_is_told_and_not_tried_again(rt: HostRuntime) {
+fn a_failed_write_or_flush_is_reported_and_not_tried_again(rt: HostRuntime) {
     for &(fails_at, kind, texts, bytes, calls) in FAILURES {
         let right = writes(rt.alloc(), fails_at, kind, texts, (bytes, calls));
         assert!(rt; right, "{bytes}");

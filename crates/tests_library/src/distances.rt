@@ -119,7 +119,7 @@ const CASES: &[Case] = &[
         9,
         Wanted::Least(&[0, 1, 2, 3]),
     ),
-    // A chain leads from end to end.
+    // A chain goes from end to end.
     (
         Search::Graphlike,
         4,
@@ -254,12 +254,12 @@ fn a_search_finds_a_least_logical_error(rt: HostRuntime) -> Result<(), Fail> {
 
 /// The last number of errors that was reported as excluded, and how many were.
 #[derive(Drop)]
-struct Told {
+struct Reported {
     last: usize,
     times: usize,
 }
 
-impl Progress for Told {
+impl Progress for Reported {
     ghost heard = { λ _. None };
 
     fn begins(&mut self, _errors: usize) {}
@@ -271,22 +271,22 @@ impl Progress for Told {
 }
 
 /// What a search of a repetition code of distance 5 reports.
-fn reports(alloc: Global, search: Search, most: usize) -> Result<Told, Refusal> {
+fn reports(alloc: Global, search: Search, most: usize) -> Result<Reported, Refusal> {
     let table = table_of(alloc, 4, LINE_OF_4)?;
-    let mut told = Told { last: 0, times: 0 };
+    let mut reported = Reported { last: 0, times: 0 };
     match search {
-        Search::All => least_logical_error(alloc, &table, most, &mut told)?,
-        Search::Graphlike => least_graphlike_error(alloc, &table, most, &mut told)?,
+        Search::All => least_logical_error(alloc, &table, most, &mut reported)?,
+        Search::Graphlike => least_graphlike_error(alloc, &table, most, &mut reported)?,
     };
-    Ok(told)
+    Ok(reported)
 }
 
 #[test]
-fn each_number_of_errors_that_is_excluded_is_told(rt: HostRuntime) -> Result<(), Fail> {
+fn each_number_of_errors_that_is_excluded_is_reported(rt: HostRuntime) -> Result<(), Fail> {
     for search in [Search::All, Search::Graphlike] {
         for (most, last) in [(9, 4), (4, 4), (2, 2), (0, 0)] {
-            let told = reports(rt.alloc(), search, most)?;
-            assert!(rt; told.last == last && told.times == last);
+            let reported = reports(rt.alloc(), search, most)?;
+            assert!(rt; reported.last == last && reported.times == last);
         }
     }
     Ok(())

@@ -64,7 +64,7 @@ const CASES: &[(&str, &[usize], Option<&[usize]>)] = &[
 ];
 
 #[test]
-fn the_steps_behind_each_occurrence_are_counted(rt: HostRuntime) -> Result<(), Fail> {
+fn the_steps_after_each_occurrence_are_counted(rt: HostRuntime) -> Result<(), Fail> {
     for &(text, path, gaps) in CASES {
         let are = are_gaps(rt.alloc(), text, path, gaps)?;
         assert!(rt; are, "{text}");

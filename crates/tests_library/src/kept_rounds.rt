@@ -157,8 +157,8 @@ fn covered(rounds: &[Repeat]) -> usize {
     steps
 }
 
-/// What an edit leaves is told by hand. A search in the edited circuit finds no more, and may find less, since it may begin a
-/// round or two after the first.
+/// What an edit leaves is given by hand. A search in the edited circuit finds no more, and may find
+/// less, since it may begin a round or two after the first.
 #[test]
 fn an_edit_leaves_the_rounds_around_it(rt: HostRuntime) -> Result<(), Fail> {
     let alloc = rt.alloc();

@@ -59,8 +59,8 @@ fn product(a: Matrix, b: Matrix) -> Matrix {
     [[entry(0, 0), entry(0, 1)], [entry(1, 0), entry(1, 1)]]
 }
 
-// Whether the product of two letters, with its power of i, is that of their matrices, and is turned by an
-// exchange of the two if they anticommute.
+// Whether the product of two letters, with its power of i, is that of their matrices, and is negated if the two
+// are exchanged and anticommute.
 fn multiply(a: Letter, b: Letter) -> bool {
     let found = scaled(number(a.product_phase(b)), matrix(a.times(b)));
     let sign = if a.anticommutes(b) { (-1, 0) } else { (1, 0) };

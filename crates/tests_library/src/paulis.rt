@@ -214,9 +214,9 @@ fn is_repeated(pauli: &Pauli, letter: Letter) -> bool {
 fn x_times_z(alloc: Global, n: usize, commutes: bool, negative: bool) -> Result<bool, Refusal> {
     let mut pauli = repeated(alloc, n, Letter::X)?;
     let other = repeated(alloc, n, Letter::Z)?;
-    let told = commute(&pauli, &other) == commutes;
+    let reported = commute(&pauli, &other) == commutes;
     let multiplied = multiply(&mut pauli, &other);
-    Ok(told && multiplied && pauli.is_negative() == negative && is_repeated(&pauli, Letter::Y))
+    Ok(reported && multiplied && pauli.is_negative() == negative && is_repeated(&pauli, Letter::Y))
 }
 
 // XZ is -iY, so the product of n is (-i)^n times Y, and i times that for odd n.

@@ -65,12 +65,12 @@ type Case = (&'static str, &'static str, usize, &'static str);
 
 /// The lines of a case.
 fn text_of(alloc: Global, case: Case) -> Result<Vec<u8>, Fail> {
-    let (before, round, count, behind) = case;
+    let (before, round, count, following) = case;
     let mut text = Vec::from_slice(alloc, before.as_bytes())?;
     for _ in 0..count {
         text.extend_from_slice(round.as_bytes())?;
     }
-    text.extend_from_slice(behind.as_bytes())?;
+    text.extend_from_slice(following.as_bytes())?;
     Ok(text)
 }
 

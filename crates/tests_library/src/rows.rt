@@ -188,7 +188,7 @@ fn again(alloc: Global, rows: &PauliRows) -> Result<PauliRows, Refusal> {
 
 // Rows with two letters, of which the second is negated; between them lie 791 words 0, more than one gap can
 // hold, and after them 403.
-fn far_apart(alloc: Global) -> Result<PauliRows, Refusal> {
+fn distant(alloc: Global) -> Result<PauliRows, Refusal> {
     let mut rows = PauliRows::new(alloc, 150, 2)?;
     make(&mut rows, RowChange::Set(0, 0, Letter::X));
     make(&mut rows, RowChange::Set(99, 1, Letter::Y));
@@ -196,8 +196,8 @@ fn far_apart(alloc: Global) -> Result<PauliRows, Refusal> {
     Ok(rows)
 }
 
-// Whether rows that came back are those with letters far apart.
-fn are_far_apart(rows: &PauliRows, again: &PauliRows) -> bool {
+// Whether rows that came back are those with letters far from each other.
+fn are_distant(rows: &PauliRows, again: &PauliRows) -> bool {
     again.len() == 150
         && again.qubits() == 2
         && again.same(rows)
@@ -206,36 +206,36 @@ fn are_far_apart(rows: &PauliRows, again: &PauliRows) -> bool {
         && shows(again, (99, 1), (Letter::Y, true, true, Some(1)))
 }
 
-// Whether rows with letters far apart come back in rows of their own.
-fn far_apart_come_back(alloc: Global) -> Result<bool, Refusal> {
-    let rows = far_apart(alloc)?;
+// Whether rows with letters far from each other come back in rows of their own.
+fn distant_come_back(alloc: Global) -> Result<bool, Refusal> {
+    let rows = distant(alloc)?;
     match again(alloc, &rows) {
-        Ok(again) => Ok(are_far_apart(&rows, &again)),
+        Ok(again) => Ok(are_distant(&rows, &again)),
         Err(refusal) => Err(refusal),
     }
 }
 
 // Whether rows are distinguished, by little memory, from those with one letter more after them.
-fn are_told_from(compact: &CompactRows, rows: &mut PauliRows) -> bool {
+fn are_reported_from(compact: &CompactRows, rows: &mut PauliRows) -> bool {
     let same = compact.qubits() == 2 && compact.are(rows);
     make(rows, RowChange::Set(149, 1, Letter::Z));
     same && !compact.are(rows)
 }
 
-// Whether rows with letters far apart are distinguished from rows with one letter more after them.
-fn are_told(alloc: Global) -> Result<bool, Refusal> {
-    let mut rows = far_apart(alloc)?;
+// Whether rows with letters far from each other are distinguished from rows with one letter more after them.
+fn are_reported(alloc: Global) -> Result<bool, Refusal> {
+    let mut rows = distant(alloc)?;
     match rows.compact(alloc) {
-        Ok(compact) => Ok(are_told_from(&compact, &mut rows)),
+        Ok(compact) => Ok(are_reported_from(&compact, &mut rows)),
         Err(refusal) => Err(refusal),
     }
 }
 
 #[test]
-fn letters_far_apart_come_back_from_little_memory(rt: HostRuntime) -> Result<(), Fail> {
-    let back = far_apart_come_back(rt.alloc())?;
-    let told = are_told(rt.alloc())?;
-    assert!(rt; back && told);
+fn distant_letters_come_back_from_little_memory(rt: HostRuntime) -> Result<(), Fail> {
+    let back = distant_come_back(rt.alloc())?;
+    let reported = are_reported(rt.alloc())?;
+    assert!(rt; back && reported);
     Ok(())
 }
 
@@ -290,7 +290,7 @@ fn are_others_kept(alloc: Global, n: usize) -> Result<bool, Refusal> {
 }
 
 #[test]
-fn a_row_behind_many_keeps_the_others(rt: HostRuntime) -> Result<(), Fail> {
+fn a_row_after_many_keeps_the_others(rt: HostRuntime) -> Result<(), Fail> {
     for n in [1, 255, 256, 257, 1024] {
         let kept = are_others_kept(rt.alloc(), n)?;
         assert!(rt; kept, "{n}");

@@ -111,8 +111,8 @@ fn shots_at_once_are_runs_of_their_own(rt: HostRuntime) -> Result<(), Fail> {
 }
 
 /// Circuits on four qubits whose shots make more than one batch: one with entangled qubits, of which each basis is measured and
-/// reset, products of four letters, feedback by all letters, and the same in blocks; one with nothing free; one whose outcomes are
-/// free in turn; and one with enough rounds that they are given again, with the strings of their free outcomes.
+/// reset, products of four letters, feedback by all letters, and the same in blocks; one with nothing random; one whose outcomes are
+/// random in turn; and one with enough rounds that they are repeated, with the pivots of their random outcomes.
 const BATCHED: [&str; 4] = [
     "H 0 2
 CX 0 1 2 3

@@ -9,7 +9,7 @@ use stab_session::{Coins, Edit, Report, Session};
 use std::alloc::Global;
 use std::test::Fail;
 
-/// A session on one qubit with copies of its state at most twelve steps apart.
+/// A session on one qubit with checkpoints at most twelve steps from each other.
 fn opened<C: Coins>(alloc: Global, text: &str, coins: C) -> Result<Session<C>, Fault> {
     let circuit = read_circuit(alloc, &mut MemoryInput::new(text.as_bytes()))?;
     match Session::open(alloc, circuit, 1, 12, coins) {
@@ -64,7 +64,7 @@ fn put_where<C: Coins>(
     match place {
         Some(place) => {
             let report = put(alloc, session, place, text)?;
-            Ok([report.applied, report.framed, report.checkpoints])
+            Ok([report.applied, report.by_frame, report.checkpoints])
         }
         None => Ok([0; 3]),
     }
@@ -82,7 +82,7 @@ fn put_in<C: Coins>(
     put_where(alloc, &mut session, place, text)
 }
 
-/// The steps that an edit carries out, those that a frame goes over, and the copies that are kept, or none;
+/// The steps that an edit carries out, those that a frame goes over, and the checkpoints that are kept, or none;
 /// and how many coins the session asked for in all.
 fn cost(
     alloc: Global,
@@ -101,7 +101,7 @@ fn cost(
     Ok((report, asks))
 }
 
-/// Whether these are the steps that an edit carries out and goes over, the most copies that it leaves, and the coins that the opening
+/// Whether these are the steps that an edit carries out and goes over, the most checkpoints that it leaves, and the coins that the opening
 /// and then the edit ask for.
 fn costs(
     alloc: Global,
@@ -111,9 +111,9 @@ fn costs(
     (steps, copies, (opening, edit)): ([usize; 2], usize, (u64, u64)),
 ) -> Result<bool, Fault> {
     let (_, asked) = cost(alloc, circuit, None, text)?;
-    let ([applied, framed, kept], asks) = cost(alloc, circuit, Some(place), text)?;
+    let ([applied, by_frame, kept], asks) = cost(alloc, circuit, Some(place), text)?;
     let asked_for = asked == opening && asks == opening.saturating_add(edit);
-    Ok([applied, framed] == steps && kept <= copies && asked_for)
+    Ok([applied, by_frame] == steps && kept <= copies && asked_for)
 }
 
 /// A place in the outermost list, or in a block of it.
@@ -127,17 +127,17 @@ fn path(block: Option<usize>, place: usize) -> Path {
 /// What is put in, and where: in which block, or in none.
 type Item = (Option<usize>, usize, &'static str);
 
-// An edit whose flips die is followed as far as steps look back. The X flips the first record, and the reset
-// after that ends the flip. Then come 38 measurements, and copies before the steps 9, 18, 27 and 36, after 8,
-// 17, 26 and 35 records. So if nothing looks back both runs agree at the first copy, before step 10 of the new
-// ones; if a detector looks back to 15 records they do at the second one, after whose first record 16 more
-// follow; and if it looks back to all, at none. A frame passes all of that, and no step is carried out.
+// An edit whose flips die is followed as far as steps look back. The X flips the first record, and the reset after
+// that ends the flip. Then come 38 measurements, and checkpoints before the steps 9, 18, 27 and 36, after 8, 17, 26
+// and 35 records. So if nothing looks back both runs agree at the first checkpoint, before step 10 of the new ones;
+// if a detector looks back to 15 records they do at the second one, after whose first record 16 more follow; and if
+// it looks back to all, at none. A frame passes all of that, and no step is carried out.
 //
-// Two square roots of X do the same, and are no Pauli gates: steps are carried out up to the first copy, before
+// Two square roots of X do the same, and are no Pauli gates: steps are carried out up to the first checkpoint, before
 // step 11, where both runs agree if nothing looks back. If a detector does, the first records differ there, so the
-// other old copies in the block are passed, and its rounds come again by themselves. If the detector looks back to 15
-// records, the state before step 29, after 26 records, is as it was before step 20, after 17: the next nine steps are
-// given again, and the last five carried out. If it looks back to all, no round comes again.
+// other old checkpoints in the block are passed, and its rounds come again by themselves. If the detector looks back
+// to 15 records, the state before step 29, after 26 records, is as it was before step 20, after 17: the next nine
+// steps are repeated, and the last five carried out. If it looks back to all, no round comes again.
 const DIES: &str = "M 0\nR 0\nREPEAT 38 {\nM 0\n}";
 
 const DIES_NEAR: &str = "M 0\nR 0\nREPEAT 38 {\nM 0\n}\nDETECTOR rec[-15]";
@@ -146,11 +146,11 @@ const DIES_FAR: &str = "M 0\nR 0\nREPEAT 38 {\nM 0\n}\nDETECTOR rec[-39]";
 
 const ROOTS: &str = "SQRT_X 0 0";
 
-// A frame ends at a copy too whose state its letters stabilise, with one of both signs, if it flipped no record that
-// later steps look back to. The X flips the first record, and after the first measurement of X it stabilises. Copies
-// are placed as above: the first one shows it if nothing looks back, the second one after a detector that looks back to
-// 15 records, and none if a detector looks back to all. Z stabilises a qubit that X gates alone act on; X stabilises
-// it nowhere, so its frame leads up to the end, though it flips nothing.
+// A frame ends at a checkpoint too whose state its letters stabilise, with one of both signs, if it flipped no record
+// that later steps look back to. The X flips the first record, and after the first measurement of X it stabilises.
+// Checkpoints are placed as above: the first one shows it if nothing looks back, the second one after a detector that
+// looks back to 15 records, and none if a detector looks back to all. Z stabilises a qubit that X gates alone act on;
+// X stabilises it nowhere, so its frame goes on up to the end, though it flips nothing.
 const SETTLES: &str = "M 0\nREPEAT 39 {\nMX 0\n}";
 
 const SETTLES_NEAR: &str = "M 0\nREPEAT 39 {\nMX 0\n}\nDETECTOR rec[-15]";
@@ -159,13 +159,14 @@ const SETTLES_FAR: &str = "M 0\nREPEAT 39 {\nMX 0\n}\nDETECTOR rec[-40]";
 
 const STILL: &str = "REPEAT 100 {\nX 0\n}";
 
-// A measurement or reset that is put in gives all later records or coins other numbers. If no coin decides after a copy
-// and nothing looks back, the old run is kept nevertheless, from the first copy on, before step 10 of the new ones. If a
-// detector looks back to 15 records, of which one run has eight there and the other nine, the other old copies in the
-// block are passed: the state before step 28, after 27 records, is as it was before step 19, after 18; the next nine steps
-// are given again, and the last five carried out. If a detector looks back to all, no round comes again. A reset turns a 1
-// into a 0, so the states differ at the first copy; before step 19 the state is as it was before step 10, so twice nine
-// steps are given again, and the last four carried out. If a coin decides after each copy, all 2,001 steps are carried out.
+// A measurement or reset that is put in gives all later records or coins other numbers. If no coin decides after a
+// checkpoint and nothing looks back, the old run is kept nevertheless, from the first checkpoint on, before step 10
+// of the new ones. If a detector looks back to 15 records, of which one run has eight there and the other nine, the
+// other old checkpoints in the block are passed: the state before step 28, after 27 records, is as it was before step
+// 19, after 18; the next nine steps are repeated, and the last five carried out. If a detector looks back to all, no
+// round comes again. A reset makes a 0 of a 1, so the states differ at the first checkpoint; before step 19 the state
+// is as it was before step 10, so twice nine steps are repeated, and the last four carried out. If a coin decides
+// after each checkpoint, all 2,001 steps are carried out.
 const ONES: &str = "X 0\nREPEAT 39 {\nM 0\n}";
 
 const ONE_COIN: &str = "REPEAT 40 {\nMX 0\n}";
@@ -174,15 +175,16 @@ const TWO_BLOCKS: &str = "REPEAT 10 {\nX 0\nX 0\n}\nREPEAT 1000 {\nX 0\n}";
 
 const FREE: &str = "REPEAT 1000 {\nMX 0\nM 0\n}";
 
-// Circuits on one qubit, with copies at most twelve steps apart, and what is put in where. Then how many steps the edit carries out,
-// how many others it goes past, and the most copies that are kept, two for each twelve steps and two more; how many coins the opening
-// asks for, and how many the edit.
+// Circuits on one qubit, with checkpoints at most twelve steps from each other, and what is put in where. Then how
+// many steps the edit carries out, how many others it goes past, and the most checkpoints that are kept, two for each
+// twelve steps and two more; how many coins the opening asks for, and how many the edit.
 //
-// An I changes nothing: from the copy before it on its frame, which has no letter, goes past the steps up to the next copy, or to the
-// end. Copies are three quarters of that apart: nine steps. In the first block of two that is not so: with an I in each of its ten
-// rounds its copies would be too far apart: its frame goes in vain over the 19 old steps from the first I to the block's end. So the
-// rounds are carried out; after the 18th step the state is that after the 9th, three rounds before, so the next nine steps are given
-// again, and ten more lead to the old copy after step 27, which has become step 37.
+// An I changes nothing: from the checkpoint before it on its frame, which has no letter, goes past the steps up to
+// the next checkpoint, or to the end. Checkpoints are nine steps from each other, three quarters of twelve. In the
+// first block of two that is not so: with an I in each of its ten rounds its checkpoints would be too far from each
+// other: its frame goes in vain over the 19 old steps from the first I to the block's end. So the rounds are carried
+// out; after the 18th step the state is that after the 9th, three rounds before, so the next nine steps are repeated,
+// and ten more come to the old checkpoint after step 27, which has become step 37.
 const COSTS: &[(&str, Item, [usize; 2], usize, (u64, u64))] = &[
     (STILL, (None, 1, "I 0"), [0, 2], 18, (0, 0)),
     (

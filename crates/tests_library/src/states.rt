@@ -55,7 +55,7 @@ fn are_same_after(
 // A Bell pair whose half was measured with the coin 1.
 const HALF: &[Call] = &[TURN, ENTANGLE, Measure("+Z_", true)];
 
-// The same, if every qubit was turned, entangled and measured, and the state then reset.
+// The same, if every qubit was rotated, entangled and measured, and the state then reset.
 const HALF_AFTER_RESET: &[Call] = &[Wear, Reset, TURN, ENTANGLE, Measure("+Z_", true)];
 
 const GROUPS: &[(usize, &[Call], &[Call], bool)] = &[

@@ -14,7 +14,7 @@ use stab_results::Format;
 use std::alloc::Global;
 
 /// A job is said to read a script if its command does.
-fn told_to_read_a_script(job: &Job) -> bool
+fn reported_to_read_a_script(job: &Job) -> bool
     ensures value { result ≡ reads_script job.now.command }
 {
     job.reads_script()

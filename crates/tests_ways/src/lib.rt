@@ -4,4 +4,6 @@
 #![tactic(auto)]
 
 #[cfg(test)]
+mod ticks;
+#[cfg(test)]
 mod ways;

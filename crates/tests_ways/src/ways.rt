@@ -7,7 +7,7 @@ use std::alloc::Global;
 use std::test::Fail;
 
 /// Letters of a string, by qubit.
-type Letters = &'static [(usize, Letter)];
+pub(crate) type Letters = &'static [(usize, Letter)];
 
 /// A circuit, after how many of its steps a string is put in, and the string; where it is another one, the numbers of the records, detectors
 /// and additions to observables that it flips, and the string at the end.
@@ -53,7 +53,7 @@ const CASES: &[Case] = &[
     // S makes Y of X, and X of Y up to its sign.
     ("S 0\nS 0", 0, X0, &[(1, Y0), (2, X0)], &[], &[], &[], X0),
     ("H 0\nH 1", 0, X0, &[(1, Z0)], &[], &[], &[], Z0),
-    // In one instruction the string is told after all its targets alone.
+    // In one instruction the string is reported after all its targets alone.
     ("SWAP 0 1", 0, X0, &[(1, X1)], &[], &[], &[], X1),
     ("SWAP 0 1 0 1", 0, X0, &[], &[], &[], &[], X0),
     // A reset ends it, and so does a measurement that resets, once it is flipped.
@@ -217,7 +217,7 @@ fn flipped(additions: &[Addition], wanted: &[usize]) -> bool {
 }
 
 /// Whether a string becomes these.
-fn turns(way: &Way, wanted: &[(usize, Letters)]) -> bool {
+pub(crate) fn turns(way: &Way, wanted: &[(usize, Letters)]) -> bool {
     let found = way.turns.as_slice();
     let mut same = found.len() == wanted.len();
     for place in 0..found.len().min(wanted.len()) {
@@ -228,7 +228,7 @@ fn turns(way: &Way, wanted: &[(usize, Letters)]) -> bool {
 }
 
 /// Puts a letter at a qubit, if the string has one there.
-fn set(string: &mut Pauli, qubit: usize, letter: Letter) {
+pub(crate) fn set(string: &mut Pauli, qubit: usize, letter: Letter) {
     if qubit < string.len() {
         string.set(qubit, letter);
     }
@@ -245,14 +245,14 @@ fn way(alloc: Global, circuit: &Circuit, place: usize, letters: Letters) -> Opti
 }
 
 fn answers(alloc: Global, case: &Case) -> bool {
-    let (text, place, letters, told, records, detectors, additions, end) = *case;
+    let (text, place, letters, reported, records, detectors, additions, end) = *case;
     let Ok(circuit) = read_circuit(alloc, &mut MemoryInput::new(text.as_bytes())) else {
         return false;
     };
     let Some(found) = way(alloc, &circuit, place, letters) else {
         return false;
     };
-    turns(&found, told)
+    turns(&found, reported)
         && ones(found.end.records(), records)
         && ones(found.end.detectors(), detectors)
         && flipped(found.end.additions(), additions)

@@ -63,7 +63,7 @@ fn edit(rt: &HostRuntime, circuit: Circuit) -> Result<(), Failure> {
     match session.apply(edit) {
         Ok(report) => println!(rt;
             "steps carried out {}, gone over by a frame {}",
-            report.applied, report.framed
+            report.applied, report.by_frame
         )?,
         Err(refused) => return Err(refused.fault.into()),
     }

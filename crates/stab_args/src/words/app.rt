@@ -310,6 +310,7 @@ fn propagate_command<'a>(alloc: Global) -> Result<Command<'a>, AllocError>
     let command = with_option(command, at);
     let string = wanted(positional(alloc, "PAULI", help::PAULI));
     let command = with_option(command, string);
+    let command = with_option(command, flag(alloc, "every", help::EVERY));
     with_files(alloc, command, help::IN)
 }
 

@@ -190,6 +190,9 @@ PAULI is a product such as X3*Z4, or a letter for each qubit such as X__Z. PLACE
 front of that item, in the first round of each block around it; @1207 is after that many steps, and the number
 of items of the circuit is its end.
 
+With --every these lines are those of the ticks (TICK) from the place on, in each round, also where the string is as
+it was; the path is that of the last item with a step before the tick. A block without steps counts once.
+
 A measurement that anticommutes with the string is flipped, also if its outcome is random: with the coins of
 these outcomes exchanged, the run with the string is the run without it, flipped so.
 
@@ -265,6 +268,9 @@ pub(crate) const TABLE: &str =
 
 pub(crate) const WCNF: &str =
     "Writes the errors to be searched as a problem for MaxSAT solvers, and searches none";
+
+pub(crate) const EVERY: &str =
+    "Writes the string at every tick from the place on, in place of where it changes";
 
 pub(crate) const COUNT: &str = "Writes after the answer how many least sets there are, as count N";
 

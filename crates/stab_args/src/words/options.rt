@@ -278,8 +278,8 @@ fn search_or_table(alloc: Global, options: &ArgMatches) -> Result<Command, Usage
     let table = flag(options, "table");
     if flag(options, "each") {
         if is_beside_each(table, asked) {
-            let told = String::from_str(alloc, EACH_BESIDE)?;
-            return Err(Usage::Fault(told));
+            let reported = String::from_str(alloc, EACH_BESIDE)?;
+            return Err(Usage::Fault(reported));
         }
         return Ok(Command::EachDistance(asked));
     }
@@ -287,8 +287,8 @@ fn search_or_table(alloc: Global, options: &ArgMatches) -> Result<Command, Usage
         return Ok(Command::Distance(asked));
     }
     if is_about_search(asked) {
-        let told = String::from_str(alloc, TABLE_BESIDE_SEARCH)?;
-        return Err(Usage::Fault(told));
+        let reported = String::from_str(alloc, TABLE_BESIDE_SEARCH)?;
+        return Err(Usage::Fault(reported));
     }
     Ok(Command::SearchedErrors {
         layout: SearchedLayout::Table,
@@ -307,8 +307,8 @@ fn uncounted(alloc: Global, options: &ArgMatches) -> Result<Command, Usage>
     }
     let asked = distance_options(options);
     if is_beside_problem(flag(options, "table"), flag(options, "each"), asked) {
-        let told = String::from_str(alloc, PROBLEM_BESIDE)?;
-        return Err(Usage::Fault(told));
+        let reported = String::from_str(alloc, PROBLEM_BESIDE)?;
+        return Err(Usage::Fault(reported));
     }
     Ok(Command::SearchedErrors {
         layout: SearchedLayout::Wcnf,
@@ -328,8 +328,8 @@ fn distance(alloc: Global, options: &ArgMatches) -> Result<Command, Usage>
     let wcnf = flag(options, "wcnf");
     let table = flag(options, "table");
     if is_beside_count(wcnf, table, flag(options, "each"), asked) {
-        let told = String::from_str(alloc, COUNT_BESIDE)?;
-        return Err(Usage::Fault(told));
+        let reported = String::from_str(alloc, COUNT_BESIDE)?;
+        return Err(Usage::Fault(reported));
     }
     Ok(Command::CountedDistance(asked))
 }
@@ -362,7 +362,9 @@ fn command(alloc: Global, name: &str, options: &ArgMatches) -> Result<Command, U
             layout: layout(options),
         },
         "distance" => distance(alloc, options)?,
-        "propagate" => Command::Propagate,
+        "propagate" => Command::Propagate {
+            every: flag(options, "every"),
+        },
         _ => Command::Edit {
             framed: flag(options, "framed"),
             qubits: qubits(options),
@@ -379,8 +381,8 @@ pub(crate) fn job(alloc: Global, name: &str, options: &ArgMatches) -> Result<Job
     ensures refused { IfErr result (RefusesOptions (rows_of (found_of options.now))) }
 {
     if first_beside_coins(options) {
-        let told = String::from_str(alloc, FIRST_BESIDE_COINS)?;
-        return Err(Usage::Fault(told));
+        let reported = String::from_str(alloc, FIRST_BESIDE_COINS)?;
+        return Err(Usage::Fault(reported));
     }
     Ok(Job {
         command: command(alloc, name, options)?,

@@ -141,14 +141,14 @@ TakesLine new (Ok x) given = given ≡ Ok new
 TakesLine new (Err r) given = (r ≡ OutOfMemory) ⊎ (given ≡ Err r)
 
 -- these are the lines after the first, if the call did not fail
-abbrev pub AreBehind : List (List ℕ) → Result (Option (Bor (List ℕ))) Refusal → Type 0
-AreBehind more (Ok after) = more ≡ pieces_after 10 (option_copied after)
-AreBehind more (Err r) = Unit {0}
+abbrev pub AreAfter : List (List ℕ) → Result (Option (Bor (List ℕ))) Refusal → Type 0
+AreAfter more (Ok after) = more ≡ pieces_after 10 (option_copied after)
+AreAfter more (Err r) = Unit {0}
 
 -- the call took the first line of a text, whose number is n, and gave those after it
 abbrev pub TakesFirst : Bool → ℕ → List ℕ → Progress → Progress → Result (Option (Bor (List ℕ))) Refusal → Type 0
 TakesFirst single n text old new result =
-    (first : List ℕ) × (more : List (List ℕ)) × (slice_split (is_byte 10) text ≡ first ∷ more) × AreBehind more result
+    (first : List ℕ) × (more : List (List ℕ)) × (slice_split (is_byte 10) text ≡ first ∷ more) × AreAfter more result
     × TakesLine new result (stepped n (meaning_at single old (content_of first)) old)
 
 -- the call read the items, or failed as the definition does, or for lack of memory, which has no line

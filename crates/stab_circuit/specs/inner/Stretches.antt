@@ -27,12 +27,12 @@ pub record Reads (lines : List (List ℕ)) (items : Items) : Type 0 where
 
 -- the items of a stretch, in the list in which they are
 abbrev pub items_of : Stretch → List OneItem → List OneItem
-items_of s xs = drop s.first (take s.behind xs)
+items_of s xs = drop s.first (take s.following xs)
 
 -- what is known of a stretch: it is this many lines, which put its items after the others
 pub record IsStretch (xs : List OneItem) (s : Stretch) : Type 0 where
-  pub order : s.first ≤ s.behind
-  pub within : s.behind ≤ length xs
+  pub order : s.first ≤ s.following
+  pub within : s.following ≤ length xs
   pub count : length (slice_split (is_byte 10) s.bytes.now) ≡ s.lines
   pub reads : Reads (slice_split (is_byte 10) s.bytes.now) (listed (items_of s xs))
 

@@ -27,7 +27,7 @@ Counts classes detectors i = (detectors ≤ i) ⊎ (slice_index classes i ≢ 0)
 pub record AreParts (t : ErrorTable) (classes is parts : List ℕ) : Type 0 where
   pub inside : Each (λ r. r < length t.rows) parts
   pub same : (i : ℕ) → Counts classes t.detectors i → flips t.rows parts i ≡ odd i is
-  pub apart : IsAscending (map (λ r. class_of classes (row t.rows r)) parts)
+  pub distinct : IsAscending (map (λ r. class_of classes (row t.rows r)) parts)
 
 -- what an error flips splits into errors of a table
 abbrev pub Splits : ErrorTable → (classes is : List ℕ) → Type 0

@@ -20,9 +20,9 @@ ways detectors (r ∷ rows) [] (suc left) flipped = 0
 ways detectors (r ∷ rows) (w ∷ weights) (suc left) flipped = ways detectors rows weights (suc left) flipped + w * ways detectors rows weights left (r ++ flipped)
 
 -- what an answer says of a number: the number, or that it takes more than 64 bits
-abbrev pub Tells : ℕ → Option ℕ → Type 0
-Tells n (Some k) = k ≡ n
-Tells n None = 2 ^ 64 ≤ n
+abbrev pub Reports : ℕ → Option ℕ → Type 0
+Reports n (Some k) = k ≡ n
+Reports n None = 2 ^ 64 ≤ n
 
 -- no fewer errors complete what is flipped
 abbrev pub HasNoFewer : ErrorTable → List ℕ → ℕ → Type 0
@@ -41,7 +41,7 @@ MeetsEach t weights flipped left errors = (rest : List ℕ) → IsWay t weights 
 -- a number of the ways that are no longer there with later weights
 abbrev pub IsPart : ErrorTable → (before after : List ℕ) → ℕ → List ℕ → Option ℕ → Type 0
 IsPart t before after left flipped part =
-    (n : ℕ) × (Tells n part × (n + ways t.detectors t.rows after left flipped ≡ ways t.detectors t.rows before left flipped))
+    (n : ℕ) × (Reports n part × (n + ways t.detectors t.rows after left flipped ≡ ways t.detectors t.rows before left flipped))
 
 -- a weight of 1 for each row
 abbrev pub ones : List (List ℕ) → List ℕ

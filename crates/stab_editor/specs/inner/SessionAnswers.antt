@@ -4,13 +4,13 @@ use Rattle.std.specs.Prelude.{ℕ, Bool, List}
 use Rattle.stab_run.specs.Runs.{State, run_of}
 use Rattle.stab_session.specs.Sessions.{SessionState}
 use Rattle.stab_script.specs.Changes.{mark_shown}
-use Rattle.stab_script.specs.Scripts.{Setting, Held, Answer, Shows}
+use Rattle.stab_script.specs.Scripts.{Environment, Held, Answer, Shows}
 use Rattle.stab_script.specs.declared.changes.MarkedBits.{MarkedBits}
 use Rattle.stab_script.specs.declared.request.Show.{Show}
 
--- the qubits and coins of a session, and whether its script is framed
-abbrev pub session_setting : {C : Type 0} → (C → ℕ → Bool) → (framed : Bool) → SessionState C → Setting
-session_setting sequence framed s = record { framed = framed; qubits = s.qubits; coins = sequence s.coins }
+-- the qubits and coins of a session, and whether its script is counted
+abbrev pub session_environment : {C : Type 0} → (C → ℕ → Bool) → (counted : Bool) → SessionState C → Environment
+session_environment sequence counted s = record { counted = counted; qubits = s.qubits; coins = sequence s.coins }
 
 -- the run of a session
 abbrev pub session_run : {C : Type 0} → (C → ℕ → Bool) → SessionState C → State

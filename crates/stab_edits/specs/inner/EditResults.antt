@@ -7,7 +7,7 @@ use Rattle.stab_edits.specs.declared.judge.Judgement.{Judgement}
 use Rattle.stab_edits.specs.declared.judge.EditResult.{EditResult}
 use Rattle.stab_items.specs.Items.{OneItem, listed, AreGood}
 use Rattle.stab_items.specs.Steps.{Step, unroll, steps_cap}
-use Rattle.stab_edits.specs.Edits.{edited_in, edit_path, inner, steps_in, behind_taken, behind_put, outermost}
+use Rattle.stab_edits.specs.Edits.{edited_in, edit_path, inner, steps_in, after_taken, after_put, outermost}
 use Rattle.stab_items.specs.inner.Summaries.{followed_by, IsSummary}
 use Rattle.stab_edits.specs.inner.Splices.{Splice}
 use Rattle.stab_edits.specs.inner.Judgements.{summed, BeginsWith}
@@ -34,14 +34,14 @@ edit_result_by j front gone back = record {
   new_end = min (front.steps + j.put.steps) steps_cap;
 }
 
--- this is what a list comes to by an edit in the last of these blocks, which leads to a place
+-- this is what a list comes to by an edit in the last of these blocks, which comes to a place
 pub record IsEditResult (edit : Edit) (blocks : List ℕ) (xs : List OneItem) (o : EditResult) : Type 0 where
   pub total : Ok o.total ≡ summed (edited_in edit blocks xs)
   pub small : IsSummary o.total
   pub first : o.first ≡ min (length (steps_in blocks (edit_path edit).place xs)) steps_cap
   pub front : BeginsWith (steps_in blocks (edit_path edit).place xs) (unroll (listed xs))
-  pub old_end : o.old_end ≡ min (length (unroll (listed (take (outermost (behind_taken edit) blocks) xs)))) steps_cap
-  pub new_end : IfOk (edited_in edit blocks xs) (λ new. o.new_end ≡ min (length (unroll (listed (take (outermost (behind_put edit) blocks) new)))) steps_cap)
+  pub old_end : o.old_end ≡ min (length (unroll (listed (take (outermost (after_taken edit) blocks) xs)))) steps_cap
+  pub new_end : IfOk (edited_in edit blocks xs) (λ new. o.new_end ≡ min (length (unroll (listed (take (outermost (after_put edit) blocks) new)))) steps_cap)
   pub good : IfOk (edited_in edit blocks xs) IsGoodList
   pub old_order : o.first ≤ o.old_end
   pub new_order : o.first ≤ o.new_end

@@ -25,7 +25,7 @@ round_gaps (suc (suc n)) lead gaps = with_more lead gaps ++ round_gaps (suc n) l
 
 -- the pieces in a block after an item in it and in the blocks in it, with these steps after the last
 abbrev pub block_pieces : (end : ℕ) → List ℕ → (place : ℕ) → Option OneItem → List Step → List (List Step)
-block_pieces end bs place x behind = round_pieces (rounds_in x) (pieces_in end bs place (inner x)) (steps_in bs place (inner x)) behind
+block_pieces end bs place x following = round_pieces (rounds_in x) (pieces_in end bs place (inner x)) (steps_in bs place (inner x)) following
 
 -- these are the lengths of the pieces in a list, if the blocks have rounds
 pub record AreGapsIn (bs : List ℕ) (place : ℕ) (xs : List OneItem) (gaps : List ℕ) : Type 0 where

@@ -20,7 +20,7 @@ summed (Err r) = Err r
 
 -- a splice with the summary of what is put in, and with this many steps before the place within the first item, unless it is refused
 abbrev pub judgement_of : ℕ → Result Splice Refusal → Result Judgement Refusal
-judgement_of within (Ok s) = Ok (record { first = s.first; behind = s.behind; put = summary_of (listed s.put); within = within })
+judgement_of within (Ok s) = Ok (record { first = s.first; following = s.following; put = summary_of (listed s.put); within = within })
 judgement_of within (Err r) = Err r
 
 -- the item that is lent, if there is one
@@ -28,7 +28,7 @@ abbrev pub shown_item : Option (Bor OneItem) → Option OneItem
 shown_item None = None
 shown_item (Some x) = Some x.now
 
--- why a number of a path leads into no block
+-- why a number of a path goes into no block
 abbrev pub block_refusal : Option OneItem → Option Refusal
 block_refusal None = Some PlaceOutOfRange
 block_refusal (Some (operation op)) = Some NotABlock

@@ -24,5 +24,5 @@ pub record WereStretches (ss : List Stretch) (place len : ℕ) (new : List OneIt
   pub splice : Splice
   pub within : IsWithin splice old
   pub first : splice.first ≡ place
-  pub one : splice.behind ≤ place + 1
+  pub one : splice.following ≤ place + 1
   pub left : spliced old (Ok splice) ≡ Ok new

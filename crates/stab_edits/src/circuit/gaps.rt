@@ -25,13 +25,13 @@ fn item_in_list(items: &[Item], place: usize) -> Option<&Item>
 }
 
 /// How many steps the items after the one at a place make, or 1,048,577 if they make more.
-fn steps_behind(items: &[Item], place: usize) -> u32
+fn steps_after(items: &[Item], place: usize) -> u32
     ensures value { result ≡ min (length (unroll (listed (drop (place + 1) items.now)))) steps_cap }
 {
     let (_, rest) = items.split_at(place.min(items.len()));
     match rest.split_first() {
         None => 0,
-        Some((_, behind)) => items_summary(behind).steps,
+        Some((_, following)) => items_summary(following).steps,
     }
 }
 
@@ -115,7 +115,7 @@ fn gaps_in(
     ensures err { IfErr result (λ r. r ≡ OutOfMemory) }
 {
     match blocks.split_first() {
-        None => Ok(Some(vec![in alloc; steps_behind(items, place) as usize]?)),
+        None => Ok(Some(vec![in alloc; steps_after(items, place) as usize]?)),
         Some((block, others)) => match gaps_inside(
             alloc,
             item_in_list(items, *block),
@@ -123,7 +123,7 @@ fn gaps_in(
             place,
         )? {
             None => Ok(None),
-            Some(gaps) => Ok(Some(with_more(gaps, steps_behind(items, *block) as usize)?)),
+            Some(gaps) => Ok(Some(with_more(gaps, steps_after(items, *block) as usize)?)),
         },
     }
 }
@@ -138,8 +138,8 @@ fn gaps_inside(
     place: usize,
 ) -> Result<Option<Vec<usize>>, Refusal>
     requires few { length (item_steps (shown_item found)) ≤ most_steps }
-    ensures some { IfOk result (λ told. IfSome told (λ gaps. AreGapsInside others.now place (shown_item found.entry) gaps.items)) }
-    ensures none { IfOk result (λ told. IfNone told ((x : OneItem) → found_inside (item_in others.now place) (shown_item found.entry) ≡ Ok x → most_steps < length (block_pieces (place + 1) others.now place (shown_item found.entry) []))) }
+    ensures some { IfOk result (λ determined. IfSome determined (λ gaps. AreGapsInside others.now place (shown_item found.entry) gaps.items)) }
+    ensures none { IfOk result (λ determined. IfNone determined ((x : OneItem) → found_inside (item_in others.now place) (shown_item found.entry) ≡ Ok x → most_steps < length (block_pieces (place + 1) others.now place (shown_item found.entry) []))) }
     ensures err { IfErr result (λ r. r ≡ OutOfMemory) }
 {
     let Ok(block) = block_of(found) else {
@@ -168,7 +168,7 @@ impl Circuit {
     /// to the next time, and the last time up to the end of the outermost block around it. Of an item
     /// in the outermost list this is one 0. It looks at no step.
     ///
-    /// `None` if the path leads through no block, or there are more than 1,048,576 of them, which is
+    /// `None` if the path goes through no block, or there are more than 1,048,576 of them, which is
     /// possible only if the item makes no step. Refusal `OutOfMemory` alone.
     ///
     /// Asks that the circuit has no more steps than a circuit may have (`steps`).

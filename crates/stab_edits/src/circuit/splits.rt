@@ -34,16 +34,16 @@ fn copied_parts(
     alloc: Global,
     item: &Item,
     before: u64,
-    behind: u64,
+    following: u64,
 ) -> Result<Vec<Item>, AllocError>
     requires few_before { before < 10 ^ 18 }
-    requires few_behind { behind < 10 ^ 18 }
-    ensures ok { IfOk result (λ v. v.items ≡ rounds_of before item.now ++ (rounds_of 1 item.now ++ rounds_of behind item.now)) }
+    requires few_after { following < 10 ^ 18 }
+    ensures ok { IfOk result (λ v. v.items ≡ rounds_of before item.now ++ (rounds_of 1 item.now ++ rounds_of following item.now)) }
 {
     let mut parts = Vec::new(alloc);
     push_rounds(alloc, &mut parts, item, before)?;
     push_rounds(alloc, &mut parts, item, 1)?;
-    push_rounds(alloc, &mut parts, item, behind)?;
+    push_rounds(alloc, &mut parts, item, following)?;
     Ok(parts)
 }
 
@@ -161,8 +161,8 @@ impl Circuit {
     /// Splits a round off the block at a path, counted from 0: the rounds before it become a block,
     /// that round becomes one by itself, and so do the rounds after it; an empty part is left out.
     ///
-    /// Refused without a line: 12 if the path leads past a list or the block has no such round, 17
-    /// if it leads into or to an item that is no block, 20. The circuit is then as before.
+    /// Refused without a line: 12 if the path goes past a list or the block has no such round, 17
+    /// if it goes into or to an item that is no block, 20. The circuit is then as before.
     pub fn split(&mut self, path: Path, round: u64) -> Result<(), Fault>
         ensures ok { OnOk result (after_split path round self.old ≡ Ok self.new) }
         ensures unchanged { OnErr result (self.new ≡ self.old) }

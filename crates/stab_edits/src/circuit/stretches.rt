@@ -42,9 +42,9 @@ pub(super) fn stretches_of(alloc: Global, items: &[Item]) -> Result<Vec<Stretch>
     let mut all = Vec::new(alloc);
     let mut rest = items;
     'stretches: while rest.len() > LENGTH {
-        let (front, behind) = rest.split_at(LENGTH);
+        let (front, following) = rest.split_at(LENGTH);
         all.push(stretch_of(front))?;
-        rest = behind;
+        rest = following;
     }
     Ok(all)
 }

@@ -6,7 +6,7 @@ use Rattle.stab_gates.specs.declared.letter.Letter.{Letter}
 use Rattle.stab_lines.specs.declared.product.Factor.{Factor}
 use Rattle.stab_circuit.specs.Steps.{Step}
 use Rattle.stab_run.specs.Runs.{flip_of}
-use Rattle.stab_regions.specs.Faults.{FaultPlace, in_front, behind, fault_on, faults_on, all_at}
+use Rattle.stab_regions.specs.Faults.{FaultPlace, in_front, following, fault_on, faults_on, all_at}
 use Rattle.stab_errors.specs.Errors.{Error, each_letter, wrong_record}
 
 -- what takes a flip of a qubit back, unless the qubit is reset
@@ -15,14 +15,14 @@ back_of true f = []
 back_of false f = f ∷ []
 
 -- the errors after a reset
-abbrev pub reset_errors : List Letter → (behind : Letter → FaultPlace) → (resets : Bool) → List Error
-reset_errors letters behind true = each_letter letters behind
-reset_errors letters behind false = []
+abbrev pub reset_errors : List Letter → (following : Letter → FaultPlace) → (resets : Bool) → List Error
+reset_errors letters following true = each_letter letters following
+reset_errors letters following false = []
 
 -- the errors at a measurement of a letter between two places, with its record of this number
-abbrev pub measured_errors : List Letter → Letter → (front behind : Letter → FaultPlace) → (resets : Bool) → (number : ℕ) → List Error
-measured_errors letters l front behind resets number =
-    each_letter letters front ++ ((wrong_record number (front (flip_of l)) (back_of resets (behind (flip_of l))) ∷ []) ++ reset_errors letters behind resets)
+abbrev pub measured_errors : List Letter → Letter → (front following : Letter → FaultPlace) → (resets : Bool) → (number : ℕ) → List Error
+measured_errors letters l front following resets number =
+    each_letter letters front ++ ((wrong_record number (front (flip_of l)) (back_of resets (following (flip_of l))) ∷ []) ++ reset_errors letters following resets)
 
 -- the letters in front of each factor of a product
 abbrev pub factor_errors : List Letter → (step : ℕ) → List Factor → List Error
@@ -33,4 +33,4 @@ abbrev pub step_faults : ℕ → Step → List FaultPlace
 step_faults t x = flat_map (faults_on t) (all_at x)
 
 abbrev pub factor_faults : ℕ → List Factor → List FaultPlace
-factor_faults t factors = flat_map (faults_on t) (flat_map (λ f. in_front f.qubit ∷ behind f.qubit ∷ []) factors)
+factor_faults t factors = flat_map (faults_on t) (flat_map (λ f. in_front f.qubit ∷ following f.qubit ∷ []) factors)

@@ -1,6 +1,6 @@
 -- Propagates: a frame on its way over one step, and what it must know of a measurement.
 -- Source: this project's own.
-use Rattle.std.specs.Prelude.{◌≡◌, ℕ, ◌+◌, ◌<◌, Bool, true, false, List, [], ◌∷◌, Option, Some, None, IfSome, slice_index_or, length, replicate, take}
+use Rattle.std.specs.Prelude.{◌≡◌, ℕ, ◌+◌, ◌<◌, Bool, true, false, List, [], ◌∷◌, None, IfSome, slice_index_or, length, replicate, take}
 use Rattle.stab_gates.specs.declared.letter.Letter.{Letter}
 use Rattle.stab_gates.specs.Letters.{◌⊕◌, letters_anticommute}
 use Rattle.stab_pauli.specs.Paulis.{strings_anticommute}
@@ -9,11 +9,11 @@ use Rattle.stab_lines.specs.declared.product.Factor.{Factor}
 use Rattle.stab_lines.specs.Axes.{letter_of}
 use Rattle.stab_items.specs.Steps.{Step}
 use Rattle.stab_run.specs.Records.{ones}
-use Rattle.stab_run.specs.Runs.{when, measured_by}
+use Rattle.stab_run.specs.Runs.{measured_by}
 use Rattle.stab_run.specs.Points.{RunOutput, nothing, joined, coins_of, all_coins_of}
-use Rattle.stab_frames.specs.Frames.{Frame, times_where}
+use Rattle.stab_frames.specs.Frames.{Frame}
 use Rattle.stab_frames.specs.RunPivots.{RunPivots, pivots_of}
-use Rattle.stab_frames.specs.FrameSteps.{letters_after, flips_given, frame_after}
+use Rattle.stab_frames.specs.FrameSteps.{flip_by, letters_for, letters_after, flips_given, frame_after}
 use Rattle.stab_frames.specs.Pivots.{pivot_at}
 use Rattle.stab_frames.specs.Propagations.{PropagationState, frame_at, IsPlaced, PropagatesWith}
 use Rattle.stab_frames.specs.inner.Draws.{IsDrawn, AreDrawn}
@@ -23,28 +23,14 @@ abbrev pub factors_anticommute : List Letter → List Factor → Bool
 factors_anticommute f [] = false
 factors_anticommute f (x ∷ xs) = letters_anticommute (letter_at f x.qubit) (letter_of x.letter) ⊕ factors_anticommute f xs
 
--- whether an outcome is flipped, by the pivot of it, whether the coins differ, and whether the frame anticommutes with what is measured
-abbrev pub flip_by : Option (List Letter) → Bool → Bool → Bool
-flip_by None change apart = apart
-flip_by (Some s) change apart = change
-
--- and the frame's letters after it
-abbrev pub letters_for : Option (List Letter) → Bool → Bool → List Letter → List Letter
-letters_for None change apart f = f
-letters_for (Some s) change apart f = times_where (change ⊕ apart) s f
-
--- what is flipped by a measurement, with a record or without one
-abbrev pub one_flipped : Bool → Bool → RunOutput
-one_flipped recorded flip = record nothing { records = when recorded flip; free = false ∷ []; outcomes = flip ∷ [] }
-
 -- what is flipped by measurements with records, if it is none
 abbrev pub none_flipped : ℕ → RunOutput
 none_flipped k = record nothing { records = replicate k false; free = replicate k false; outcomes = replicate k false }
 
 -- past the coin of something with which the frame anticommutes or not, whose outcome is flipped or not
-pub record IsPropagatedWith (pivots : RunPivots) (apart flip : Bool) (old new : PropagationState) : Type 0 where
-  pub outcome : flip ≡ flip_by (pivots.strings old.coin) (pivots.changes old.coin) apart
-  pub letters : new.letters ≡ letters_for (pivots.strings old.coin) (pivots.changes old.coin) apart old.letters
+pub record IsPropagatedWith (pivots : RunPivots) (anticommuting flip : Bool) (old new : PropagationState) : Type 0 where
+  pub outcome : flip ≡ flip_by (pivots.strings old.coin) (pivots.changes old.coin) anticommuting
+  pub letters : new.letters ≡ letters_for (pivots.strings old.coin) (pivots.changes old.coin) anticommuting old.letters
   pub flips : new.flips ≡ old.flips
   pub coin : new.coin ≡ old.coin + 1
 
@@ -55,31 +41,31 @@ pub record StepsWith (n : ℕ) (pivots : RunPivots) (x : Step) (old new : Propag
   pub coin : new.coin ≡ old.coin + coins_of x
 
 -- if an outcome is flipped otherwise than the frame has it, its string was kept, or it was fixed
-abbrev pub IsToldBy : List (List Letter) → List Bool → ℕ → (change apart : Bool) → Type 0
-IsToldBy strings free coin change apart = change ⊕ apart ≡ true → pivot_at strings free coin ≡ None → slice_index_or free coin false ≡ false
+abbrev pub IsDeterminedBy : List (List Letter) → List Bool → ℕ → (change anticommuting : Bool) → Type 0
+IsDeterminedBy strings free coin change anticommuting = change ⊕ anticommuting ≡ true → pivot_at strings free coin ≡ None → slice_index_or free coin false ≡ false
 
 -- the same at a step
-abbrev pub IsTold : ℕ → List (List Letter) → List Bool → (ℕ → Bool) → Step → ℕ → List Letter → Type 0
-IsTold n strings free changes x coin f = IfSome (measured_by n x) (λ m. IsToldBy strings free coin (changes coin) (strings_anticommute f m.letters))
+abbrev pub IsDetermined : ℕ → List (List Letter) → List Bool → (ℕ → Bool) → Step → ℕ → List Letter → Type 0
+IsDetermined n strings free changes x coin f = IfSome (measured_by n x) (λ m. IsDeterminedBy strings free coin (changes coin) (strings_anticommute f m.letters))
 
 -- and at steps
-abbrev pub AreTold : ℕ → List (List Letter) → List Bool → (ℕ → Bool) → List Step → ℕ → Frame → Type 0
-AreTold n strings free changes [] coin f = Unit {0}
-AreTold n strings free changes (x ∷ xs) coin f =
-    IsTold n strings free changes x coin f.letters
-    × AreTold n strings free changes xs (coin + coins_of x) (frame_after n (pivots_of (pivot_at strings free) changes) x coin f)
+abbrev pub AreDetermined : ℕ → List (List Letter) → List Bool → (ℕ → Bool) → List Step → ℕ → Frame → Type 0
+AreDetermined n strings free changes [] coin f = Unit {0}
+AreDetermined n strings free changes (x ∷ xs) coin f =
+    IsDetermined n strings free changes x coin f.letters
+    × AreDetermined n strings free changes xs (coin + coins_of x) (frame_after n (pivots_of (pivot_at strings free) changes) x coin f)
 
 -- past a coin, whichever coins differ as is drawn, and what it had to know was kept
-pub record IsPropagated (strings : List (List Letter)) (free : List Bool) (draw : ℕ → Bool) (apart flip : Bool) (old new : PropagationState) : Type 0 where
-  pub over : (changes : ℕ → Bool) → IsDrawn free draw changes old.coin → IsPropagatedWith (pivots_of (pivot_at strings free) changes) apart flip old new
-  pub told : (changes : ℕ → Bool) → IsDrawn free draw changes old.coin → IsToldBy strings free old.coin (changes old.coin) apart
+pub record IsPropagated (strings : List (List Letter)) (free : List Bool) (draw : ℕ → Bool) (anticommuting flip : Bool) (old new : PropagationState) : Type 0 where
+  pub over : (changes : ℕ → Bool) → IsDrawn free draw changes old.coin → IsPropagatedWith (pivots_of (pivot_at strings free) changes) anticommuting flip old new
+  pub determined : (changes : ℕ → Bool) → IsDrawn free draw changes old.coin → IsDeterminedBy strings free old.coin (changes old.coin) anticommuting
   pub coin : new.coin ≡ old.coin + 1
   pub placed : IsPlaced free new
 
 -- a frame of n letters was propagated over steps, whichever coins differ as is drawn, and what it had to know of their measurements was kept
 pub record GoesOver (n : ℕ) (strings : List (List Letter)) (free : List Bool) (draw : ℕ → Bool) (xs : List Step) (old new : PropagationState) : Type 0 where
   pub over : (changes : ℕ → Bool) → AreDrawn free draw changes xs old.coin → PropagatesWith n (pivots_of (pivot_at strings free) changes) xs old new
-  pub told : (changes : ℕ → Bool) → AreDrawn free draw changes xs old.coin → (base : ℕ) → AreTold n strings free changes xs old.coin (frame_at base old)
+  pub determined : (changes : ℕ → Bool) → AreDrawn free draw changes xs old.coin → (base : ℕ) → AreDetermined n strings free changes xs old.coin (frame_at base old)
   pub coin : new.coin ≡ old.coin + all_coins_of xs
   pub placed : IsPlaced free new
   pub size : length new.letters ≡ n

@@ -28,7 +28,7 @@ abbrev pub KeepsPivots : ℕ → (Signed → Bool) → Step → PivotsState → 
 KeepsPivots n member x old new = KeepsPivotsOf n member (measured_by n x) old new
 
 -- a run passed steps and recorded them: its strings are kept as they are to be, and no step looks further back than is recorded
-pub record PivotsSteps (n : ℕ) (coins : ℕ → Bool) (xs : List Step) (window : ℕ) (kept behind : PivotsState) (old new : ProgramState) : Type 0 where
+pub record PivotsSteps (n : ℕ) (coins : ℕ → Bool) (xs : List Step) (window : ℕ) (kept following : PivotsState) (old new : ProgramState) : Type 0 where
   pub run : IsRun n coins xs old new
-  pub has_pivots : KeepsTrue n coins xs kept behind old new
+  pub has_pivots : KeepsTrue n coins xs kept following old new
   pub within : All (LooksWithin window) xs

@@ -14,5 +14,5 @@ abbrev pub BeginsWithNumber : List ℕ → ℕ → List ℕ → Type 0
 BeginsWithNumber bs n rest = (word : List ℕ) × (words bs ≡ word ∷ words rest) × (is_number word ≡ true) × (value word ≡ n)
 
 -- a word ends where the bytes begin, and the rest is what follows it, perhaps without spacing in front
-abbrev pub IsBehindWord : List ℕ → List ℕ → Type 0
-IsBehindWord bs rest = (is_word_end bs ≡ true) × (words rest ≡ words bs) × (length rest ≤ length bs)
+abbrev pub IsAfterWord : List ℕ → List ℕ → Type 0
+IsAfterWord bs rest = (is_word_end bs ≡ true) × (words rest ≡ words bs) × (length rest ≤ length bs)

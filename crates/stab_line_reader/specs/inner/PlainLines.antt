@@ -46,10 +46,10 @@ EndsLine bs None = bs ≡ []
 EndsLine bs (Some after) = bs ≡ 10 ∷ after
 
 -- the call gave the targets up to the end of the line and the lines after it, or said nothing, or failed for lack of memory
-abbrev pub TellsTargets : {X : Type 0} → (List (List ℕ) → Result (List X) Refusal) → List ℕ → Result (Option (List X × Option (Bor (List ℕ)))) Refusal → Type 0
-TellsTargets meaning bs (Ok None) = Unit {0}
-TellsTargets meaning bs (Ok (Some found)) = (rest : List ℕ) × AreSpacedTargets meaning bs found.0 rest × EndsLine rest (option_copied found.1)
-TellsTargets meaning bs (Err r) = r ≡ OutOfMemory
+abbrev pub ReadsTargets : {X : Type 0} → (List (List ℕ) → Result (List X) Refusal) → List ℕ → Result (Option (List X × Option (Bor (List ℕ)))) Refusal → Type 0
+ReadsTargets meaning bs (Ok None) = Unit {0}
+ReadsTargets meaning bs (Ok (Some found)) = (rest : List ℕ) × AreSpacedTargets meaning bs found.0 rest × EndsLine rest (option_copied found.1)
+ReadsTargets meaning bs (Err r) = r ≡ OutOfMemory
 
 -- the shape of a name with these words after it
 abbrev pub plain_shape : List ℕ → List (List ℕ) → Shape
@@ -61,7 +61,7 @@ BeginsWithKind i bs k after =
     (ws : List (List ℕ)) × (rest : List ℕ) × AreNumbers bs ws rest × EndsLine rest after × ((name : List ℕ) → kind_of i (plain_shape name ws) ≡ Ok k)
 
 -- the call gave what the instruction does and the lines after it, or said nothing, or failed for lack of memory
-abbrev pub TellsKind : Instruction → List ℕ → Result (Option (Kind × Option (Bor (List ℕ)))) Refusal → Type 0
-TellsKind i bs (Ok None) = Unit {0}
-TellsKind i bs (Ok (Some found)) = BeginsWithKind i bs found.0 (option_copied found.1)
-TellsKind i bs (Err r) = r ≡ OutOfMemory
+abbrev pub ReadsKind : Instruction → List ℕ → Result (Option (Kind × Option (Bor (List ℕ)))) Refusal → Type 0
+ReadsKind i bs (Ok None) = Unit {0}
+ReadsKind i bs (Ok (Some found)) = BeginsWithKind i bs found.0 (option_copied found.1)
+ReadsKind i bs (Err r) = r ≡ OutOfMemory

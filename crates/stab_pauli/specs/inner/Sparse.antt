@@ -6,26 +6,26 @@ use Rattle.stab_pauli.specs.inner.Blocks.{IsTable}
 
 -- words, each after this many that are 0, and after the last this many more
 abbrev pub spread : List ℕ → List ℕ → ℕ → List ℕ
-spread [] kept behind = replicate behind 0
-spread (gap ∷ gaps) [] behind = replicate behind 0
-spread (gap ∷ gaps) (word ∷ kept) behind = replicate gap 0 ++ word ∷ spread gaps kept behind
+spread [] kept following = replicate following 0
+spread (gap ∷ gaps) [] following = replicate following 0
+spread (gap ∷ gaps) (word ∷ kept) following = replicate gap 0 ++ word ∷ spread gaps kept following
 
 -- words from the first of those that are kept on, without the gap before it: none, if none is kept
 abbrev pub spread_next : List ℕ → List ℕ → ℕ → List ℕ
-spread_next gaps [] behind = []
-spread_next gaps (word ∷ kept) behind = word ∷ spread gaps kept behind
+spread_next gaps [] following = []
+spread_next gaps (word ∷ kept) following = word ∷ spread gaps kept following
 
 -- the words from a place on: this many that are 0, and then those from the next on that is kept, if any is
-abbrev pub words_from : (gaps kept : List ℕ) (behind next gap : ℕ) → List ℕ
-words_from gaps kept behind next gap = replicate gap 0 ++ spread_next (drop (next + 1) gaps) (drop next kept) behind
+abbrev pub words_from : (gaps kept : List ℕ) (following next gap : ℕ) → List ℕ
+words_from gaps kept following next gap = replicate gap 0 ++ spread_next (drop (next + 1) gaps) (drop next kept) following
 
 -- what is kept of words: as many gaps as words, from which they can be found again
-pub record IsSparse (gaps kept : List ℕ) (behind : ℕ) (words : List ℕ) : Type 0 where
+pub record IsSparse (gaps kept : List ℕ) (following : ℕ) (words : List ℕ) : Type 0 where
   pub even : length gaps ≡ length kept
-  pub words_are : spread gaps kept behind ≡ words
+  pub words_are : spread gaps kept following ≡ words
 
 -- what is kept of this many words, with powers of i, that lie as rows of m blocks, for n letters each
-pub record IsCompact (n m : ℕ) (gaps kept : List ℕ) (behind size : ℕ) (powers : List Phase) : Type 0 where
+pub record IsCompact (n m : ℕ) (gaps kept : List ℕ) (following size : ℕ) (powers : List Phase) : Type 0 where
   pub even : length gaps ≡ length kept
-  pub size_is : size ≡ length (spread gaps kept behind)
-  pub lies : IsTable n m (spread gaps kept behind) powers
+  pub size_is : size ≡ length (spread gaps kept following)
+  pub lies : IsTable n m (spread gaps kept following) powers

@@ -63,7 +63,7 @@ pub(crate) fn multiply(words: &mut [u64], count: usize, blocks: usize, a: usize,
     requires all { length words.old ≡ 8 * blocks * count }
     requires a_in_range { a < count }
     requires b_in_range { b < count }
-    requires apart { a ≢ b }
+    requires distinct { a ≢ b }
     ensures words { words.new ≡ put_chunk (8 * blocks * a) words.old (xor_words (chunk (8 * blocks * a) (8 * blocks) words.old) (chunk (8 * blocks * b) (8 * blocks) words.old)) }
     ensures meet { result ≡ strings_meet (row_letters blocks (chunk (8 * blocks * a) (8 * blocks) words.old)) (row_letters blocks (chunk (8 * blocks * b) (8 * blocks) words.old)) }
 {
@@ -100,7 +100,7 @@ fn multiply_block(words: &mut [u64], a: usize, b: usize) -> bool
 fn multiply_at(words: &mut [u64], blocks: usize, a: usize, b: usize) -> bool
     requires a_fits { a + 8 * blocks ≤ length words.old }
     requires b_fits { b + 8 * blocks ≤ length words.old }
-    requires apart { (a + 8 * blocks ≤ b) ⊎ (b + 8 * blocks ≤ a) }
+    requires disjoint { (a + 8 * blocks ≤ b) ⊎ (b + 8 * blocks ≤ a) }
     ensures words { words.new ≡ put_chunk a words.old (xor_words (chunk a (8 * blocks) words.old) (chunk b (8 * blocks) words.old)) }
     ensures meet { result ≡ strings_meet (row_letters blocks (chunk a (8 * blocks) words.old)) (row_letters blocks (chunk b (8 * blocks) words.old)) }
 {
@@ -198,11 +198,11 @@ pub(crate) fn swap(words: &mut [u64], count: usize, blocks: usize, a: usize, b: 
     requires all { length words.old ≡ 8 * blocks * count }
     requires a_in_range { a < count }
     requires b_in_range { b < count }
-    requires apart { a ≢ b }
+    requires distinct { a ≢ b }
     ensures words { words.new ≡ swapped_words (8 * blocks * a) (8 * blocks * b) (8 * blocks) words.old }
 {
     let size = words.len();
-    // One block, which most codes have, is handled apart, so that its two halves need no loop.
+    // One block, which most codes have, is handled by itself, so that its two halves need no loop.
     if blocks == 1 {
         let first = place_of(size, count, 1, a);
         let second = place_of(size, count, 1, b);
@@ -219,7 +219,7 @@ pub(crate) fn swap(words: &mut [u64], count: usize, blocks: usize, a: usize, b: 
 fn swap_at(words: &mut [u64], blocks: usize, a: usize, b: usize)
     requires a_fits { a + 8 * blocks ≤ length words.old }
     requires b_fits { b + 8 * blocks ≤ length words.old }
-    requires apart { (a + 8 * blocks ≤ b) ⊎ (b + 8 * blocks ≤ a) }
+    requires disjoint { (a + 8 * blocks ≤ b) ⊎ (b + 8 * blocks ≤ a) }
     ensures words { words.new ≡ swapped_words a b (8 * blocks) words.old }
 {
     for half in 0..2 * blocks {

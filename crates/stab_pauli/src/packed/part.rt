@@ -56,7 +56,7 @@ fn mask_of_x(blocks: usize, part: &[u64], qubit: usize) -> u64
     let mut a: usize = 8;
     while a > 0 {
         let word = x_mask(blocks, part, a - 1, qubit / 64);
-        mask = masks::behind(mask, 8 - a, row::bit_of(word, qubit % 64));
+        mask = masks::following(mask, 8 - a, row::bit_of(word, qubit % 64));
         a -= 1;
     }
     mask

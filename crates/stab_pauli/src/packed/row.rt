@@ -225,7 +225,7 @@ pub(crate) fn letters_mask(blocks: usize, row: &[u64], word: usize) -> u64
     requires length { length row.now ≡ 8 * blocks }
     requires in_range { word < 4 * blocks }
     ensures chosen { (k : ℕ) → k < 64 → chooses result k ≡ true → slice_index_or (row_letters blocks row.now) (64 * word + k) I ≢ I }
-    ensures spared { (k : ℕ) → k < 64 → chooses result k ≡ false → slice_index_or (row_letters blocks row.now) (64 * word + k) I ≡ I }
+    ensures unchosen { (k : ℕ) → k < 64 → chooses result k ≡ false → slice_index_or (row_letters blocks row.now) (64 * word + k) I ≡ I }
 {
     let at = 8 * (word / 4) + word % 4;
     row[at] | row[at + 4]

@@ -13,7 +13,7 @@ pub(crate) struct SparseWords {
     pub(crate) gaps: Vec<u8>,
     pub(crate) kept: Vec<u64>,
     /// How many are after the last word that is kept.
-    pub(crate) behind: usize,
+    pub(crate) following: usize,
 }
 
 /// A place among such words.
@@ -46,12 +46,12 @@ pub(crate) fn is_blank(block: &[u64]) -> bool
 impl SparseWords {
     /// No words, with room to keep this many.
     fn with_room(alloc: Global, size: usize) -> Result<SparseWords, AllocError>
-        ensures value { IfOk result (λ s. IsSparse s.gaps.items s.kept.items s.behind []) }
+        ensures value { IfOk result (λ s. IsSparse s.gaps.items s.kept.items s.following []) }
     {
         Ok(SparseWords {
             gaps: Vec::with_capacity(alloc, size)?,
             kept: Vec::with_capacity(alloc, size)?,
-            behind: 0,
+            following: 0,
         })
     }
 
@@ -61,7 +61,7 @@ impl SparseWords {
         requires fits { gap ≤ 255 }
         ensures gaps { OnOk result (self.new.gaps.items ≡ self.old.gaps.items ++ gap ∷ []) }
         ensures kept { OnOk result (self.new.kept.items ≡ self.old.kept.items ++ word ∷ []) }
-        ensures behind { self.new.behind ≡ self.old.behind }
+        ensures following { self.new.following ≡ self.old.following }
     {
         self.gaps.push(gap as u8)?;
         self.kept.push(word)?;
@@ -72,29 +72,29 @@ impl SparseWords {
     #[inline(always)]
     fn push(&mut self, word: u64) -> Result<(), AllocError>
         requires even { length self.old.gaps.items ≡ length self.old.kept.items }
-        requires fits { self.old.behind ≤ 255 }
-        ensures near { OnOk result (self.new.behind ≤ self.old.behind + 1) }
-        ensures value { OnOk result (IsSparse self.new.gaps.items self.new.kept.items self.new.behind (spread self.old.gaps.items self.old.kept.items self.old.behind ++ word ∷ [])) }
+        requires fits { self.old.following ≤ 255 }
+        ensures near { OnOk result (self.new.following ≤ self.old.following + 1) }
+        ensures value { OnOk result (IsSparse self.new.gaps.items self.new.kept.items self.new.following (spread self.old.gaps.items self.old.kept.items self.old.following ++ word ∷ [])) }
     {
         if word == 0 {
-            self.behind += 1;
+            self.following += 1;
             return Ok(());
         }
-        self.keep(self.behind, word)?;
-        self.behind = 0;
+        self.keep(self.following, word)?;
+        self.following = 0;
         Ok(())
     }
 
     /// Cuts the gap after the last word that is kept: keeps a word 0, after as many others as fit a byte.
     fn cut_gap(&mut self) -> Result<(), AllocError>
         requires even { length self.old.gaps.items ≡ length self.old.kept.items }
-        requires many { 0 < self.old.behind }
-        ensures fewer { OnOk result (self.new.behind < self.old.behind) }
-        ensures value { OnOk result (IsSparse self.new.gaps.items self.new.kept.items self.new.behind (spread self.old.gaps.items self.old.kept.items self.old.behind)) }
+        requires many { 0 < self.old.following }
+        ensures fewer { OnOk result (self.new.following < self.old.following) }
+        ensures value { OnOk result (IsSparse self.new.gaps.items self.new.kept.items self.new.following (spread self.old.gaps.items self.old.kept.items self.old.following)) }
     {
-        let gap = (self.behind - 1).min(255);
+        let gap = (self.following - 1).min(255);
         self.keep(gap, 0)?;
-        self.behind = self.behind - gap - 1;
+        self.following = self.following - gap - 1;
         Ok(())
     }
 
@@ -102,10 +102,10 @@ impl SparseWords {
     #[inline(always)]
     fn cut_gaps(&mut self) -> Result<(), AllocError>
         requires even { length self.old.gaps.items ≡ length self.old.kept.items }
-        ensures fits { OnOk result (self.new.behind ≤ 247) }
-        ensures value { OnOk result (IsSparse self.new.gaps.items self.new.kept.items self.new.behind (spread self.old.gaps.items self.old.kept.items self.old.behind)) }
+        ensures fits { OnOk result (self.new.following ≤ 247) }
+        ensures value { OnOk result (IsSparse self.new.gaps.items self.new.kept.items self.new.following (spread self.old.gaps.items self.old.kept.items self.old.following)) }
     {
-        while self.behind > 247 {
+        while self.following > 247 {
             self.cut_gap()?;
         }
         Ok(())
@@ -115,9 +115,9 @@ impl SparseWords {
     #[inline(always)]
     fn push_words(&mut self, block: &[u64]) -> Result<(), AllocError>
         requires even { length self.old.gaps.items ≡ length self.old.kept.items }
-        requires fits { self.old.behind ≤ 247 }
+        requires fits { self.old.following ≤ 247 }
         requires size { length block.now ≡ 8 }
-        ensures value { OnOk result (IsSparse self.new.gaps.items self.new.kept.items self.new.behind (spread self.old.gaps.items self.old.kept.items self.old.behind ++ block.now)) }
+        ensures value { OnOk result (IsSparse self.new.gaps.items self.new.kept.items self.new.following (spread self.old.gaps.items self.old.kept.items self.old.following ++ block.now)) }
     {
         for k in 0..8 {
             self.push(block[k])?;
@@ -129,12 +129,12 @@ impl SparseWords {
     #[inline(always)]
     fn push_block(&mut self, block: &[u64]) -> Result<(), AllocError>
         requires even { length self.old.gaps.items ≡ length self.old.kept.items }
-        requires fits { self.old.behind + 8 < 2 ^ 64 }
+        requires fits { self.old.following + 8 < 2 ^ 64 }
         requires size { length block.now ≡ 8 }
-        ensures value { OnOk result (IsSparse self.new.gaps.items self.new.kept.items self.new.behind (spread self.old.gaps.items self.old.kept.items self.old.behind ++ block.now)) }
+        ensures value { OnOk result (IsSparse self.new.gaps.items self.new.kept.items self.new.following (spread self.old.gaps.items self.old.kept.items self.old.following ++ block.now)) }
     {
         if is_blank(block) {
-            self.behind += 8;
+            self.following += 8;
             return Ok(());
         }
         self.cut_gaps()?;
@@ -144,7 +144,7 @@ impl SparseWords {
     /// What these words are, of which there are eight times this many.
     pub(crate) fn of(alloc: Global, words: &[u64], blocks: usize) -> Result<SparseWords, AllocError>
         requires all { length words.now ≡ 8 * blocks }
-        ensures value { IfOk result (λ s. IsSparse s.gaps.items s.kept.items s.behind words.now) }
+        ensures value { IfOk result (λ s. IsSparse s.gaps.items s.kept.items s.following words.now) }
     {
         // Room for two words of each block, about as many as a code's states keep. What is not used is given back untouched.
         let mut sparse = SparseWords::with_room(alloc, 2 * blocks)?;
@@ -160,9 +160,9 @@ impl SparseWords {
     /// Writes the words over as many words 0.
     pub(crate) fn write_into(&self, words: &mut [u64])
         requires even { length self.now.gaps.items ≡ length self.now.kept.items }
-        requires size { length words.old ≡ length (spread self.now.gaps.items self.now.kept.items self.now.behind) }
+        requires size { length words.old ≡ length (spread self.now.gaps.items self.now.kept.items self.now.following) }
         requires zeros { words.old ≡ replicate (length words.old) 0 }
-        ensures value { words.new ≡ spread self.now.gaps.items self.now.kept.items self.now.behind }
+        ensures value { words.new ≡ spread self.now.gaps.items self.now.kept.items self.now.following }
     {
         let mut at = 0;
         for k in 0..self.kept.len() {
@@ -176,34 +176,34 @@ impl SparseWords {
     pub(crate) fn is_kept_as(&self, other: &SparseWords) -> bool
         ensures gaps { IsTrue result → self.now.gaps.items ≡ other.now.gaps.items }
         ensures kept { IsTrue result → self.now.kept.items ≡ other.now.kept.items }
-        ensures behind { IsTrue result → self.now.behind ≡ other.now.behind }
+        ensures following { IsTrue result → self.now.following ≡ other.now.following }
     {
-        self.behind == other.behind
+        self.following == other.following
             && self.kept.as_slice() == other.kept.as_slice()
             && self.gaps.as_slice() == other.gaps.as_slice()
     }
 
     /// How many words 0 are after this many of the words that are kept.
     #[inline(always)]
-    fn gap_behind(&self, passed: usize) -> usize
+    fn gap_after(&self, passed: usize) -> usize
         requires even { length self.now.gaps.items ≡ length self.now.kept.items }
-        ensures value { words_from self.now.gaps.items self.now.kept.items self.now.behind passed result ≡ spread (drop passed self.now.gaps.items) (drop passed self.now.kept.items) self.now.behind }
+        ensures value { words_from self.now.gaps.items self.now.kept.items self.now.following passed result ≡ spread (drop passed self.now.gaps.items) (drop passed self.now.kept.items) self.now.following }
     {
         if passed < self.gaps.len() {
             return usize::from(self.gaps[passed]);
         }
-        self.behind
+        self.following
     }
 
     /// The place before all of them.
     #[inline(always)]
     fn first_place(&self) -> SparsePlace
         requires even { length self.now.gaps.items ≡ length self.now.kept.items }
-        ensures value { words_from self.now.gaps.items self.now.kept.items self.now.behind result.next result.gap ≡ spread self.now.gaps.items self.now.kept.items self.now.behind }
+        ensures value { words_from self.now.gaps.items self.now.kept.items self.now.following result.next result.gap ≡ spread self.now.gaps.items self.now.kept.items self.now.following }
     {
         SparsePlace {
             next: 0,
-            gap: self.gap_behind(0),
+            gap: self.gap_after(0),
         }
     }
 
@@ -211,8 +211,8 @@ impl SparseWords {
     #[inline(always)]
     fn take_word(&self, place: &mut SparsePlace) -> u64
         requires even { length self.now.gaps.items ≡ length self.now.kept.items }
-        requires some { 0 < length (words_from self.now.gaps.items self.now.kept.items self.now.behind place.old.next place.old.gap) }
-        ensures value { words_from self.now.gaps.items self.now.kept.items self.now.behind place.old.next place.old.gap ≡ result ∷ words_from self.now.gaps.items self.now.kept.items self.now.behind place.new.next place.new.gap }
+        requires some { 0 < length (words_from self.now.gaps.items self.now.kept.items self.now.following place.old.next place.old.gap) }
+        ensures value { words_from self.now.gaps.items self.now.kept.items self.now.following place.old.next place.old.gap ≡ result ∷ words_from self.now.gaps.items self.now.kept.items self.now.following place.new.next place.new.gap }
     {
         if place.gap > 0 {
             place.gap -= 1;
@@ -220,7 +220,7 @@ impl SparseWords {
         }
         let word = self.kept[place.next];
         place.next += 1;
-        place.gap = self.gap_behind(place.next);
+        place.gap = self.gap_after(place.next);
         word
     }
 
@@ -229,9 +229,9 @@ impl SparseWords {
     fn has_words(&self, place: &mut SparsePlace, block: &[u64]) -> bool
         requires even { length self.now.gaps.items ≡ length self.now.kept.items }
         requires size { length block.now ≡ 8 }
-        requires fits { 8 ≤ length (words_from self.now.gaps.items self.now.kept.items self.now.behind place.old.next place.old.gap) }
-        ensures value { IsTrue result ↔ (take 8 (words_from self.now.gaps.items self.now.kept.items self.now.behind place.old.next place.old.gap) ≡ block.now) }
-        ensures behind { IsTrue result → words_from self.now.gaps.items self.now.kept.items self.now.behind place.new.next place.new.gap ≡ drop 8 (words_from self.now.gaps.items self.now.kept.items self.now.behind place.old.next place.old.gap) }
+        requires fits { 8 ≤ length (words_from self.now.gaps.items self.now.kept.items self.now.following place.old.next place.old.gap) }
+        ensures value { IsTrue result ↔ (take 8 (words_from self.now.gaps.items self.now.kept.items self.now.following place.old.next place.old.gap) ≡ block.now) }
+        ensures following { IsTrue result → words_from self.now.gaps.items self.now.kept.items self.now.following place.new.next place.new.gap ≡ drop 8 (words_from self.now.gaps.items self.now.kept.items self.now.following place.old.next place.old.gap) }
     {
         for k in 0..8 {
             if self.take_word(place) != block[k] {
@@ -247,9 +247,9 @@ impl SparseWords {
     fn has_block(&self, place: &mut SparsePlace, block: &[u64]) -> bool
         requires even { length self.now.gaps.items ≡ length self.now.kept.items }
         requires size { length block.now ≡ 8 }
-        requires fits { 8 ≤ length (words_from self.now.gaps.items self.now.kept.items self.now.behind place.old.next place.old.gap) }
-        ensures value { IsTrue result ↔ (take 8 (words_from self.now.gaps.items self.now.kept.items self.now.behind place.old.next place.old.gap) ≡ block.now) }
-        ensures behind { IsTrue result → words_from self.now.gaps.items self.now.kept.items self.now.behind place.new.next place.new.gap ≡ drop 8 (words_from self.now.gaps.items self.now.kept.items self.now.behind place.old.next place.old.gap) }
+        requires fits { 8 ≤ length (words_from self.now.gaps.items self.now.kept.items self.now.following place.old.next place.old.gap) }
+        ensures value { IsTrue result ↔ (take 8 (words_from self.now.gaps.items self.now.kept.items self.now.following place.old.next place.old.gap) ≡ block.now) }
+        ensures following { IsTrue result → words_from self.now.gaps.items self.now.kept.items self.now.following place.new.next place.new.gap ≡ drop 8 (words_from self.now.gaps.items self.now.kept.items self.now.following place.old.next place.old.gap) }
     {
         if place.gap >= 8 {
             place.gap -= 8;
@@ -262,8 +262,8 @@ impl SparseWords {
     pub(crate) fn are(&self, words: &[u64], blocks: usize) -> bool
         requires even { length self.now.gaps.items ≡ length self.now.kept.items }
         requires all { length words.now ≡ 8 * blocks }
-        requires size { length words.now ≡ length (spread self.now.gaps.items self.now.kept.items self.now.behind) }
-        ensures value { IsTrue result ↔ (spread self.now.gaps.items self.now.kept.items self.now.behind ≡ words.now) }
+        requires size { length words.now ≡ length (spread self.now.gaps.items self.now.kept.items self.now.following) }
+        ensures value { IsTrue result ↔ (spread self.now.gaps.items self.now.kept.items self.now.following ≡ words.now) }
     {
         let mut place = self.first_place();
         for block in 0..blocks {

@@ -60,7 +60,7 @@ impl PauliRows {
         let (mut mask, mut places) = self.mask_row_by_row(a, end, qubit);
         while a > first {
             let (eight, among) = self.eight_with_x(a - 8, qubit);
-            mask = masks::behind_eight(mask, end - a, eight);
+            mask = masks::after_eight(mask, end - a, eight);
             places = places | among;
             a -= 8;
         }
@@ -83,7 +83,7 @@ impl PauliRows {
         let mut a = end;
         while a > first {
             let word = self.x_mask(a - 1, qubit / 64);
-            mask = masks::behind(mask, end - a, row::bit_of(word, qubit % 64));
+            mask = masks::following(mask, end - a, row::bit_of(word, qubit % 64));
             places = places | word;
             a -= 1;
         }

@@ -42,15 +42,15 @@ impl Model for CompactRows {
 
     ghost Value = { Rows };
 
-    ghost view = { λ p. table p.qubits p.blocks (spread p.words.value.gaps.items p.words.value.kept.items p.words.value.behind) p.powers.items };
+    ghost view = { λ p. table p.qubits p.blocks (spread p.words.value.gaps.items p.words.value.kept.items p.words.value.following) p.powers.items };
 
-    ghost invariant = { λ p. IsCompact p.qubits p.blocks p.words.value.gaps.items p.words.value.kept.items p.words.value.behind p.size p.powers.items };
+    ghost invariant = { λ p. IsCompact p.qubits p.blocks p.words.value.gaps.items p.words.value.kept.items p.words.value.following p.size p.powers.items };
 }
 
 /// Words, without those that are 0, to be shared. There are eight times as many as blocks.
 fn shared(alloc: Global, words: &[u64]) -> Result<Rc<SparseWords>, AllocError>
     requires all { length words.now ≡ 8 * (length words.now / 8) }
-    ensures value { IfOk result (λ s. IsSparse s.value.gaps.items s.value.kept.items s.value.behind words.now) }
+    ensures value { IfOk result (λ s. IsSparse s.value.gaps.items s.value.kept.items s.value.following words.now) }
 {
     let sparse = SparseWords::of(alloc, words, words.len() / 8)?;
     Ok(Rc::new(alloc, sparse)?)

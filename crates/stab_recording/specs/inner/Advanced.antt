@@ -4,5 +4,5 @@ use Rattle.std.specs.Prelude.{ℕ, ◌+◌, ◌*◌}
 use Rattle.stab_edits.specs.declared.circuit.repeats.Repeat.{Repeat}
 
 -- the step after this many rounds
-abbrev pub behind_rounds : Repeat → ℕ → ℕ
-behind_rounds r k = r.first + k * r.length
+abbrev pub after_rounds : Repeat → ℕ → ℕ
+after_rounds r k = r.first + k * r.length

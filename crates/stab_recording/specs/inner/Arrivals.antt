@@ -5,15 +5,15 @@ use Rattle.stab_recording.specs.declared.checkpoint.Checkpoint.{Checkpoint}
 use Rattle.stab_recording.specs.declared.replay.Replay.{Replay}
 use Rattle.stab_recording.specs.declared.replay.Plan.{Plan}
 use Rattle.stab_recording.specs.declared.replay.Arrival.{Arrival}
-use Rattle.stab_recording.specs.declared.replay.Arrival.TheVariants.{Behind, Met, Between}
+use Rattle.stab_recording.specs.declared.replay.Arrival.TheVariants.{After, Met, Between}
 use Rattle.stab_recording.specs.Replays.{IsPlacedAt, MeetsAt}
 
--- what a replay comes to at the step where it stops: the old copy that may be met next, or the last step, or neither, and which copy
+-- what a replay comes to at the step where it stops: the old checkpoint that may be met next, or the last step, or neither, and which checkpoint
 -- may be met then
 abbrev pub IsArrival : ℕ → Plan → Replay → List Checkpoint → (records free : List Bool) → ℕ → Arrival → Type 0
-IsArrival n p r copies records free next Met = IsSomeAnd (slice_get copies next) (MeetsAt n p r records free)
-IsArrival n p r copies records free next Behind = (r.step ≡ p.total) × IfSome (slice_get copies next) (λ c. MeetsAt n p r records free c → ⊥)
-IsArrival n p r copies records free next (Between later) =
+IsArrival n p r checkpoints records free next Met = IsSomeAnd (slice_get checkpoints next) (MeetsAt n p r records free)
+IsArrival n p r checkpoints records free next After = (r.step ≡ p.total) × IfSome (slice_get checkpoints next) (λ c. MeetsAt n p r records free c → ⊥)
+IsArrival n p r checkpoints records free next (Between later) =
     (r.step ≢ p.total)
-    × IfSome (slice_get copies next) (λ c. MeetsAt n p r records free c → ⊥)
-    × ((later ≡ next) × (IsPlacedAt p copies next r.step → ⊥) ⊎ (later ≡ next + 1) × IsPlacedAt p copies next r.step)
+    × IfSome (slice_get checkpoints next) (λ c. MeetsAt n p r records free c → ⊥)
+    × ((later ≡ next) × (IsPlacedAt p checkpoints next r.step → ⊥) ⊎ (later ≡ next + 1) × IsPlacedAt p checkpoints next r.step)

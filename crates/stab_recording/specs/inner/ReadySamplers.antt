@@ -5,7 +5,7 @@ use Rattle.std.specs.Coded.{Coded, code_by, coded×, coded_ℕ}
 use Rattle.stab_gates.specs.Limits.{most_qubits}
 use Rattle.stab_items.specs.Items.{Items}
 use Rattle.stab_items.specs.Steps.{unroll, records_of, observables_of, steps_cap, check_within}
-use Rattle.stab_edits.specs.Cursors.{IsApart}
+use Rattle.stab_edits.specs.Cursors.{HasDistinctQubits}
 use Rattle.stab_edits.specs.declared.circuit.repeats.Repeat.{Repeat}
 use Rattle.stab_edits.specs.Repeats.{AreRepeats}
 use Rattle.stab_recording.specs.Samplers.{SamplerState}
@@ -20,7 +20,7 @@ sampler_code = code_by (ℕ × Items) (coded× coded_ℕ items_code) (λ s. (s.q
 pub record IsReady (n : ℕ) (items : Items) (repeats : List Repeat) (records observables : ℕ) : Type 0 where
   pub few_qubits : n ≤ most_qubits
   pub checked : check_within n items ≡ None
-  pub apart : All IsApart (unroll items)
+  pub distinct : All HasDistinctQubits (unroll items)
   pub repeated : AreRepeats 0 (unroll items) repeats
   pub records_are : records ≡ min (records_of (unroll items)) steps_cap
   pub observables_are : observables ≡ observables_of items

@@ -1,4 +1,4 @@
--- Replays beside an older run: where they differ from it, and what they hold while copies go ahead of the tableau.
+-- Replays beside an older run: where they differ from it, and what they hold while checkpoints go ahead of the tableau.
 -- Source: this project's own.
 use Rattle.std.specs.Prelude.{◌≡◌, ◌≢◌, ◌⊎◌, ℕ, ◌≤◌, Bool, true, false, List, [], ◌∷◌, length, take, drop}
 use Rattle.stab_items.specs.Steps.{Step}
@@ -9,28 +9,28 @@ use Rattle.stab_recording.specs.declared.checkpoint.Checkpoint.{Checkpoint}
 use Rattle.stab_recording.specs.declared.replay.Plan.{Plan}
 use Rattle.stab_recording.specs.declared.replay.Replay.{Replay}
 use Rattle.stab_recording.specs.Replays.{IsAtStep, step_among_new}
-use Rattle.stab_recording.specs.FramedReplays.{IsOldRun}
+use Rattle.stab_recording.specs.PropagatedReplays.{IsOldRun}
 
 -- a replay of the new steps and an older run have the same coins
-pub record IsBeside (n : ℕ) (coins : ℕ → Bool) (p : Plan) (ys : List Step) (copies : List Checkpoint) (o : RunOutput) (s : PivotsState) (r : Replay) : Type 0 where
-  pub old : IsOldRun n coins p ys copies o s
+pub record IsBeside (n : ℕ) (coins : ℕ → Bool) (p : Plan) (ys : List Step) (checkpoints : List Checkpoint) (o : RunOutput) (s : PivotsState) (r : Replay) : Type 0 where
+  pub old : IsOldRun n coins p ys checkpoints o s
   pub at_step : IsAtStep n coins ys r
 
--- a replay is at the place of an old copy after what was changed, and has another number of the next coin there, or other records
-pub record IsApartFrom (p : Plan) (r : Replay) (o : RunOutput) (c : Checkpoint) : Type 0 where
-  pub behind : p.old_end ≤ c.step
+-- a replay is at the place of an old checkpoint after what was changed, and has another number of the next coin there, or other records
+pub record HasOtherCoins (p : Plan) (r : Replay) (o : RunOutput) (c : Checkpoint) : Type 0 where
+  pub following : p.old_end ≤ c.step
   pub place : step_among_new p c ≡ r.step
-  pub apart : (c.lengths.free ≢ length r.outputs.free.items) ⊎ (take c.lengths.records o.records ≢ r.outputs.records.items)
+  pub differs : (c.lengths.free ≢ length r.outputs.free.items) ⊎ (take c.lengths.records o.records ≢ r.outputs.records.items)
 
--- the state of the last of some copies, or another one if there are none
+-- the state of the last of some checkpoints, or another one if there are none
 abbrev pub last_state : TableauState → List Checkpoint → TableauState
 last_state t [] = t
 last_state t (c ∷ more) = last_state c.tableau more
 
--- the state that a replay has come to: if it passed a copy, that of the last one laid, and else what its tableau holds
+-- the state that a replay has come to: if it passed a checkpoint, that of the last one saved, and else what its tableau holds
 abbrev pub state_of : Bool → Replay → TableauState
 state_of false r = r.tableau
-state_of true r = last_state r.tableau r.laid.items
+state_of true r = last_state r.tableau r.saved.items
 
 -- a replay with its tableau in the state that it has come to
 abbrev pub with_state : Bool → Replay → Replay

@@ -69,7 +69,7 @@ pub record AreFlipped (r : Regions) (l : Letter) (q : ℕ) (numbers : List ℕ) 
   pub others : (n D count : ℕ) (back : List Step) → IsRegionsAt n D count back r → (i : ℕ) → D + count ≤ i → odd i numbers ≡ false
 
 -- these bits say for each parity whether it is deterministic, if the place is the circuit's start
-pub record TellDeterministic (r : Regions) (deterministic : List Bool) : Type 0 where
+pub record DetermineDeterministic (r : Regions) (deterministic : List Bool) : Type 0 where
   pub count : length deterministic ≡ length r.random.items
   pub value : (n D count : ℕ) (back : List Step) → IsRegionsAt n D count back r → (i : ℕ) → i < D + count
       → slice_index_or deterministic i false ≡ parity_deterministic n D i back

@@ -30,18 +30,18 @@ marks x = false
 
 -- all sides of a step that faults may be on
 abbrev pub all_sides : Step → Sides
-all_sides (one g q) = record { front = false; behind = true }
-all_sides (two g a b) = record { front = false; behind = true }
-all_sides (controlled l k q) = record { front = false; behind = true }
-all_sides (collapse l q recorded inverted resets) = record { front = recorded; behind = true }
-all_sides (product factors inverted) = record { front = true; behind = true }
-all_sides (detector ks) = record { front = false; behind = false }
-all_sides (observable j ks) = record { front = false; behind = false }
+all_sides (one g q) = record { front = false; following = true }
+all_sides (two g a b) = record { front = false; following = true }
+all_sides (controlled l k q) = record { front = false; following = true }
+all_sides (collapse l q recorded inverted resets) = record { front = recorded; following = true }
+all_sides (product factors inverted) = record { front = true; following = true }
+all_sides (detector ks) = record { front = false; following = false }
+all_sides (observable j ks) = record { front = false; following = false }
 
 -- those where faults are asked for
 abbrev pub sides_asked : Asked → Step → Sides
-sides_asked Nowhere x = record { front = false; behind = false }
-sides_asked Marked x = record { front = marks x; behind = false }
+sides_asked Nowhere x = record { front = false; following = false }
+sides_asked Marked x = record { front = marks x; following = false }
 sides_asked Everywhere x = all_sides x
 
 -- a list if the bit is 1

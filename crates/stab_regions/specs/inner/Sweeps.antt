@@ -4,7 +4,7 @@ use Rattle.std.specs.List.{flat_map}
 use Rattle.stab_gates.specs.declared.letter.Letter.{Letter}
 use Rattle.stab_gates.specs.declared.letter.Letter.TheVariants as letter
 use Rattle.stab_items.specs.Steps.{Step, observable, detectors_of}
-use Rattle.stab_edits.specs.Cursors.{IsApart}
+use Rattle.stab_edits.specs.Cursors.{HasDistinctQubits}
 use Rattle.stab_run.specs.ProgramStates.{StepFits}
 use Rattle.stab_distance.specs.Ascending.{IsAscending}
 use Rattle.stab_regions.specs.Rows.{odd}
@@ -28,11 +28,11 @@ inserted_on q back = record { letter = letter.X; qubit = q; back = back } ∷ re
 
 -- at a place at a step
 abbrev pub inserted_at : Step → List Step → Site → List Inserted
-inserted_at x back s = inserted_on s.qubit (if s.behind then back else x ∷ back)
+inserted_at x back s = inserted_on s.qubit (if s.following then back else x ∷ back)
 
 -- on a qubit of a step, on the sides that are asked for
 abbrev pub inserted_by : Sides → Step → List Step → ℕ → List Inserted
-inserted_by sides x back q = where_asked sides.front (inserted_on q (x ∷ back)) ++ where_asked sides.behind (inserted_on q back)
+inserted_by sides x back q = where_asked sides.front (inserted_on q (x ∷ back)) ++ where_asked sides.following (inserted_on q back)
 
 -- all that are asked for at the last steps
 abbrev pub inserted_from : (Step → List Site) → List Step → List Inserted
@@ -69,12 +69,12 @@ NamesBelow count x = Unit {0}
 -- steps are on n qubits, and their detectors and observables are among this many
 pub record MayPass (n D count : ℕ) (xs back : List Step) : Type 0 where
   pub fits : All (StepFits n) xs
-  pub apart : All IsApart xs
+  pub distinct : All HasDistinctQubits xs
   pub detectors : detectors_of (xs ++ back) ≤ D
   pub observables : All (NamesBelow count) xs
 
 -- the pass is somewhere after such steps
-pub record StandsBehind (asked : Asked) (xs : List Step) (s : Sweep) : Type 0 where
+pub record StandsAfter (asked : Asked) (xs : List Step) (s : Sweep) : Type 0 where
   pub n : ℕ
   pub D : ℕ
   pub count : ℕ

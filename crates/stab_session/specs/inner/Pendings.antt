@@ -56,7 +56,7 @@ pub record IsSpanNow (edit : Edit) (old now new : List OneItem) (s : Span) : Typ
   pub old_end : s.old_end ≡ old_end edit old
   pub new_end : s.new_end ≡ new_end edit new
 
--- an edit that nothing refuses on n qubits was begun: it leads back to the old items, with what it put in, and ahead to the new
+-- an edit that nothing refuses on n qubits was begun: it goes back to the old items, with what it put in, and ahead to the new
 -- ones, which have the same runs as those that there are now
 pub record IsBegun (n : ℕ) (edit : Edit) (old now : List OneItem) (p : Pending) (s : Span) : Type 0 where
   pub same : IsPendingOf edit p

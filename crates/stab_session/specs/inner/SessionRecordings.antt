@@ -5,7 +5,7 @@ use Rattle.std.specs.Coded.{Coded, code_by, coded×, coded_ℕ, coded_bool, code
 use Rattle.stab_gates.specs.Limits.{most_qubits}
 use Rattle.stab_circuit.specs.Items.{Items}
 use Rattle.stab_circuit.specs.Steps.{unroll, observables_of, check_within}
-use Rattle.stab_edits.specs.Cursors.{IsApart}
+use Rattle.stab_edits.specs.Cursors.{HasDistinctQubits}
 use Rattle.stab_splices.specs.declared.recording.Recording.{Recording}
 use Rattle.stab_circuit.specs.Limits.{most_stride}
 use Rattle.stab_session.specs.Sessions.{SessionState}
@@ -14,7 +14,7 @@ use Rattle.stab_recording.specs.Checkpoints.{checkpoint_steps}
 use Rattle.stab_splices.specs.Recordings.{IsRecording}
 use Rattle.stab_items.specs.inner.StoredItems.{items_code}
 
--- the four lists of bits of a session, and the steps of its copies
+-- the four lists of bits of a session, and the steps of its checkpoints
 abbrev pub Lists : Type 0
 Lists = List Bool × (List Bool × (List Bool × (List Bool × List ℕ)))
 
@@ -57,13 +57,13 @@ session_of items stride coins recording = record {
   checkpoints = checkpoint_steps recording.checkpoints.items;
 }
 
--- the statement holds for it; the recording is of the run of its items, with copies of the state that are spaced by its stride; nothing
+-- the statement holds for it; the recording is of the run of its items, with checkpoints of the state that are spaced by its stride; nothing
 -- refuses its items on its qubits, which are at most 1,024; the qubits of each pair differ; and the stride is from 1 to 65,536
 pub record IsRecorded {C : Type 0} (sequence : C → ℕ → Bool) (s : SessionState C) (recording : Recording) : Type 0 where
   pub statement : IsRunOfItems sequence s
   pub run : IsRecording s.qubits (sequence s.coins) s.stride (unroll s.items) (observables_of s.items) recording
   pub checked : check_within s.qubits s.items ≡ None
-  pub apart : All IsApart (unroll s.items)
+  pub distinct : All HasDistinctQubits (unroll s.items)
   pub few : s.qubits ≤ most_qubits
   pub stride_above : 1 ≤ s.stride
   pub stride_within : s.stride ≤ most_stride

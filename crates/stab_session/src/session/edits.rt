@@ -4,17 +4,17 @@ use crate::pending::{begin, finish, refused};
 use stab_circuit::{Edit, Refused};
 use stab_run::Coins;
 
-/// What an edit cost, from the last copy of the state before it to the step at which the old run is the new one again.
+/// What an edit cost, from the last checkpoint of the state before it to the step at which the old run is the new one again.
 #[derive(Clone, Copy, Debug, PartialEq, Eq)]
 pub struct Report {
     /// Steps that were carried out on a state. A step that a Pauli frame passes, and for which it asks a coin, is one of them.
     pub applied: usize,
-    /// All other steps: those that a frame was propagated over without a coin, also in vain, those of rounds that were given again, and
+    /// All other steps: those that a frame was propagated over without a coin, also in vain, those of rounds that were repeated, and
     /// those of a run that was conjugated in place.
-    pub framed: usize,
+    pub by_frame: usize,
     /// Those of them that a frame was propagated over in vain: it couldn't give the run, which was then made in another way.
     pub tried: usize,
-    /// Copies of the state that are kept afterwards.
+    /// Checkpoints of the state that are kept afterwards.
     pub checkpoints: usize,
 }
 
@@ -24,7 +24,7 @@ impl<C: Coins> Session<C> {
     ghost use Rattle.stab_edits.specs.Edits.{verdict, put_item};
     ghost use Rattle.stab_io.specs.Refusals.{IsCallFault};
     ghost use Rattle.stab_session.specs.SessionEdits.{IsEditedBy, IsAsBefore};
-    ghost use Rattle.stab_session.specs.Bounds.{steps_from_change, steps_near_change, most_tried, most_refused_asks, most_checkpoints, AgreeBehind, IsCountOf};
+    ghost use Rattle.stab_session.specs.Bounds.{steps_from_change, steps_near_change, most_tried, most_refused_asks, most_checkpoints, AgreeAfter, IsCountOf};
     ghost use Rattle.stab_session.specs.Headline.{IsRunOfItems};
 
     /// Edits the circuit, and keeps what the edited one's run gives.
@@ -40,10 +40,10 @@ impl<C: Coins> Session<C> {
         ensures refused { IfErr result (λ r. IsCallFault (verdict self.old.qubits edit (entries self.old.items)) r.fault) }
         ensures item { IfErr result (λ r. r.item ≡ put_item edit) }
         ensures applied { IfOk result (λ r. r.applied ≤ steps_from_change edit self.old self.new) }
-        ensures framed { IfOk result (λ r. r.applied + r.framed ≤ steps_from_change edit self.old self.new + r.tried) }
+        ensures by_frame { IfOk result (λ r. r.applied + r.by_frame ≤ steps_from_change edit self.old self.new + r.tried) }
         ensures tried { IfOk result (λ r. r.tried ≤ most_tried edit self.old self.new) }
-        ensures early { IfOk result (λ r. (far : ℕ) → AgreeBehind C.sequence edit self.old self.new far → r.applied + (r.framed - r.tried) ≤ steps_near_change edit self.new + far) }
-        ensures counted { IfOk result (λ r. IsCountOf C.sequence edit self.old self.new (r.applied + (r.framed - r.tried))) }
+        ensures early { IfOk result (λ r. (far : ℕ) → AgreeAfter C.sequence edit self.old self.new far → r.applied + (r.by_frame - r.tried) ≤ steps_near_change edit self.new + far) }
+        ensures counted { IfOk result (λ r. IsCountOf C.sequence edit self.old self.new (r.applied + (r.by_frame - r.tried))) }
         ensures asks { IfOk result (λ r. C.asks self.new.coins ≤ C.asks self.old.coins + r.applied) }
         ensures refused_asks { OnErr result (C.asks self.new.coins ≤ C.asks self.old.coins + most_refused_asks edit self.old) }
         ensures checkpoints { IfOk result (λ r. r.checkpoints ≡ length self.new.checkpoints) }
@@ -80,7 +80,7 @@ impl<C: Coins> Session<C> {
                 self.rounds = rounds;
                 Ok(Report {
                     applied: followed.applied as usize,
-                    framed: (followed.framed + followed.tried) as usize,
+                    by_frame: (followed.by_frame + followed.tried) as usize,
                     tried: followed.tried as usize,
                     checkpoints: self.recording.checkpoints.len(),
                 })

@@ -16,8 +16,8 @@ impl<C: Coins> Session<C> {
     /// that round becomes one by itself, and so do the rounds after it; an empty part is left out.
     /// The steps stay, so nothing is run and nothing else changes.
     ///
-    /// Refused without a line: 12 if the path leads past a list or the block has no such round, 17
-    /// if it leads into or to an item that is no block, 20. The session is then as before.
+    /// Refused without a line: 12 if the path goes past a list or the block has no such round, 17
+    /// if it goes into or to an item that is no block, 20. The session is then as before.
     pub fn split(&mut self, path: Path, round: u64) -> Result<(), Fault>
         ensures statement { IsRunOfItems C.sequence self.new }
         ensures split { OnOk result (IsSplit path round self.old self.new) }

@@ -6,12 +6,12 @@ use Rattle.stab_tableau.specs.Tableaus.{TableauState, stabilises}
 use Rattle.stab_tableau.specs.Conjugations.{IsConjugated}
 use Rattle.stab_edits.specs.declared.edit.Span.{Span}
 use Rattle.stab_items.specs.Steps.{Step}
-use Rattle.stab_edits.specs.Cursors.{IsApart}
+use Rattle.stab_edits.specs.Cursors.{HasDistinctQubits}
 use Rattle.stab_recording.specs.declared.checkpoint.Checkpoint.{Checkpoint}
 use Rattle.stab_recording.specs.declared.checkpoint.Meeting.{Meeting}
 use Rattle.stab_recording.specs.declared.replay.Replay.{Replay}
 use Rattle.stab_recording.specs.declared.replay.End.{End}
-use Rattle.stab_recording.specs.declared.replay.End.TheVariants.{Last, Joined, Framed}
+use Rattle.stab_recording.specs.declared.replay.End.TheVariants.{Last, Joined, Propagated}
 use Rattle.stab_splices.specs.declared.recording.Recording.{Recording}
 use Rattle.stab_splices.specs.declared.recording.Prepared.{Prepared}
 use Rattle.stab_splices.specs.declared.recording.Rest.{Rest}
@@ -25,17 +25,17 @@ use Rattle.stab_run.specs.Cuts.{lengths_of, front_of, rest_of}
 use Rattle.stab_frames.specs.Pivots.{PivotsState, front_kept, cut_to}
 use Rattle.stab_frames.specs.Limits.{most_strings}
 use Rattle.stab_recording.specs.PivotLists.{IsSpliced}
-use Rattle.stab_recording.specs.LaidCheckpoints.{all_laid}
+use Rattle.stab_recording.specs.SavedCheckpoints.{all_saved}
 use Rattle.stab_splices.specs.declared.rest.OldRest.{OldRest}
-use Rattle.stab_splices.specs.inner.OldRests.{HasRoomFor, copies_moved, conjugated_end}
+use Rattle.stab_splices.specs.inner.OldRests.{HasRoomFor, checkpoints_moved, conjugated_end}
 
--- this many of the first copies are before a step
-pub record IsCount (step : ℕ) (copies : List Checkpoint) (m : ℕ) : Type 0 where
-  pub within : m ≤ length copies
-  pub before : All (λ c. c.step < step) (take m copies)
-  pub behind : IfSome (slice_get copies m) (λ c. step ≤ c.step)
+-- this many of the first checkpoints are before a step
+pub record IsCount (step : ℕ) (checkpoints : List Checkpoint) (m : ℕ) : Type 0 where
+  pub within : m ≤ length checkpoints
+  pub before : All (λ c. c.step < step) (take m checkpoints)
+  pub following : IfSome (slice_get checkpoints m) (λ c. step ≤ c.step)
 
--- a replay of some steps begins at a copy that is kept: it has done nothing yet
+-- a replay of some steps begins at a checkpoint that is kept: it has done nothing yet
 pub record Begins (ys : List Step) (kept : Recording) (c : Checkpoint) (r : Replay) : Type 0 where
   pub tableau : r.tableau ≡ c.tableau
   pub string : length r.string.letters ≡ kept.tableau.qubits
@@ -45,43 +45,43 @@ pub record Begins (ys : List Step) (kept : Recording) (c : Checkpoint) (r : Repl
   pub window : r.pivots.window ≡ kept.window
   pub all : r.cursor.all ≡ ys
   pub left : r.cursor.left ≡ drop c.step ys
-  pub apart : All IsApart ys
+  pub distinct : All HasDistinctQubits ys
   pub step : r.step ≡ c.step
   pub applied : r.applied ≡ 0
-  pub framed : r.framed ≡ 0
-  pub laid : r.laid.items ≡ []
+  pub by_frame : r.by_frame ≡ 0
+  pub saved : r.saved.items ≡ []
 
--- there is a copy where a replay ended, and as many from it on as were conjugated
-abbrev pub HasCopy : ℕ → List Checkpoint → End → Type 0
-HasCopy n copies Last = Unit {0}
-HasCopy n copies (Joined number) = number < length copies
-HasCopy n copies (Framed f) = (f.number < length copies) × (f.number + length f.conjugated.items ≤ length copies) × (length f.propagation.letters ≡ n)
+-- there is a checkpoint where a replay ended, and as many from it on as were conjugated
+abbrev pub HasCheckpoint : ℕ → List Checkpoint → End → Type 0
+HasCheckpoint n checkpoints Last = Unit {0}
+HasCheckpoint n checkpoints (Joined number) = number < length checkpoints
+HasCheckpoint n checkpoints (Propagated f) = (f.number < length checkpoints) × (f.number + length f.conjugated.items ≤ length checkpoints) × (length f.propagation.letters ≡ n)
 
--- where it ended among the new steps: where it is, or where the first copy is that a frame did not turn, or after the last step
+-- where it ended among the new steps: where it is, or where the first checkpoint is that a frame did not conjugate, or after the last step
 abbrev pub end_of : Span → (total step : ℕ) → List Checkpoint → End → ℕ
-end_of s total step copies Last = step
-end_of s total step copies (Joined number) = step
-end_of s total step copies (Framed f) = conjugated_end s total (slice_get copies (f.number + length f.conjugated.items))
+end_of s total step checkpoints Last = step
+end_of s total step checkpoints (Joined number) = step
+end_of s total step checkpoints (Propagated f) = conjugated_end s total (slice_get checkpoints (f.number + length f.conjugated.items))
 
--- the state after the last step, and the old copies that are still copies of the run, conjugated and moved
-abbrev pub IsTableauBehind : Rest → (old new : TableauState) → Type 0
-IsTableauBehind (Nothing tableau) old new = new ≡ tableau
-IsTableauBehind (Old rest) old new = (new.qubits ≡ old.qubits) × IsConjugated old.qubits rest.propagation.letters (stabilises old) (stabilises new)
+-- the state after the last step, and the old checkpoints that are still checkpoints of the run, conjugated and moved
+abbrev pub IsTableauAfter : Rest → (old new : TableauState) → Type 0
+IsTableauAfter (Nothing tableau) old new = new ≡ tableau
+IsTableauAfter (Old rest) old new = (new.qubits ≡ old.qubits) × IsConjugated old.qubits rest.propagation.letters (stabilises old) (stabilises new)
 
-abbrev pub copies_behind : Rest → List Checkpoint → List Checkpoint
-copies_behind (Nothing tableau) copies = []
-copies_behind (Old rest) copies = copies_moved rest copies
+abbrev pub checkpoints_after : Rest → List Checkpoint → List Checkpoint
+checkpoints_after (Nothing tableau) checkpoints = []
+checkpoints_after (Old rest) checkpoints = checkpoints_moved rest checkpoints
 
 -- there is room for them
 abbrev pub HasRoom : ℕ → Rest → List Checkpoint → Type 0
-HasRoom n (Nothing tableau) copies = Unit {0}
-HasRoom n (Old rest) copies = HasRoomFor n rest copies
+HasRoom n (Nothing tableau) checkpoints = Unit {0}
+HasRoom n (Old rest) checkpoints = HasRoomFor n rest checkpoints
 
--- the meeting of a replay that is before a step, with this output, and an old copy
+-- the meeting of a replay that is before a step, with this output, and an old checkpoint
 abbrev pub meeting_of : RunOutput → ℕ → Checkpoint → Meeting
 meeting_of o step c = record { old_step = c.step; new_step = step; old_lengths = c.lengths; new_lengths = lengths_of o }
 
--- from an old copy with a number on the recording comes after a replay: its copies, the first of them conjugated, what it gave, flipped as a frame
+-- from an old checkpoint with a number on the recording comes after a replay: its checkpoints, the first of them conjugated, what it gave, flipped as a frame
 -- says that compared some records before, if the replay gave an outcome for each flag, and its strings
 pub record IsOldRest (kept : Recording) (o : RunOutput) (has_pivots : PivotsState) (step number compared : ℕ) (w : PropagationState) (conjugated : List TableauState) (new : RunOutput)
     (new_strings : PivotsState) (rest : Rest) (c : Checkpoint) : Type 0 where
@@ -104,24 +104,24 @@ abbrev pub IsRest : Recording → TableauState → RunOutput → PivotsState →
 IsRest kept t o strings step Last new new_strings rest = (rest ≡ Nothing t) × (new ≡ o) × (new_strings ≡ strings)
 IsRest kept t o strings step (Joined number) new new_strings rest =
     IfSome (slice_get kept.checkpoints.items number) (IsOldRest kept o strings step number 0 (no_frame kept.tableau.qubits) [] new new_strings rest)
-IsRest kept t o strings step (Framed f) new new_strings rest =
+IsRest kept t o strings step (Propagated f) new new_strings rest =
     IfSome (slice_get kept.checkpoints.items f.number) (IsOldRest kept o strings step f.number f.compared f.propagation f.conjugated.items new new_strings rest)
 
--- what a replay leaves is prepared: what comes after it, strings up to the limit, this many observables, summed, and its copies, the last first
+-- what a replay leaves is prepared: what comes after it, strings up to the limit, this many observables, summed, and its checkpoints, the last first
 pub record IsPrepared (kept : Recording) (r : Replay) (count : ℕ) (end : End) (p : Prepared) : Type 0 where
   pub all : PivotsState
   pub rest : IsRest kept r.tableau (output_of r.outputs) r.pivots.strings r.step end (output_of p.outputs) all p.rest
   pub strings : p.strings ≡ cut_to (most_strings all.qubits) all
   pub window : p.window ≡ r.pivots.window
   pub observables : p.observables.items ≡ with_additions p.outputs.additions.items (replicate count false)
-  pub laid : reverse p.laid.items ≡ r.laid.items
+  pub saved : reverse p.saved.items ≡ r.saved.items
 
--- what was prepared is put in place, after this many of the old copies
+-- what was prepared is put in place, after this many of the old checkpoints
 pub record IsCommitted (old : Recording) (p : Prepared) (before K : ℕ) (new : Recording) : Type 0 where
-  pub tableau : IsTableauBehind p.rest old.tableau new.tableau
+  pub tableau : IsTableauAfter p.rest old.tableau new.tableau
   pub output : output_of new.outputs ≡ output_of p.outputs
   pub observables : new.observables.items ≡ p.observables.items
   pub strings : new.strings ≡ p.strings
   pub window : new.window ≡ p.window
   pub checkpoints : new.checkpoints.items
-      ≡ all_laid K (copies_behind p.rest old.checkpoints.items) (all_laid K (reverse p.laid.items) (take before old.checkpoints.items))
+      ≡ all_saved K (checkpoints_after p.rest old.checkpoints.items) (all_saved K (reverse p.saved.items) (take before old.checkpoints.items))

@@ -3,14 +3,14 @@
 use Rattle.std.specs.Prelude.{◌≡◌, ℕ, List, [], ◌∷◌, take, drop, replicate, Option, Some, None}
 use Rattle.stab_circuit.specs.Items.{Items}
 use Rattle.stab_lines.specs.declared.product.Factor.{Factor}
-use Rattle.stab_regions.specs.Faults.{Site, in_front, behind}
+use Rattle.stab_regions.specs.Faults.{Site, in_front, following}
 use Rattle.stab_edits.specs.StepPaths.{paths_of}
 use Rattle.stab_edits.specs.declared.circuit.step_items.StepItem.{StepItem}
 use Rattle.stab_texts.specs.declared.fault_sites.Site.{Site as SiteValue}
 
 -- the place that a value stands for
 abbrev pub site_shown : SiteValue → Site
-site_shown s = record { qubit = s.qubit; behind = s.behind }
+site_shown s = record { qubit = s.qubit; following = s.following }
 
 -- the same, if there is one
 abbrev pub site_found : Option SiteValue → Option Site
@@ -19,7 +19,7 @@ site_found None = None
 
 -- the places at a factor of a product
 abbrev pub factor_sites : Factor → List Site
-factor_sites f = in_front f.qubit ∷ behind f.qubit ∷ []
+factor_sites f = in_front f.qubit ∷ following f.qubit ∷ []
 
 -- this many steps from a step on are of the item of this path
 abbrev pub IsStretch : Items → ℕ → StepItem → Type 0

@@ -12,7 +12,7 @@ use Rattle.stab_frames.specs.inner.Touches.{acts}
 use Rattle.stab_frames.specs.FrameSteps.{frame_over, flips_over}
 use Rattle.stab_ways.specs.declared.walk.Walk.{Walk}
 use Rattle.stab_ways.specs.PutIn.{by_letters, step_leaves, way_over, way_flips}
-use Rattle.stab_ways.specs.Ways.{Turn, turned, turn_shown}
+use Rattle.stab_ways.specs.Ways.{Turn, changed_string, turn_shown}
 
 -- a frame after steps, with what it has flipped
 abbrev pub passed : ℕ → List Step → PropagationState → PropagationState
@@ -57,19 +57,19 @@ abbrev pub ended : Option ℕ → List Letter → WalkState → WalkState
 ended None string w = w
 ended (Some k) string w = put_in string w
 
--- further steps of an instruction are passed, and nothing is told
+-- further steps of an instruction are passed, and nothing is reported
 abbrev pub past_steps : ℕ → List Step → WalkState → WalkState
 past_steps n ys w = record w { steps = w.steps + length ys; frame = passed n ys w.frame }
 
--- and the string is told if it is another one after them
-abbrev pub told : ℕ → List Step → WalkState → WalkState
-told n ys w = record (past_steps n ys w) { turns = w.turns ++ turned (w.steps + length ys) w.frame.letters (passed n ys w.frame).letters }
+-- and the string is reported if it is another one after them
+abbrev pub reported : ℕ → List Step → WalkState → WalkState
+reported n ys w = record (past_steps n ys w) { turns = w.turns ++ changed_string (w.steps + length ys) w.frame.letters (passed n ys w.frame).letters }
 
 -- over an instruction with the string under way, or not yet put in
 abbrev pub over_part : ℕ → List Letter → List Step → Option ℕ → WalkState → WalkState
-over_part n string ys None w = told n ys w
+over_part n string ys None w = reported n ys w
 over_part n string ys (Some k) w =
-    if nat_lt k (length ys) then told n (drop k ys) (put_in string (past_steps n (take k ys) w))
+    if nat_lt k (length ys) then reported n (drop k ys) (put_in string (past_steps n (take k ys) w))
     else record (past_steps n ys w) { waits = Some (k - length ys) }
 
 -- over instructions one after another

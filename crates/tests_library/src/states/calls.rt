@@ -19,10 +19,10 @@ pub(super) enum Call {
     // The measurement, with a coin, of the string with the two letters of a text, such as `-XZ`, on the first
     // and on the last qubit.
     Measure(&'static str, bool),
-    // Every qubit is turned, entangled and measured.
+    // Every qubit is rotated, entangled and measured.
     Wear,
     Reset,
-    // The state is copied, every qubit of it is turned, entangled and measured, and the copy takes its place.
+    // The state is copied, every qubit of it is rotated, entangled and measured, and the copy takes its place.
     Copy,
 }
 

@@ -1,5 +1,5 @@
 use Rattle.stab_analysis.proofs.Names.{◌≡◌, refl, sym, ap, ◌∙◌, length, entries, unroll, records_of, circuit_items, entries-listed}
-use Rattle.stab_analysis.proofs.CheckLaws.{steps_counted, records_counted}
+use Rattle.stab_items.proofs.CountLemmas.{steps_counted, records_counted}
 use Rattle.stab_analysis.proofs.check.count.Goals as goal
 
 pub returns-clause-value : goal.returns-clause-value

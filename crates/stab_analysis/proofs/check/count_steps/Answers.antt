@@ -1,5 +1,5 @@
 use Rattle.stab_analysis.proofs.Names.{ap, arith, unroll, detectors_of, step_shown, circuit_items, coins-steps, all_coins_of}
-use Rattle.stab_analysis.proofs.CheckLaws.{detectors_few, detectors_more}
+use Rattle.stab_items.proofs.CountLemmas.{detectors_few, detectors_more}
 use Rattle.stab_items.proofs.SummaryLemmas.{few_steps}
 use Rattle.stab_analysis.proofs.check.count_steps.Goals as goal
 

@@ -1,5 +1,5 @@
 use Rattle.stab_analysis.proofs.Names.{◌∙◌, ap₂, circuit_items, Whole}
-use Rattle.stab_analysis.proofs.CheckLaws.{records_counted, detectors_counted}
+use Rattle.stab_items.proofs.CountLemmas.{records_counted, detectors_counted}
 use Rattle.stab_analysis.proofs.coin_rows.whole_kinds.Goals as goal
 
 pub returns : goal.returns

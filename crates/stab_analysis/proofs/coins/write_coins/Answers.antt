@@ -11,7 +11,7 @@ returns-in_err-runs g c =
     let n = qubits_of items in
     let memory = memory_alone (Unit {0}) c.in_err-runs.field-0.0 c.qubits.result items c.requires.checked c.qubits.ensures.value c.in_err-runs.ensures.refused in
     record {
-      table = coins-have-rows n items (check-fits n items (unroll items) (checked_on_own_qubits items c.requires.checked) refl c.items.ensures.apart);
+      table = coins-have-rows n items (check-fits n items (unroll items) (checked_on_own_qubits items c.requires.checked) refl c.items.ensures.distinct);
       sends = sends_none (g.O.Output.seen c.args.out.now) _ c.from_residual.result (subst (λ f. IsErrAnd c.from_residual.result (λ y. y ≡ f)) memory c.from_residual.ensures.1);
     }
 

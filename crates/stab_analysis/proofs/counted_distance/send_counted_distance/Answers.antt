@@ -12,13 +12,13 @@ returns-in_err-found-clause-goes_on g c =
     refused_handed (IsCountedText c.args.options items) c.args.options.deterministic_only items refused c.from_residual.result (g.O.Output.seen c.args.out.now)
     c.from_residual.ensures.1 (subst (λ (o : DistanceOptions). IsRefusedFor o.deterministic_only items refused.random refused.fault) c.of_all-asked.ensures.value c.in_err-found.ensures.refused)
 
-pub returns-in_err-found-clause-told : goal.returns-in_err-found-clause-told
-returns-in_err-found-clause-told g c =
+pub returns-in_err-found-clause-reported : goal.returns-in_err-found-clause-reported
+returns-in_err-found-clause-reported g c =
     let items = circuit_items c.args.circuit.now in
     let old = g.P.Progress.heard c.args.progress.now in
     let new = g.P.Progress.heard c.find_distance.new.progress in
     subst (λ (o : DistanceOptions). HearsDistance {T = Unit {0}} o items old new (fault_of c.from_residual.result)) c.of_all-asked.ensures.value
-    (heard_handed c.of_all-asked.result items c.in_err-found.field-0.0 c.from_residual.result old new c.from_residual.ensures.1 c.in_err-found.ensures.told)
+    (heard_handed c.of_all-asked.result items c.in_err-found.field-0.0 c.from_residual.result old new c.from_residual.ensures.1 c.in_err-found.ensures.reported)
 
 pub count_of-requires-clause-all : goal.count_of-requires-clause-all
 count_of-requires-clause-all g c = ap (λ (o : DistanceOptions). o.graphlike) c.of_all-asked.ensures.value
@@ -29,37 +29,37 @@ returns-in_err-count-clause-goes_on g c =
     unsent_on (IsCountedText c.args.options items) c.args.options.deterministic_only items c.in_err-count.field-0.0 c.from_residual-in_err-count.result (g.O.Output.seen c.args.out.now)
     c.in_err-count.ensures.err c.from_residual-in_err-count.ensures.1
 
-pub returns-in_err-count-clause-told : goal.returns-in_err-count-clause-told
-returns-in_err-count-clause-told g c =
+pub returns-in_err-count-clause-reported : goal.returns-in_err-count-clause-reported
+returns-in_err-count-clause-reported g c =
     let items = circuit_items c.args.circuit.now in
-    let told = err_from_is_err_and c.from_residual-in_err-count.result c.from_residual-in_err-count.ensures.1 in
+    let reported = err_from_is_err_and c.from_residual-in_err-count.result c.from_residual-in_err-count.ensures.1 in
     let old = g.P.Progress.heard c.args.progress.now in
     let new = g.P.Progress.heard c.find_distance.new.progress in
-    let heard = subst (λ (o : DistanceOptions). HearsDistance {T = Unit {0}} o items old new (Ok tt)) c.of_all-asked.ensures.value c.in_ok-found.ensures.told in
-    subst (λ r. HearsDistance {T = Unit {0}} (of_all c.args.options) items old new (fault_of r)) (sym told.1) (inr (Ok heard.0, heard.1))
+    let heard = subst (λ (o : DistanceOptions). HearsDistance {T = Unit {0}} o items old new (Ok tt)) c.of_all-asked.ensures.value c.in_ok-found.ensures.reported in
+    subst (λ r. HearsDistance {T = Unit {0}} (of_all c.args.options) items old new (fault_of r)) (sym reported.1) (inr (Ok heard.0, heard.1))
 
 pub returns-in_err-send_counted-clause-goes_on : goal.returns-in_err-send_counted-clause-goes_on
 returns-in_err-send_counted-clause-goes_on g c =
     let sent = counted_sent {T = Unit {0}} c.args.options c.of_all-asked.result (circuit_items c.args.circuit.now) c.in_ok-found.found c.in_ok-count.count (g.O.Output.seen c.args.out.now) (g.O.Output.seen c.send_counted.new.out)
     (Err c.in_err-send_counted.field-0.0) c.of_all-asked.ensures.value c.in_ok-found.ensures.found c.in_ok-count.ensures.count c.in_err-send_counted.ensures.sends in
-    let told = err_from_is_err_and c.from_residual-in_err-send_counted.result c.from_residual-in_err-send_counted.ensures.1 in
-    rw (told.1, told.2) sent
+    let reported = err_from_is_err_and c.from_residual-in_err-send_counted.result c.from_residual-in_err-send_counted.ensures.1 in
+    rw (reported.1, reported.2) sent
 
-pub returns-in_err-send_counted-clause-told : goal.returns-in_err-send_counted-clause-told
-returns-in_err-send_counted-clause-told g c =
+pub returns-in_err-send_counted-clause-reported : goal.returns-in_err-send_counted-clause-reported
+returns-in_err-send_counted-clause-reported g c =
     let items = circuit_items c.args.circuit.now in
-    let told = err_from_is_err_and c.from_residual-in_err-send_counted.result c.from_residual-in_err-send_counted.ensures.1 in
+    let reported = err_from_is_err_and c.from_residual-in_err-send_counted.result c.from_residual-in_err-send_counted.ensures.1 in
     let old = g.P.Progress.heard c.args.progress.now in
     let new = g.P.Progress.heard c.find_distance.new.progress in
-    let heard = subst (λ (o : DistanceOptions). HearsDistance {T = Unit {0}} o items old new (Ok tt)) c.of_all-asked.ensures.value c.in_ok-found.ensures.told in
-    subst (λ r. HearsDistance {T = Unit {0}} (of_all c.args.options) items old new (fault_of r)) (sym told.1) (inr (Ok heard.0, heard.1))
+    let heard = subst (λ (o : DistanceOptions). HearsDistance {T = Unit {0}} o items old new (Ok tt)) c.of_all-asked.ensures.value c.in_ok-found.ensures.reported in
+    subst (λ r. HearsDistance {T = Unit {0}} (of_all c.args.options) items old new (fault_of r)) (sym reported.1) (inr (Ok heard.0, heard.1))
 
 pub returns-clause-goes_on : goal.returns-clause-goes_on
 returns-clause-goes_on g c =
     counted_sent {T = Unit {0}} c.args.options c.of_all-asked.result (circuit_items c.args.circuit.now) c.in_ok-found.found c.in_ok-count.count (g.O.Output.seen c.args.out.now) (g.O.Output.seen c.send_counted.new.out)
     (Ok tt) c.of_all-asked.ensures.value c.in_ok-found.ensures.found c.in_ok-count.ensures.count c.in_ok-send_counted.ensures.sends
 
-pub returns-clause-told : goal.returns-clause-told
-returns-clause-told g c =
+pub returns-clause-reported : goal.returns-clause-reported
+returns-clause-reported g c =
     subst (λ (o : DistanceOptions). HearsDistance {T = Unit {0}} o (circuit_items c.args.circuit.now) (g.P.Progress.heard c.args.progress.now) (g.P.Progress.heard c.find_distance.new.progress) (Ok tt))
-    c.of_all-asked.ensures.value c.in_ok-found.ensures.told
+    c.of_all-asked.ensures.value c.in_ok-found.ensures.reported

@@ -1,6 +1,6 @@
 use Rattle.stab_analysis.proofs.Names.{◌++◌, circuit_items, failed_on, failed_within, answer_text}
 use Rattle.stab_texts.specs.Distances.{count_line}
-use Rattle.stab_texts.proofs.WritingLaws.{writes_behind}
+use Rattle.stab_texts.proofs.WritingLaws.{writes_after}
 use Rattle.stab_analysis.proofs.counted_distance.write_counted.Goals as goal
 
 pub returns-in_err-write_distance : goal.returns-in_err-write_distance
@@ -14,5 +14,5 @@ returns-in_err-write_distance g c =
 pub returns : goal.returns
 returns g c =
     let answer = answer_text c.args.options (circuit_items c.args.circuit.now) c.args.found.now.errors c.args.found.now.answer in record {
-      writes = writes_behind (g.O.Output.seen c.write_sets.new.out) answer (count_line c.args.count) c.write_sets.result c.in_ok-write_distance.ensures.writes c.write_sets.ensures.writes;
+      writes = writes_after (g.O.Output.seen c.write_sets.new.out) answer (count_line c.args.count) c.write_sets.result c.in_ok-write_distance.ensures.writes c.write_sets.ensures.writes;
     }

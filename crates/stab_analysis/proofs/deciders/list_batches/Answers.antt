@@ -1,5 +1,5 @@
 use Rattle.stab_analysis.proofs.Names.{◌∙◌, ◌+◌, ◌-◌, ◌++◌, ap, length, arith, circuit_items, numbers_where, listed, decides}
-use Rattle.stab_analysis.proofs.CheckLaws.{detectors_counted}
+use Rattle.stab_items.proofs.CountLemmas.{detectors_counted}
 use Rattle.stab_analysis.proofs.DeciderLaws.{numbers_more}
 use Rattle.stab_analysis.proofs.deciders.list_batches.Goals as goal
 

@@ -6,8 +6,8 @@ pub returns-in_err-errors-clause-refused : goal.returns-in_err-errors-clause-ref
 returns-in_err-errors-clause-refused g c =
     refused_alike c.args.options.deterministic_only (circuit_items c.args.circuit.now) c.in_err-errors.field-0.0 c.from_residual.result c.from_residual.ensures.1 c.in_err-errors.ensures.refused
 
-pub returns-in_err-errors-clause-told : goal.returns-in_err-errors-clause-told
-returns-in_err-errors-clause-told g c =
+pub returns-in_err-errors-clause-reported : goal.returns-in_err-errors-clause-reported
+returns-in_err-errors-clause-reported g c =
     unheard_handed c.args.options (circuit_items c.args.circuit.now) c.in_err-errors.field-0.0 c.from_residual.result (g.P.Progress.heard c.args.progress.now) c.from_residual.ensures.1
 
 pub returns-in-Ok-clause-found : goal.returns-in-Ok-clause-found
@@ -16,8 +16,8 @@ returns-in-Ok-clause-found g c =
     let are = c.in_ok-errors.ensures.found in
     record { are = are; distance = c.in-Ok.ensures.distance (qubits_of items) items are.table }
 
-pub returns-in-Ok-clause-told : goal.returns-in-Ok-clause-told
-returns-in-Ok-clause-told g c =
+pub returns-in-Ok-clause-reported : goal.returns-in-Ok-clause-reported
+returns-in-Ok-clause-reported g c =
     let items = circuit_items c.args.circuit.now in
     let are = c.in_ok-errors.ensures.found in (
       c.in-Ok.answer,
@@ -25,12 +25,12 @@ returns-in-Ok-clause-told g c =
         t = c.in_ok-errors.errors;
         are = are;
         found = c.in-Ok.ensures.distance (qubits_of items) items are.table;
-        told = c.in-Ok.ensures.told (qubits_of items) items are.table;
+        reported = c.in-Ok.ensures.reported (qubits_of items) items are.table;
       },
     )
 
-pub returns-in-Err-clause-told : goal.returns-in-Err-clause-told
-returns-in-Err-clause-told g c =
+pub returns-in-Err-clause-reported : goal.returns-in-Err-clause-reported
+returns-in-Err-clause-reported g c =
     let items = circuit_items c.args.circuit.now in
     let are = c.in_ok-errors.ensures.found in
     inr (
@@ -39,6 +39,6 @@ returns-in-Err-clause-told g c =
         t = c.in_ok-errors.errors;
         are = are;
         found = tt;
-        told = c.in-Err.ensures.told (qubits_of items) items are.table;
+        reported = c.in-Err.ensures.reported (qubits_of items) items are.table;
       },
     )

@@ -1,6 +1,6 @@
 use Rattle.stab_analysis.proofs.Names.{◌∙◌, ◌++◌, subst, codes, decimal, Took, TookAndFailed, WritesAll, failed_on, failed_within, distance_line, line_end, of_errors}
 use Rattle.stab_texts.proofs.ErrorLineLaws.{joined-count}
-use Rattle.stab_texts.proofs.WritingLaws.{writes_behind}
+use Rattle.stab_texts.proofs.WritingLaws.{writes_after}
 use Rattle.stab_analysis.proofs.distance.write_count.Goals as goal
 
 pub returns-in_err-write_texts : goal.returns-in_err-write_texts
@@ -24,5 +24,5 @@ returns g c =
     let front = joined-count c.args.count c.as_bytes.result.now (c.as_bytes.ensures.value ∙ c.format.ensures.text) in
     let took = subst (Took old between) front c.in_ok-write_texts.ensures.writes in
     let end = subst (λ e. WritesAll between new (line_end e options.observable) c.write_end.result) c.of_errors-errors.ensures.value c.write_end.ensures.writes in record {
-      writes = writes_behind new (codes "distance " ++ decimal c.args.count) (line_end (of_errors options.graphlike options.everywhere) options.observable) c.write_end.result took end;
+      writes = writes_after new (codes "distance " ++ decimal c.args.count) (line_end (of_errors options.graphlike options.everywhere) options.observable) c.write_end.result took end;
     }

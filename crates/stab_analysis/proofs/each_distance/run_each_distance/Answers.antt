@@ -1,13 +1,13 @@
 use Rattle.stab_analysis.proofs.Names.{◌∙◌, err_from_is_err_and, sym, subst, All, ◌<◌, length, unroll, circuit_items, refl, inl}
 use Rattle.stab_texts.specs.Distances.{IsEachText}
 use Rattle.stab_analysis.proofs.EndingLaws.{errors_heard, errors_unheard, refusal_handed, unsent, unwarned}
-use Rattle.stab_texts.specs.DoubtLines.{TellsDoubts}
+use Rattle.stab_texts.specs.DoubtLines.{ReportsDoubts}
 use Rattle.stab_analysis.proofs.each_distance.run_each_distance.Goals as goal
 
 pub returns-in_err-circuit-clause-warns : goal.returns-in_err-circuit-clause-warns
 returns-in_err-circuit-clause-warns g c =
-    let told = err_from_is_err_and c.from_residual.result c.from_residual.ensures.1 in
-    unwarned c.args.options.everywhere (g.I.Input.seen c.args.input.now) (g.I.Input.seen c.read_circuit.new.input) (g.E.Output.seen c.args.err.now) c.from_residual.result told.0 told.1
+    let reported = err_from_is_err_and c.from_residual.result c.from_residual.ensures.1 in
+    unwarned c.args.options.everywhere (g.I.Input.seen c.args.input.now) (g.I.Input.seen c.read_circuit.new.input) (g.E.Output.seen c.args.err.now) c.from_residual.result reported.0 reported.1
 
 pub returns-in_err-doubts-clause-ends : goal.returns-in_err-doubts-clause-ends
 returns-in_err-doubts-clause-ends g c =
@@ -16,8 +16,8 @@ returns-in_err-doubts-clause-ends g c =
 
 pub returns-in_err-doubts-clause-warns : goal.returns-in_err-doubts-clause-warns
 returns-in_err-doubts-clause-warns g c =
-    let told = err_from_is_err_and c.from_residual-in_err-doubts.result c.from_residual-in_err-doubts.ensures.1 in
-    unwarned c.args.options.everywhere (g.I.Input.seen c.args.input.now) (g.I.Input.seen c.read_circuit.new.input) (g.E.Output.seen c.args.err.now) c.from_residual-in_err-doubts.result told.0 told.1
+    let reported = err_from_is_err_and c.from_residual-in_err-doubts.result c.from_residual-in_err-doubts.ensures.1 in
+    unwarned c.args.options.everywhere (g.I.Input.seen c.args.input.now) (g.I.Input.seen c.read_circuit.new.input) (g.E.Output.seen c.args.err.now) c.from_residual-in_err-doubts.result reported.0 reported.1
 
 pub returns-in_err-send_each_distance-clause-ends : goal.returns-in_err-send_each_distance-clause-ends
 returns-in_err-send_each_distance-clause-ends g c =
@@ -26,11 +26,11 @@ returns-in_err-send_each_distance-clause-ends g c =
 
 pub returns-in_err-send_each_distance-clause-warns : goal.returns-in_err-send_each_distance-clause-warns
 returns-in_err-send_each_distance-clause-warns g c =
-    let told = err_from_is_err_and c.from_residual-in_err-send_each_distance.result c.from_residual-in_err-send_each_distance.ensures.1 in
-    unwarned c.args.options.everywhere (g.I.Input.seen c.args.input.now) (g.I.Input.seen c.read_circuit.new.input) (g.E.Output.seen c.args.err.now) c.from_residual-in_err-send_each_distance.result told.0 told.1
+    let reported = err_from_is_err_and c.from_residual-in_err-send_each_distance.result c.from_residual-in_err-send_each_distance.ensures.1 in
+    unwarned c.args.options.everywhere (g.I.Input.seen c.args.input.now) (g.I.Input.seen c.read_circuit.new.input) (g.E.Output.seen c.args.err.now) c.from_residual-in_err-send_each_distance.result reported.0 reported.1
 
-pub tell_doubts-requires-clause-inside : goal.tell_doubts-requires-clause-inside
-tell_doubts-requires-clause-inside g c =
+pub report_doubts-requires-clause-inside : goal.report_doubts-requires-clause-inside
+report_doubts-requires-clause-inside g c =
     subst (All (λ m. m.step < length (unroll (circuit_items c.in_ok-circuit.circuit)))) (sym c.as_slice.ensures.value) c.in_ok-doubts.ensures.inside
 
 pub returns-clause-ends : goal.returns-clause-ends
@@ -39,25 +39,25 @@ returns-clause-ends g c = (circuit_items c.in_ok-circuit.circuit, c.in_ok-circui
 pub returns-clause-warns : goal.returns-clause-warns
 returns-clause-warns g c =
     let items = circuit_items c.in_ok-circuit.circuit in
-    let tells = subst (λ ms. TellsDoubts items ms (g.E.Output.seen c.args.err.now) (g.E.Output.seen c.tell_doubts.new.err)) (c.as_slice.ensures.value ∙ c.in_ok-doubts.ensures.value) c.tell_doubts.ensures.tells in
-    (items, c.in_ok-circuit.ensures.reads, tells)
+    let reports = subst (λ ms. ReportsDoubts items ms (g.E.Output.seen c.args.err.now) (g.E.Output.seen c.report_doubts.new.err)) (c.as_slice.ensures.value ∙ c.in_ok-doubts.ensures.value) c.report_doubts.ensures.reports in
+    (items, c.in_ok-circuit.ensures.reads, reports)
 
-pub returns-in_err-circuit-clause-told : goal.returns-in_err-circuit-clause-told
-returns-in_err-circuit-clause-told g c =
+pub returns-in_err-circuit-clause-reported : goal.returns-in_err-circuit-clause-reported
+returns-in_err-circuit-clause-reported g c =
     errors_unheard c.args.options (g.I.Input.seen c.args.input.now) (g.I.Input.seen c.read_circuit.new.input) (g.P.Progress.heard c.args.progress.now) c.in_err-circuit.field-0.0 c.from_residual.result
     c.in_err-circuit.ensures.reads c.from_residual.ensures.1
 
-pub returns-in_err-doubts-clause-told : goal.returns-in_err-doubts-clause-told
-returns-in_err-doubts-clause-told g c =
-    let told = err_from_is_err_and c.from_residual-in_err-doubts.result c.from_residual-in_err-doubts.ensures.1 in
+pub returns-in_err-doubts-clause-reported : goal.returns-in_err-doubts-clause-reported
+returns-in_err-doubts-clause-reported g c =
+    let reported = err_from_is_err_and c.from_residual-in_err-doubts.result c.from_residual-in_err-doubts.ensures.1 in
     errors_heard c.args.options (g.I.Input.seen c.args.input.now) (g.I.Input.seen c.read_circuit.new.input) (g.P.Progress.heard c.args.progress.now) (g.P.Progress.heard c.args.progress.now)
-    (circuit_items c.in_ok-circuit.circuit) c.from_residual-in_err-doubts.result told.0 c.in_ok-circuit.ensures.reads (inl refl) told.1
+    (circuit_items c.in_ok-circuit.circuit) c.from_residual-in_err-doubts.result reported.0 c.in_ok-circuit.ensures.reads (inl refl) reported.1
 
-pub returns-in_err-send_each_distance-clause-told : goal.returns-in_err-send_each_distance-clause-told
-returns-in_err-send_each_distance-clause-told g c =
-    let told = err_from_is_err_and c.from_residual-in_err-send_each_distance.result c.from_residual-in_err-send_each_distance.ensures.1 in
+pub returns-in_err-send_each_distance-clause-reported : goal.returns-in_err-send_each_distance-clause-reported
+returns-in_err-send_each_distance-clause-reported g c =
+    let reported = err_from_is_err_and c.from_residual-in_err-send_each_distance.result c.from_residual-in_err-send_each_distance.ensures.1 in
     errors_heard c.args.options (g.I.Input.seen c.args.input.now) (g.I.Input.seen c.read_circuit.new.input) (g.P.Progress.heard c.args.progress.now) (g.P.Progress.heard c.send_each_distance.new.progress)
-    (circuit_items c.in_ok-circuit.circuit) c.from_residual-in_err-send_each_distance.result told.0 c.in_ok-circuit.ensures.reads c.in_err-send_each_distance.ensures.told told.1
+    (circuit_items c.in_ok-circuit.circuit) c.from_residual-in_err-send_each_distance.result reported.0 c.in_ok-circuit.ensures.reads c.in_err-send_each_distance.ensures.reported reported.1
 
-pub returns-clause-told : goal.returns-clause-told
-returns-clause-told g c = (circuit_items c.in_ok-circuit.circuit, c.in_ok-circuit.ensures.reads, c.in_ok-send_each_distance.ensures.told)
+pub returns-clause-reported : goal.returns-clause-reported
+returns-clause-reported g c = (circuit_items c.in_ok-circuit.circuit, c.in_ok-circuit.ensures.reads, c.in_ok-send_each_distance.ensures.reported)

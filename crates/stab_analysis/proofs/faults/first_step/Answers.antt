@@ -20,8 +20,8 @@ overflow_add-number c = record { fits = omega (arith, c.steps.invariant.count, f
 pub steps-preserved : goal.steps-preserved
 steps-preserved c =
     let one_less : length c.steps.cursor.left ≡ suc (length c.next.new.self.left) = ap length c.in-Some.ensures.some in
-    let passed : length (steps_before_bit c.steps.sought c.steps.cursor.left) ≡ suc (length (steps_before_bit c.in-Some-bit_behind.rest c.next.new.self.left)) =
-    ap (λ xs. length (steps_before_bit c.steps.sought xs)) c.in-Some.ensures.some ∙ ap length (c.in-Some-bit_behind.ensures.passes c.next.new.self.left) in
+    let passed : length (steps_before_bit c.steps.sought c.steps.cursor.left) ≡ suc (length (steps_before_bit c.in-Some-bit_after.rest c.next.new.self.left)) =
+    ap (λ xs. length (steps_before_bit c.steps.sought xs)) c.in-Some.ensures.some ∙ ap length (c.in-Some-bit_after.ensures.passes c.next.new.self.left) in
     record { count = omega (arith, c.steps.invariant.count, one_less); front = omega (arith, c.steps.invariant.front, passed) }
 
 pub returns-clause-value : goal.returns-clause-value

@@ -1,12 +1,12 @@
 use Rattle.stab_analysis.proofs.Names.{◌∙◌, err_from_is_err_and, sym, subst, All, ◌<◌, length, unroll, circuit_items, IsTableText}
 use Rattle.stab_analysis.proofs.EndingLaws.{refusal_handed, unsent, unwarned}
-use Rattle.stab_texts.specs.DoubtLines.{TellsDoubts}
+use Rattle.stab_texts.specs.DoubtLines.{ReportsDoubts}
 use Rattle.stab_analysis.proofs.faults.run_faults.Goals as goal
 
 pub returns-in_err-circuit-clause-warns : goal.returns-in_err-circuit-clause-warns
 returns-in_err-circuit-clause-warns g c =
-    let told = err_from_is_err_and c.from_residual.result c.from_residual.ensures.1 in
-    unwarned c.args.everywhere (g.I.Input.seen c.args.input.now) (g.I.Input.seen c.read_circuit.new.input) (g.E.Output.seen c.args.err.now) c.from_residual.result told.0 told.1
+    let reported = err_from_is_err_and c.from_residual.result c.from_residual.ensures.1 in
+    unwarned c.args.everywhere (g.I.Input.seen c.args.input.now) (g.I.Input.seen c.read_circuit.new.input) (g.E.Output.seen c.args.err.now) c.from_residual.result reported.0 reported.1
 
 pub returns-in_err-doubts-clause-ends : goal.returns-in_err-doubts-clause-ends
 returns-in_err-doubts-clause-ends g c =
@@ -15,8 +15,8 @@ returns-in_err-doubts-clause-ends g c =
 
 pub returns-in_err-doubts-clause-warns : goal.returns-in_err-doubts-clause-warns
 returns-in_err-doubts-clause-warns g c =
-    let told = err_from_is_err_and c.from_residual-in_err-doubts.result c.from_residual-in_err-doubts.ensures.1 in
-    unwarned c.args.everywhere (g.I.Input.seen c.args.input.now) (g.I.Input.seen c.read_circuit.new.input) (g.E.Output.seen c.args.err.now) c.from_residual-in_err-doubts.result told.0 told.1
+    let reported = err_from_is_err_and c.from_residual-in_err-doubts.result c.from_residual-in_err-doubts.ensures.1 in
+    unwarned c.args.everywhere (g.I.Input.seen c.args.input.now) (g.I.Input.seen c.read_circuit.new.input) (g.E.Output.seen c.args.err.now) c.from_residual-in_err-doubts.result reported.0 reported.1
 
 pub returns-in_err-send_faults-clause-ends : goal.returns-in_err-send_faults-clause-ends
 returns-in_err-send_faults-clause-ends g c =
@@ -25,11 +25,11 @@ returns-in_err-send_faults-clause-ends g c =
 
 pub returns-in_err-send_faults-clause-warns : goal.returns-in_err-send_faults-clause-warns
 returns-in_err-send_faults-clause-warns g c =
-    let told = err_from_is_err_and c.from_residual-in_err-send_faults.result c.from_residual-in_err-send_faults.ensures.1 in
-    unwarned c.args.everywhere (g.I.Input.seen c.args.input.now) (g.I.Input.seen c.read_circuit.new.input) (g.E.Output.seen c.args.err.now) c.from_residual-in_err-send_faults.result told.0 told.1
+    let reported = err_from_is_err_and c.from_residual-in_err-send_faults.result c.from_residual-in_err-send_faults.ensures.1 in
+    unwarned c.args.everywhere (g.I.Input.seen c.args.input.now) (g.I.Input.seen c.read_circuit.new.input) (g.E.Output.seen c.args.err.now) c.from_residual-in_err-send_faults.result reported.0 reported.1
 
-pub tell_doubts-requires-clause-inside : goal.tell_doubts-requires-clause-inside
-tell_doubts-requires-clause-inside g c =
+pub report_doubts-requires-clause-inside : goal.report_doubts-requires-clause-inside
+report_doubts-requires-clause-inside g c =
     subst (All (λ m. m.step < length (unroll (circuit_items c.in_ok-circuit.circuit)))) (sym c.as_slice.ensures.value) c.in_ok-doubts.ensures.inside
 
 pub returns-clause-ends : goal.returns-clause-ends
@@ -38,5 +38,5 @@ returns-clause-ends g c = (circuit_items c.in_ok-circuit.circuit, c.in_ok-circui
 pub returns-clause-warns : goal.returns-clause-warns
 returns-clause-warns g c =
     let items = circuit_items c.in_ok-circuit.circuit in
-    let tells = subst (λ ms. TellsDoubts items ms (g.E.Output.seen c.args.err.now) (g.E.Output.seen c.tell_doubts.new.err)) (c.as_slice.ensures.value ∙ c.in_ok-doubts.ensures.value) c.tell_doubts.ensures.tells in
-    (items, c.in_ok-circuit.ensures.reads, tells)
+    let reports = subst (λ ms. ReportsDoubts items ms (g.E.Output.seen c.args.err.now) (g.E.Output.seen c.report_doubts.new.err)) (c.as_slice.ensures.value ∙ c.in_ok-doubts.ensures.value) c.report_doubts.ensures.reports in
+    (items, c.in_ok-circuit.ensures.reads, reports)

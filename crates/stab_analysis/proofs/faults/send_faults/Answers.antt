@@ -19,5 +19,5 @@ returns-in_err-send_table-in-Ok-None g c =
     } in
     let sent = found_at_once {T = Unit {0}} (IsTableText c.args.layout c.args.everywhere c.args.deterministic_only items) (g.O.Output.seen c.args.out.now) (g.O.Output.seen c.send_table.new.out) text
     (Err c.in_err-send_table-in-Ok-None.field-0.0) is c.in_err-send_table-in-Ok-None.ensures.sends in
-    let told = err_from_is_err_and c.from_residual-in_err-send_table-in-Ok-None.result c.from_residual-in_err-send_table-in-Ok-None.ensures.1 in
-    record { goes_on = rw (told.1, told.2) sent }
+    let reported = err_from_is_err_and c.from_residual-in_err-send_table-in-Ok-None.result c.from_residual-in_err-send_table-in-Ok-None.ensures.1 in
+    record { goes_on = rw (reported.1, reported.2) sent }

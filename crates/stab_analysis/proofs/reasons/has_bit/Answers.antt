@@ -1,5 +1,5 @@
 use Rattle.stab_analysis.proofs.Names.{◌∙◌, sym, ap, nat_lt, circuit_items, has_bit}
-use Rattle.stab_analysis.proofs.CheckLaws.{detectors_counted}
+use Rattle.stab_items.proofs.CountLemmas.{detectors_counted}
 use Rattle.stab_analysis.proofs.reasons.has_bit.Goals as goal
 
 pub returns-in-Detector : goal.returns-in-Detector

@@ -7,7 +7,7 @@ use Rattle.stab_analysis.proofs.reasons.send_reasons.Goals as goal
 pub returns-in_err-runs-clause-table : goal.returns-in_err-runs-clause-table
 returns-in_err-runs-clause-table g c =
     let items = circuit_items c.args.circuit.now in
-    coins-have-rows (qubits_of items) items (check-fits (qubits_of items) items (unroll items) (checked_on_own_qubits items c.requires.checked) refl c.items.ensures.apart)
+    coins-have-rows (qubits_of items) items (check-fits (qubits_of items) items (unroll items) (checked_on_own_qubits items c.requires.checked) refl c.items.ensures.distinct)
 
 pub returns-in_err-lists-clause-sends : goal.returns-in_err-lists-clause-sends
 returns-in_err-lists-clause-sends g c =

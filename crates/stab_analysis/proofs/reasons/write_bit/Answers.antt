@@ -1,6 +1,6 @@
 use Rattle.stab_analysis.proofs.Names.{◌≡◌, ◌∙◌, sym, ap, [], ◌∷◌, ◌++◌, append_assoc, codes, decimal, subst, TookAndFailed, WritesAll, failed_on, failed_within, path_text, bit_name, texts_joined}
 use Rattle.stab_texts.proofs.FaultTextLaws.{joined_three}
-use Rattle.stab_texts.proofs.WritingLaws.{writes_behind}
+use Rattle.stab_texts.proofs.WritingLaws.{writes_after}
 use Rattle.stab_analysis.proofs.reasons.write_bit.Goals as goal
 
 pub returns-in_err-write_texts : goal.returns-in_err-write_texts
@@ -29,5 +29,5 @@ returns g c =
     ∙ ap (λ l. l ++ (codes " " ++ path)) (sym c.bit_name-number.ensures.value) in
     record {
       writes = subst (λ l. WritesAll (g.O.Output.seen c.args.out.now) (g.O.Output.seen c.write_path.new.out) l c.write_path.result) text
-          (writes_behind (g.O.Output.seen c.write_path.new.out) front path c.write_path.result c.in_ok-write_texts.ensures.writes c.write_path.ensures.writes);
+          (writes_after (g.O.Output.seen c.write_path.new.out) front path c.write_path.result c.in_ok-write_texts.ensures.writes c.write_path.ensures.writes);
     }

@@ -1,5 +1,5 @@
 use Rattle.stab_analysis.proofs.Names.{◌<◌, ◌∙◌, All, ap, sym, subst, length, arith, Took, took_none, qubits_of, circuit_items, SendsUnflushed, bit_of, decides}
-use Rattle.stab_analysis.proofs.CheckLaws.{detectors_counted}
+use Rattle.stab_items.proofs.CountLemmas.{detectors_counted}
 use Rattle.stab_texts.proofs.FaultBitLaws.{below}
 use Rattle.stab_analysis.proofs.ReasonLaws.{is_random, no_places, reason_found, reason_none, some_places}
 use Rattle.stab_texts.proofs.SendingLaws.{sends_written}

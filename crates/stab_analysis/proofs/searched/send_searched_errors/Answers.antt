@@ -17,11 +17,11 @@ returns-in_err-send_layout-clause-goes_on g c =
     let errors = c.in_ok-errors.errors in
     let sent = found_as {T = Unit {0}} (IsErrorsText c.args.layout items errors) (IsSearchedText c.args.layout c.args.options items) (g.O.Output.seen c.args.out.now) (g.O.Output.seen c.send_layout.new.out)
     (Err c.in_err-send_layout.field-0.0) (λ bytes is. (errors, c.in_ok-errors.ensures.found, is)) c.in_err-send_layout.ensures.sends in
-    let told = err_from_is_err_and c.from_residual-in_err-send_layout.result c.from_residual-in_err-send_layout.ensures.1 in
-    rw (told.1, told.2) sent
+    let reported = err_from_is_err_and c.from_residual-in_err-send_layout.result c.from_residual-in_err-send_layout.ensures.1 in
+    rw (reported.1, reported.2) sent
 
-pub returns-in_err-send_layout-clause-told : goal.returns-in_err-send_layout-clause-told
-returns-in_err-send_layout-clause-told g c =
+pub returns-in_err-send_layout-clause-reported : goal.returns-in_err-send_layout-clause-reported
+returns-in_err-send_layout-clause-reported g c =
     heard_over c.args.options (circuit_items c.args.circuit.now) c.in_ok-errors.errors (g.P.Progress.heard c.args.progress.now) (g.P.Progress.heard c.begins.new.self) c.len.result c.in_ok-errors.ensures.found c.len.ensures.value
     c.begins.ensures.hears
 
@@ -30,7 +30,7 @@ returns-clause-goes_on g c =
     let sent = c.in_ok-send_layout.ensures.sends in
     (sent.0, (c.in_ok-errors.errors, c.in_ok-errors.ensures.found, sent.1), sent.2)
 
-pub returns-clause-told : goal.returns-clause-told
-returns-clause-told g c =
+pub returns-clause-reported : goal.returns-clause-reported
+returns-clause-reported g c =
     heard_over c.args.options (circuit_items c.args.circuit.now) c.in_ok-errors.errors (g.P.Progress.heard c.args.progress.now) (g.P.Progress.heard c.begins.new.self) c.len.result c.in_ok-errors.ensures.found c.len.ensures.value
     c.begins.ensures.hears

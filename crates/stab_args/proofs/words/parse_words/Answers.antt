@@ -58,7 +58,7 @@ returns-in-Err c =
         names = names;
         formats = formats;
         letters = letters;
-        ends = ends_with_error (stabsim names) words c.in-Err.error c.usage_of.result by_account c.usage_of.ensures.memory c.usage_of.ensures.told;
+        ends = ends_with_error (stabsim names) words c.in-Err.error c.usage_of.result by_account c.usage_of.ensures.memory c.usage_of.ensures.reported;
       };
     }
 

@@ -39,17 +39,17 @@ returns-in-Distance-clause-ends g c =
     (sym c.refuses_none-in-Distance.ensures.same) c.run_distance.ensures.ends in
     rw c.in-Distance.is (fault_of c.run_distance.result, ends, c.refuses_none-in-Distance.ensures.value)
 
-pub returns-in-Distance-clause-told : goal.returns-in-Distance-clause-told
-returns-in-Distance-clause-told g c = rw c.in-Distance.is (fault_of c.run_distance.result, c.run_distance.ensures.told, c.refuses_none-in-Distance.ensures.value)
+pub returns-in-Distance-clause-reported : goal.returns-in-Distance-clause-reported
+returns-in-Distance-clause-reported g c = rw c.in-Distance.is (fault_of c.run_distance.result, c.run_distance.ensures.reported, c.refuses_none-in-Distance.ensures.value)
 
-pub returns-in-EachDistance-clause-told : goal.returns-in-EachDistance-clause-told
-returns-in-EachDistance-clause-told g c = rw c.in-EachDistance.is (fault_of c.run_each_distance.result, c.run_each_distance.ensures.told, c.refuses_none-in-EachDistance.ensures.value)
+pub returns-in-EachDistance-clause-reported : goal.returns-in-EachDistance-clause-reported
+returns-in-EachDistance-clause-reported g c = rw c.in-EachDistance.is (fault_of c.run_each_distance.result, c.run_each_distance.ensures.reported, c.refuses_none-in-EachDistance.ensures.value)
 
-pub returns-in-CountedDistance-clause-told : goal.returns-in-CountedDistance-clause-told
-returns-in-CountedDistance-clause-told g c = rw c.in-CountedDistance.is (fault_of c.run_counted_distance.result, c.run_counted_distance.ensures.told, c.refuses_none-in-CountedDistance.ensures.value)
+pub returns-in-CountedDistance-clause-reported : goal.returns-in-CountedDistance-clause-reported
+returns-in-CountedDistance-clause-reported g c = rw c.in-CountedDistance.is (fault_of c.run_counted_distance.result, c.run_counted_distance.ensures.reported, c.refuses_none-in-CountedDistance.ensures.value)
 
-pub returns-in-SearchedErrors-clause-told : goal.returns-in-SearchedErrors-clause-told
-returns-in-SearchedErrors-clause-told g c = rw c.in-SearchedErrors.is (fault_of c.run_searched_errors.result, c.run_searched_errors.ensures.told, c.refuses_none-in-SearchedErrors.ensures.value)
+pub returns-in-SearchedErrors-clause-reported : goal.returns-in-SearchedErrors-clause-reported
+returns-in-SearchedErrors-clause-reported g c = rw c.in-SearchedErrors.is (fault_of c.run_searched_errors.result, c.run_searched_errors.ensures.reported, c.refuses_none-in-SearchedErrors.ensures.value)
 
 -- what is left of the error output
 

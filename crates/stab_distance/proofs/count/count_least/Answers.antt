@@ -1,5 +1,5 @@
-use Rattle.stab_distance.proofs.Names.{◌≡◌, ◌<◌, ◌+◌, ◌-◌, ℕ, List, [], ◌∙◌, sym, ap, subst, arith, length, Each, has, ways, Tells}
-use Rattle.stab_distance.proofs.CountLemmas.{count-nothing, groups-count, groups-none, groups-fewer, groups-told}
+use Rattle.stab_distance.proofs.Names.{◌≡◌, ◌<◌, ◌+◌, ◌-◌, ℕ, List, [], ◌∙◌, sym, ap, subst, arith, length, Each, has, ways, Reports}
+use Rattle.stab_distance.proofs.CountLemmas.{count-nothing, groups-count, groups-none, groups-fewer, groups-reported}
 use Rattle.stab_distance.proofs.TryLemmas.{part-whole, none-first}
 use Rattle.stab_distance.proofs.count.count_least.Goals as goal
 
@@ -30,9 +30,9 @@ returns-clause-count c =
     let left : ℕ = c.args.size - 1 + 1 in
     let all : left ≡ c.args.size = omega (arith, c.if-size-eq0.false) in
     let count = groups-count t part c.detectors.result rows weights c.in_ok-errors.ensures.table c.detectors.ensures.value c.in_ok-groups.ensures.groups c.args.size c.requires.least in
-    groups-told t part c.detectors.result rows weights c.in_ok-errors.ensures.table c.detectors.ensures.value c.in_ok-groups.ensures.groups c.args.size c.requires.least
+    groups-reported t part c.detectors.result rows weights c.in_ok-errors.ensures.table c.detectors.ensures.value c.in_ok-groups.ensures.groups c.args.size c.requires.least
     left c.in_ok-count.count all
-    (subst (λ (ws : List ℕ). Tells (ways part.detectors part.rows ws left []) c.in_ok-count.count) c.as_mut_slice.ensures.value
+    (subst (λ (ws : List ℕ). Reports (ways part.detectors part.rows ws left []) c.in_ok-count.count) c.as_mut_slice.ensures.value
     (part-whole part before after [] left c.in_ok-count.count c.in_ok-count.ensures.count
     (none-first part before after left c.as_slice.result.now (c.in_ok-count.ensures.weights ∙ ap length c.as_mut_slice.ensures.value ∙ count)
     (λ e o lt le flips. ap (has e) c.as_slice.ensures.value ∙ c.in_ok-firsts.ensures.all e o lt le flips)

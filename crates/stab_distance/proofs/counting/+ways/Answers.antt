@@ -1,4 +1,4 @@
-use Rattle.stab_distance.proofs.Names.{rules, ◌≡◌, ◌<◌, ◌≤◌, ◌⊎◌, [], ℕ, ◌+◌, ◌-◌, ◌*◌, List, ◌++◌, ◌∙◌, sym, ap, subst, arith, below_more, length, get_or, set, slice_index, bit_xor, ◌⊕◌, IsAscending, odd, row, Each, ways, Tells, HasNoFewer, MeetsEach}
+use Rattle.stab_distance.proofs.Names.{rules, ◌≡◌, ◌<◌, ◌≤◌, ◌⊎◌, [], ℕ, ◌+◌, ◌-◌, ◌*◌, List, ◌++◌, ◌∙◌, sym, ap, subst, arith, below_more, length, get_or, set, slice_index, bit_xor, ◌⊕◌, IsAscending, odd, row, Each, ways, Reports, HasNoFewer, MeetsEach}
 use Rattle.stab_distance.proofs.ChoiceLemmas.{none-after}
 use Rattle.stab_distance.proofs.FlipLemmas.{key-sum}
 use Rattle.stab_distance.proofs.ListLemmas.{each-has, has-at}
@@ -76,7 +76,7 @@ try_error-returns-clause-count t c =
     let next = c.as_slice.result.now in
     let x = row table.rows c.args.g in
     let weights = set c.args.weights.now c.args.g 0 in
-    subst (λ n. Tells (get_or c.args.weights.now c.args.g 0 * n) c.times.result)
+    subst (λ n. Reports (get_or c.args.weights.now c.args.g 0 * n) c.times.result)
     (ways-alike table.detectors table.rows weights c.args.rest next (x ++ s)
     (alike-after s next x (λ d. ap (odd d) c.as_slice.ensures.value ∙ c.in_ok-merge_into.ensures.odd d ∙ ap (λ (xs : List ℕ). odd d s ⊕ odd d xs) c.row.ensures.value)))
     (c.times.ensures.product (ways table.detectors table.rows weights c.args.rest next) c.in_ok-each.ensures.count)
@@ -136,7 +136,7 @@ ways-returns-clause-count t c =
     let after = c.try_each.new.weights in
     let tried = c.as_slice-tried.result.now in
     let back : c.args.left - 1 + 1 ≡ c.args.left = omega (arith, c.if-left-eq0.false) in
-    subst (λ n. Tells (ways table.detectors table.rows before n s) c.in_ok-sum.sum) back
+    subst (λ n. Reports (ways table.detectors table.rows before n s) c.in_ok-sum.sum) back
     (part-whole table before after s (c.args.left - 1 + 1) c.in_ok-sum.sum c.in_ok-sum.ensures.count
     (none-after table before after s (c.args.left - 1 + 1) tried (c.in_ok-sum.ensures.weights ∙ c.requires.weights)
     (subst (λ n. MeetsEach table before s n tried) (sym back)

@@ -1,5 +1,5 @@
 use Rattle.stab_distance.proofs.Names.{◌≡◌, ◌<◌, ◌≤◌, subst, arith, length, HasNone}
-use Rattle.stab_distance.proofs.DistinctLemmas.{none-told, bound-told}
+use Rattle.stab_distance.proofs.DistinctLemmas.{none-reported, bound-reported}
 use Rattle.stab_distance.proofs.BoundLemmas.{least-bounded}
 use Rattle.stab_distance.proofs.graphlike.by_cycles.Goals as goal
 
@@ -8,7 +8,7 @@ returns-then-certified c =
     let same : record { detectors = c.detectors-2.result; rows = c.rows.result.now } ≡ c.in-Some.graph.table =
     λ i. record { detectors = c.detectors-2.ensures.value i; rows = c.rows.ensures.value i } in
     record {
-      answer = none-told c.args.part.now c.in-Some.graph.table c.detectors.result c.in_ok-distinct.distinct.rows.items
+      answer = none-reported c.args.part.now c.in-Some.graph.table c.detectors.result c.in_ok-distinct.distinct.rows.items
           (rw c.in-Some.is at c.in_ok-new.ensures.table) c.detectors.ensures.value c.in_ok-distinct.ensures.all
           (subst HasNone same (c.in_ok-certified.ensures.none c.if-certified.true));
     }
@@ -18,7 +18,7 @@ returns-then-len-most c =
     let count : c.len-2.result ≡ length c.in-Some-2.set.items = omega (arith, c.len-2.ensures, c.in-Some-2.set.ok.0) in
     let same : c.len.result ≡ c.len-2.result = omega (arith, c.len.ensures, c.len-2.ensures) in
     let bound =
-    bound-told c.args.part.now c.in-Some.graph.table c.detectors.result c.in_ok-distinct.distinct.rows.items
+    bound-reported c.args.part.now c.in-Some.graph.table c.detectors.result c.in_ok-distinct.distinct.rows.items
     (rw c.in-Some.is at c.in_ok-new.ensures.table) c.detectors.ensures.value c.in_ok-distinct.ensures.all c.min-bound.result
     (c.in_ok-shown.ensures.yes c.if-not-shown.false) in
     let more : c.args.most < c.min-bound.result = omega (arith, same, c.if-len-most.true, c.min-bound.ensures, c.saturating_add.ensures, c.ranges.most) in
@@ -37,7 +37,7 @@ returns c =
     record {
       answer = least-bounded c.args.part.now c.args.most c.min-bound.result (length c.as_slice.result.now) c.in-Some-2.set.items
           (omega (arith, count, same, few, c.min-bound.ensures, c.saturating_add.ensures, c.in-Some-2.set.small)) (omega (arith, same, few, c.min-bound.ensures))
-          (bound-told c.args.part.now c.in-Some.graph.table c.detectors.result c.in_ok-distinct.distinct.rows.items
+          (bound-reported c.args.part.now c.in-Some.graph.table c.detectors.result c.in_ok-distinct.distinct.rows.items
           (rw c.in-Some.is at c.in_ok-new.ensures.table) c.detectors.ensures.value c.in_ok-distinct.ensures.all c.min-bound.result
           (c.in_ok-shown.ensures.yes c.if-not-shown.false))
           (rw c.in-Some-2.is at c.in_ok-logical_set.ensures.set);

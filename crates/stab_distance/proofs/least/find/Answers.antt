@@ -1,22 +1,22 @@
 use Rattle.stab_distance.proofs.Names.{subst, arith, Decides}
 use Rattle.stab_distance.proofs.ShortestLemmas.{none-up_to}
-use Rattle.stab_distance.proofs.TellingLemmas.{later, told-found, told-none, told-failed}
+use Rattle.stab_distance.proofs.ReportLemmas.{later, reported-found, reported-none, reported-failed}
 use Rattle.stab_distance.proofs.least.find.Goals as goal
 
-pub returns-in_err-found-2-clause-told : goal.returns-in_err-found-2-clause-told
-returns-in_err-found-2-clause-told g c =
+pub returns-in_err-found-2-clause-reported : goal.returns-in_err-found-2-clause-reported
+returns-in_err-found-2-clause-reported g c =
     let t = c.args.errors.now.table in
-    let before = rw c.in-None.is at c.in_ok-found.ensures.told in
-    told-failed _ _ _ t c.args.from c.max-end.result c.args.most _ _ _ c.from_residual-in_err-found-2.result
-    (later _ _ t c.args.from c.max-first.result c.max-end.result _ _ _ _ before c.in_err-found-2.ensures.told)
+    let before = rw c.in-None.is at c.in_ok-found.ensures.reported in
+    reported-failed _ _ _ t c.args.from c.max-end.result c.args.most _ _ _ c.from_residual-in_err-found-2.result
+    (later _ _ t c.args.from c.max-first.result c.max-end.result _ _ _ _ before c.in_err-found-2.ensures.reported)
     c.from_residual-in_err-found-2.ensures.1
 
-pub returns-in-Some-2-clause-told : goal.returns-in-Some-2-clause-told
-returns-in-Some-2-clause-told g c =
+pub returns-in-Some-2-clause-reported : goal.returns-in-Some-2-clause-reported
+returns-in-Some-2-clause-reported g c =
     let t = c.args.errors.now.table in
-    let before = rw c.in-None.is at c.in_ok-found.ensures.told in
-    let after = rw c.in-Some-2.is at c.in_ok-found-2.ensures.told in
-    told-found _ _ t c.args.from c.max-end.result c.args.most _ _ c.in-Some-2.found (later _ _ t c.args.from c.max-first.result c.max-end.result _ _ _ _ before after)
+    let before = rw c.in-None.is at c.in_ok-found.ensures.reported in
+    let after = rw c.in-Some-2.is at c.in_ok-found-2.ensures.reported in
+    reported-found _ _ t c.args.from c.max-end.result c.args.most _ _ c.in-Some-2.found (later _ _ t c.args.from c.max-first.result c.max-end.result _ _ _ _ before after)
     (rw c.in-Some-2.is at c.in_ok-found-2.ensures.some).logical
 
 pub returns-in-None-2-clause-found : goal.returns-in-None-2-clause-found
@@ -26,11 +26,11 @@ returns-in-None-2-clause-found g c =
       subst (Decides t) c.if-not-exists.false c.in_ok-exists.ensures.decides,
     )
 
-pub returns-in-None-2-clause-told : goal.returns-in-None-2-clause-told
-returns-in-None-2-clause-told g c =
+pub returns-in-None-2-clause-reported : goal.returns-in-None-2-clause-reported
+returns-in-None-2-clause-reported g c =
     let t = c.args.errors.now.table in
-    let before = rw c.in-None.is at c.in_ok-found.ensures.told in
-    let after = rw c.in-None-2.is at c.in_ok-found-2.ensures.told in
-    told-none _ _ t c.args.from c.max-end.result c.args.most _ _ (omega (arith, c.max-end.ensures, c.min.ensures, c.len.ensures.value))
+    let before = rw c.in-None.is at c.in_ok-found.ensures.reported in
+    let after = rw c.in-None-2.is at c.in_ok-found-2.ensures.reported in
+    reported-none _ _ t c.args.from c.max-end.result c.args.most _ _ (omega (arith, c.max-end.ensures, c.min.ensures, c.len.ensures.value))
     (omega (arith, c.max-end.ensures, c.min.ensures, c.requires.order)) (subst (Decides t) c.if-not-exists.false c.in_ok-exists.ensures.decides)
     (later _ _ t c.args.from c.max-first.result c.max-end.result _ _ _ _ before after)

@@ -1,24 +1,24 @@
 use Rattle.stab_distance.proofs.Names.{◌≡◌, ◌≤◌, ◌+◌, ℕ, List, subst, arith, map, slice_index, length, length-map, IsGathered}
 use Rattle.stab_distance.proofs.DistinctLemmas.{distinct-enough}
 use Rattle.stab_distance.proofs.EnoughLemmas.{none-within_enough, least-enough, distinct-stand}
-use Rattle.stab_distance.proofs.TellingLemmas.{told-early, told-after}
+use Rattle.stab_distance.proofs.ReportLemmas.{reported-early, reported-after}
 use Rattle.stab_distance.proofs.least.least_of.Goals as goal
 
-pub returns-in_err-found-clause-told : goal.returns-in_err-found-clause-told
-returns-in_err-found-clause-told g c =
-    told-early _ _ _ c.args.table.now c.in_ok-errors.errors.table c.min-first.result c.args.most _ _ _ c.from_residual-in_err-found.result
+pub returns-in_err-found-clause-reported : goal.returns-in_err-found-clause-reported
+returns-in_err-found-clause-reported g c =
+    reported-early _ _ _ c.args.table.now c.in_ok-errors.errors.table c.min-first.result c.args.most _ _ _ c.from_residual-in_err-found.result
     (none-within_enough c.args.table.now c.in_ok-errors.errors.table c.in_ok-distinct.distinct.numbers.items
     (distinct-stand c.args.table.now c.in_ok-errors.errors.table c.detectors.result c.in_ok-distinct.distinct.rows.items c.in_ok-errors.ensures.table c.detectors.ensures.value
     c.in_ok-distinct.ensures.all c.in_ok-distinct.distinct.numbers.items c.in_ok-distinct.ensures.rows))
-    c.in_err-found.ensures.told c.from_residual-in_err-found.ensures.1
+    c.in_err-found.ensures.reported c.from_residual-in_err-found.ensures.1
 
-pub returns-in_err-set-in-Some-clause-told : goal.returns-in_err-set-in-Some-clause-told
-returns-in_err-set-in-Some-clause-told g c =
-    told-early _ _ _ c.args.table.now c.in_ok-errors.errors.table c.min-first.result c.args.most _ _ _ c.from_residual-in_err-set-in-Some.result
+pub returns-in_err-set-in-Some-clause-reported : goal.returns-in_err-set-in-Some-clause-reported
+returns-in_err-set-in-Some-clause-reported g c =
+    reported-early _ _ _ c.args.table.now c.in_ok-errors.errors.table c.min-first.result c.args.most _ _ _ c.from_residual-in_err-set-in-Some.result
     (none-within_enough c.args.table.now c.in_ok-errors.errors.table c.in_ok-distinct.distinct.numbers.items
     (distinct-stand c.args.table.now c.in_ok-errors.errors.table c.detectors.result c.in_ok-distinct.distinct.rows.items c.in_ok-errors.ensures.table c.detectors.ensures.value
     c.in_ok-distinct.ensures.all c.in_ok-distinct.distinct.numbers.items c.in_ok-distinct.ensures.rows))
-    c.in_ok-found.ensures.told c.from_residual-in_err-set-in-Some.ensures.1
+    c.in_ok-found.ensures.reported c.from_residual-in_err-set-in-Some.ensures.1
 
 gathered-in : goal.returns-in-Some-clause-answer
 gathered-in g c =
@@ -35,26 +35,26 @@ gathered-in g c =
 pub returns-in-Some-clause-answer : goal.returns-in-Some-clause-answer
 returns-in-Some-clause-answer g c = gathered-in g c
 
-pub returns-in-Some-clause-told : goal.returns-in-Some-clause-told
-returns-in-Some-clause-told g c =
-    let tells = rw c.in-Some.is at c.in_ok-found.ensures.told in
+pub returns-in-Some-clause-reported : goal.returns-in-Some-clause-reported
+returns-in-Some-clause-reported g c =
+    let reports = rw c.in-Some.is at c.in_ok-found.ensures.reported in
     let none = (none-within_enough c.args.table.now c.in_ok-errors.errors.table c.in_ok-distinct.distinct.numbers.items
     (distinct-stand c.args.table.now c.in_ok-errors.errors.table c.detectors.result c.in_ok-distinct.distinct.rows.items c.in_ok-errors.ensures.table c.detectors.ensures.value
     c.in_ok-distinct.ensures.all c.in_ok-distinct.distinct.numbers.items c.in_ok-distinct.ensures.rows)) in
     let found = subst (λ (xs : List ℕ). IsGathered (map (slice_index c.as_slice-in-Some.result.now) xs) c.in_ok-set-in-Some.set.items) c.as_slice.ensures.value c.in_ok-set-in-Some.ensures.gathered in
     let fewer : length c.in_ok-set-in-Some.set.items ≤ length c.in-Some.found.items =
     omega (arith, found.fewer, length-map c.in-Some.found.items (slice_index c.as_slice-in-Some.result.now)) in
-    let all : tells.last + 1 ≡ length c.in_ok-set-in-Some.set.items =
-    omega (arith, tells.all, fewer, none tells.last tells.none c.in_ok-set-in-Some.set.items (gathered-in g c).logical) in
-    record { last = tells.last; none = none tells.last tells.none; heard = tells.heard; all = all }
+    let all : reports.last + 1 ≡ length c.in_ok-set-in-Some.set.items =
+    omega (arith, reports.all, fewer, none reports.last reports.none c.in_ok-set-in-Some.set.items (gathered-in g c).logical) in
+    record { last = reports.last; none = none reports.last reports.none; heard = reports.heard; all = all }
 
-pub returns-in_err-kept-clause-told : goal.returns-in_err-kept-clause-told
-returns-in_err-kept-clause-told g c =
-    told-early _ _ _ c.args.table.now c.in_ok-errors.errors.table c.min-first.result c.args.most _ _ _ c.from_residual-in_err-kept.result
+pub returns-in_err-kept-clause-reported : goal.returns-in_err-kept-clause-reported
+returns-in_err-kept-clause-reported g c =
+    reported-early _ _ _ c.args.table.now c.in_ok-errors.errors.table c.min-first.result c.args.most _ _ _ c.from_residual-in_err-kept.result
     (none-within_enough c.args.table.now c.in_ok-errors.errors.table c.in_ok-distinct.distinct.numbers.items
     (distinct-stand c.args.table.now c.in_ok-errors.errors.table c.detectors.result c.in_ok-distinct.distinct.rows.items c.in_ok-errors.ensures.table c.detectors.ensures.value
     c.in_ok-distinct.ensures.all c.in_ok-distinct.distinct.numbers.items c.in_ok-distinct.ensures.rows))
-    c.in_ok-found.ensures.told c.from_residual-in_err-kept.ensures.1
+    c.in_ok-found.ensures.reported c.from_residual-in_err-kept.ensures.1
 
 pub least_of_kept-requires-clause-stand : goal.least_of_kept-requires-clause-stand
 least_of_kept-requires-clause-stand g c =
@@ -69,7 +69,7 @@ least_of_kept-requires-clause-none g c =
     c.in_ok-distinct.ensures.all c.in_ok-distinct.distinct.numbers.items c.in_ok-distinct.ensures.rows)
     c.min-first.result (rw c.in-None.is at c.in_ok-found.ensures.none)
 
-pub returns-clause-told : goal.returns-clause-told
-returns-clause-told g c =
-    told-after _ _ c.args.table.now c.in_ok-errors.errors.table c.min-first.result c.args.most _ _ _ c.least_of_kept.result (rw c.in-None.is at c.in_ok-found.ensures.told)
-    c.least_of_kept.ensures.told
+pub returns-clause-reported : goal.returns-clause-reported
+returns-clause-reported g c =
+    reported-after _ _ c.args.table.now c.in_ok-errors.errors.table c.min-first.result c.args.most _ _ _ c.least_of_kept.result (rw c.in-None.is at c.in_ok-found.ensures.reported)
+    c.least_of_kept.ensures.reported

@@ -1,6 +1,6 @@
 use Rattle.stab_distance.proofs.Names.{◌≡◌, ◌≤◌, ◌+◌, ℕ, List, subst, arith, map, slice_index, length, length-map, IsGathered, IsExcludedBy}
 use Rattle.stab_distance.proofs.EnoughLemmas.{none-enough, none-within_enough, none-within_fewer, some-enough, least-enough}
-use Rattle.stab_distance.proofs.TellingLemmas.{ok-of_err, told-table}
+use Rattle.stab_distance.proofs.ReportLemmas.{ok-of_err, reported-table}
 use Rattle.stab_distance.proofs.least.least_of_kept.Goals as goal
 
 pub find-requires : goal.find-requires
@@ -9,18 +9,18 @@ find-requires g c = record {
   none = none-within_fewer c.args.table.now c.args.kept.errors.table c.args.kept.numbers.items c.requires.stand c.args.from c.requires.none;
 }
 
-pub returns-in_err-found-clause-told : goal.returns-in_err-found-clause-told
-returns-in_err-found-clause-told g c =
-    told-table _ _ c.args.table.now c.args.kept.errors.table c.args.from c.args.most _ _ _ c.from_residual.result
+pub returns-in_err-found-clause-reported : goal.returns-in_err-found-clause-reported
+returns-in_err-found-clause-reported g c =
+    reported-table _ _ c.args.table.now c.args.kept.errors.table c.args.from c.args.most _ _ _ c.from_residual.result
     (none-within_enough c.args.table.now c.args.kept.errors.table c.args.kept.numbers.items c.requires.stand)
-    c.in_err-found.ensures.told (ok-of_err _ _ _ (λ a. IsExcludedBy c.args.most a c.in_err-found.ensures.told.last) c.from_residual.result c.from_residual.ensures.1)
+    c.in_err-found.ensures.reported (ok-of_err _ _ _ (λ a. IsExcludedBy c.args.most a c.in_err-found.ensures.reported.last) c.from_residual.result c.from_residual.ensures.1)
 
-pub returns-in_err-set-in-Least-clause-told : goal.returns-in_err-set-in-Least-clause-told
-returns-in_err-set-in-Least-clause-told g c =
-    told-table _ _ c.args.table.now c.args.kept.errors.table c.args.from c.args.most _ _ _ c.from_residual-in_err-set-in-Least.result
+pub returns-in_err-set-in-Least-clause-reported : goal.returns-in_err-set-in-Least-clause-reported
+returns-in_err-set-in-Least-clause-reported g c =
+    reported-table _ _ c.args.table.now c.args.kept.errors.table c.args.from c.args.most _ _ _ c.from_residual-in_err-set-in-Least.result
     (none-within_enough c.args.table.now c.args.kept.errors.table c.args.kept.numbers.items c.requires.stand)
-    c.in_ok-found.ensures.told
-    (ok-of_err _ _ _ (λ a. IsExcludedBy c.args.most a c.in_ok-found.ensures.told.last) c.from_residual-in_err-set-in-Least.result c.from_residual-in_err-set-in-Least.ensures.1)
+    c.in_ok-found.ensures.reported
+    (ok-of_err _ _ _ (λ a. IsExcludedBy c.args.most a c.in_ok-found.ensures.reported.last) c.from_residual-in_err-set-in-Least.result c.from_residual-in_err-set-in-Least.ensures.1)
 
 gathered-in : goal.returns-in-Least-clause-answer
 gathered-in g c =
@@ -33,16 +33,16 @@ gathered-in g c =
 pub returns-in-Least-clause-answer : goal.returns-in-Least-clause-answer
 returns-in-Least-clause-answer g c = gathered-in g c
 
-pub returns-in-Least-clause-told : goal.returns-in-Least-clause-told
-returns-in-Least-clause-told g c =
-    let tells = rw c.in-Least.is at c.in_ok-found.ensures.told in
+pub returns-in-Least-clause-reported : goal.returns-in-Least-clause-reported
+returns-in-Least-clause-reported g c =
+    let reports = rw c.in-Least.is at c.in_ok-found.ensures.reported in
     let none = none-within_enough c.args.table.now c.args.kept.errors.table c.args.kept.numbers.items c.requires.stand in
     let found = subst (λ (xs : List ℕ). IsGathered (map (slice_index c.as_slice-in-Least.result.now) xs) c.in_ok-set-in-Least.set.items) c.as_slice.ensures.value c.in_ok-set-in-Least.ensures.gathered in
     let fewer : length c.in_ok-set-in-Least.set.items ≤ length c.in-Least.found.items =
     omega (arith, found.fewer, length-map c.in-Least.found.items (slice_index c.as_slice-in-Least.result.now)) in
-    let all : tells.last + 1 ≡ length c.in_ok-set-in-Least.set.items =
-    omega (arith, tells.all, fewer, none tells.last tells.none c.in_ok-set-in-Least.set.items (gathered-in g c).logical) in
-    told-table _ _ c.args.table.now c.args.kept.errors.table c.args.from c.args.most _ _ _ _ none tells all
+    let all : reports.last + 1 ≡ length c.in_ok-set-in-Least.set.items =
+    omega (arith, reports.all, fewer, none reports.last reports.none c.in_ok-set-in-Least.set.items (gathered-in g c).logical) in
+    reported-table _ _ c.args.table.now c.args.kept.errors.table c.args.from c.args.most _ _ _ _ none reports all
 
 pub returns-in-NoneWithin-clause-answer : goal.returns-in-NoneWithin-clause-answer
 returns-in-NoneWithin-clause-answer g c =
@@ -51,20 +51,20 @@ returns-in-NoneWithin-clause-answer g c =
       some-enough c.args.table.now c.args.kept.errors.table c.args.kept.numbers.items c.requires.stand found.1,
     )
 
-pub returns-in-NoneWithin-clause-told : goal.returns-in-NoneWithin-clause-told
-returns-in-NoneWithin-clause-told g c =
-    let tells = rw c.in-NoneWithin.is at c.in_ok-found.ensures.told in
-    told-table _ _ c.args.table.now c.args.kept.errors.table c.args.from c.args.most _ _ _ _
+pub returns-in-NoneWithin-clause-reported : goal.returns-in-NoneWithin-clause-reported
+returns-in-NoneWithin-clause-reported g c =
+    let reports = rw c.in-NoneWithin.is at c.in_ok-found.ensures.reported in
+    reported-table _ _ c.args.table.now c.args.kept.errors.table c.args.from c.args.most _ _ _ _
     (none-within_enough c.args.table.now c.args.kept.errors.table c.args.kept.numbers.items c.requires.stand)
-    tells tells.all
+    reports reports.all
 
 pub returns-clause-answer : goal.returns-clause-answer
 returns-clause-answer g c =
     none-enough c.args.table.now c.args.kept.errors.table c.args.kept.numbers.items c.requires.stand (rw c.in-NoneAtAll.is at c.in_ok-found.ensures.found)
 
-pub returns-clause-told : goal.returns-clause-told
-returns-clause-told g c =
-    let tells = rw c.in-NoneAtAll.is at c.in_ok-found.ensures.told in
-    told-table _ _ c.args.table.now c.args.kept.errors.table c.args.from c.args.most _ _ _ _
+pub returns-clause-reported : goal.returns-clause-reported
+returns-clause-reported g c =
+    let reports = rw c.in-NoneAtAll.is at c.in_ok-found.ensures.reported in
+    reported-table _ _ c.args.table.now c.args.kept.errors.table c.args.from c.args.most _ _ _ _
     (none-within_enough c.args.table.now c.args.kept.errors.table c.args.kept.numbers.items c.requires.stand)
-    tells tells.all
+    reports reports.all

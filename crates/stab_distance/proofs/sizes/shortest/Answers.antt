@@ -1,5 +1,5 @@
 use Rattle.stab_distance.proofs.Names.{◌≡◌, arith, IsLast}
-use Rattle.stab_distance.proofs.TellingLemmas.{on-next, ok-of_err}
+use Rattle.stab_distance.proofs.ReportLemmas.{on-next, ok-of_err}
 use Rattle.stab_distance.proofs.sizes.shortest.Goals as goal
 
 pub sizes-preserved : goal.sizes-preserved
@@ -10,16 +10,16 @@ sizes-preserved g c = record {
       c.none_within.ensures.hears;
 }
 
-pub returns-in_err-found-clause-told : goal.returns-in_err-found-clause-told
-returns-in_err-found-clause-told g c = record {
+pub returns-in_err-found-clause-reported : goal.returns-in_err-found-clause-reported
+returns-in_err-found-clause-reported g c = record {
   last = c.sizes.left;
   none = c.sizes.invariant.none;
   heard = c.sizes.invariant.heard;
   all = ok-of_err _ _ _ (λ a. IsLast c.args.most a c.sizes.left) c.from_residual.result c.from_residual.ensures.1;
 }
 
-pub returns-in-Some-clause-told : goal.returns-in-Some-clause-told
-returns-in-Some-clause-told g c = record {
+pub returns-in-Some-clause-reported : goal.returns-in-Some-clause-reported
+returns-in-Some-clause-reported g c = record {
   last = c.sizes.left;
   none = c.sizes.invariant.none;
   heard = c.sizes.invariant.heard;
@@ -29,7 +29,7 @@ returns-in-Some-clause-told g c = record {
 pub returns-clause-none : goal.returns-clause-none
 returns-clause-none g c = λ errors e. omega (arith, c.sizes.invariant.none errors e, c.sizes-test.false)
 
-pub returns-clause-told : goal.returns-clause-told
-returns-clause-told g c =
+pub returns-clause-reported : goal.returns-clause-reported
+returns-clause-reported g c =
     let all : c.sizes.left ≡ c.args.most = omega (arith, c.sizes.invariant.within, c.sizes-test.false) in
     record { last = c.sizes.left; none = c.sizes.invariant.none; heard = c.sizes.invariant.heard; all = all }

@@ -1,9 +1,9 @@
 use Rattle.stab_distance.proofs.Names.{IsLast}
-use Rattle.stab_distance.proofs.TellingLemmas.{ok-of_err}
+use Rattle.stab_distance.proofs.ReportLemmas.{ok-of_err}
 use Rattle.stab_distance.proofs.sizes.shortest_without_pairs.Goals as goal
 
-pub returns-in_err-leave_out_pairs-clause-told : goal.returns-in_err-leave_out_pairs-clause-told
-returns-in_err-leave_out_pairs-clause-told g c = record {
+pub returns-in_err-leave_out_pairs-clause-reported : goal.returns-in_err-leave_out_pairs-clause-reported
+returns-in_err-leave_out_pairs-clause-reported g c = record {
   last = c.args.from;
   none = c.requires.none;
   heard = λ first said h. h;

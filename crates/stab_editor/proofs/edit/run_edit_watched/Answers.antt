@@ -1,5 +1,5 @@
 use Rattle.stab_editor.proofs.Names.{◌≡◌, ◌∙◌, ap, sym, circuit_items, Seeded, Listed, seed_coin, list_coin, coins_of_shot, qubits_for}
-use Rattle.stab_editor.proofs.EndingLaws.{edit_ended, edit_turned}
+use Rattle.stab_editor.proofs.EndingLaws.{edit_ended, edit_negated}
 use Rattle.stab_editor.proofs.edit.run_edit_watched.Goals as goal
 use Rattle.stab_editor.proofs.edit.run_edit_watched.Goals.{in-Some, in-None}
 
@@ -13,8 +13,8 @@ returns-in-Seed g c =
     ] in
     let coins = ap (λ (k : Seeded). seed_coin k.seed k.shot) c.new-coins.ensures.value ∙ sym (ap (λ x. coins_of_shot x 0) c.in-Seed.is) in
     record {
-      ends = edit_ended c.args.framed c.args.qubits c.args.source.now _ _ _ _ _ _ items c.edit_circuit.result c.match-qubits.n _ c.in_ok-circuit.ensures.reads is_n coins c.edit_circuit.ensures.ends;
-      turns = edit_turned g.S.Input.seen g.O.Output.seen g.W.Watcher.log c.args.framed c.args.qubits c.args.source.now _ _ _ _ _ _ items c.edit_circuit.result c.match-qubits.n _ c.in_ok-circuit.ensures.reads is_n coins c.edit_circuit.ensures.turns;
+      ends = edit_ended c.args.counted c.args.qubits c.args.source.now _ _ _ _ _ _ items c.edit_circuit.result c.match-qubits.n _ c.in_ok-circuit.ensures.reads is_n coins c.edit_circuit.ensures.ends;
+      turns = edit_negated g.S.Input.seen g.O.Output.seen g.W.Watcher.log c.args.counted c.args.qubits c.args.source.now _ _ _ _ _ _ items c.edit_circuit.result c.match-qubits.n _ c.in_ok-circuit.ensures.reads is_n coins c.edit_circuit.ensures.turns;
     }
 
 pub returns-in-List : goal.returns-in-List
@@ -27,6 +27,6 @@ returns-in-List g c =
     ] in
     let coins = ap (λ (k : Listed). list_coin k.bits) c.new-coins-in-List.ensures.value ∙ ap list_coin c.as_slice.ensures.value ∙ sym (ap (λ x. coins_of_shot x 0) c.in-List.is) in
     record {
-      ends = edit_ended c.args.framed c.args.qubits c.args.source.now _ _ _ _ _ _ items c.edit_circuit-in-List.result c.match-qubits.n _ c.in_ok-circuit.ensures.reads is_n coins c.edit_circuit-in-List.ensures.ends;
-      turns = edit_turned g.S.Input.seen g.O.Output.seen g.W.Watcher.log c.args.framed c.args.qubits c.args.source.now _ _ _ _ _ _ items c.edit_circuit-in-List.result c.match-qubits.n _ c.in_ok-circuit.ensures.reads is_n coins c.edit_circuit-in-List.ensures.turns;
+      ends = edit_ended c.args.counted c.args.qubits c.args.source.now _ _ _ _ _ _ items c.edit_circuit-in-List.result c.match-qubits.n _ c.in_ok-circuit.ensures.reads is_n coins c.edit_circuit-in-List.ensures.ends;
+      turns = edit_negated g.S.Input.seen g.O.Output.seen g.W.Watcher.log c.args.counted c.args.qubits c.args.source.now _ _ _ _ _ _ items c.edit_circuit-in-List.result c.match-qubits.n _ c.in_ok-circuit.ensures.reads is_n coins c.edit_circuit-in-List.ensures.turns;
     }

@@ -19,7 +19,7 @@ judge-returns-in-Ok-edit_result_in-clause-value t c =
     let b = c.in-Some.block.now in
     let round = c.in-Ok-edit_result_in.round in
     let is = c.in-Ok-edit_result_in.ensures.ok in
-    ap (λ s. Ok (record { first = b; behind = b + 1; put = s; within = round.first })) (c.repeated.ensures.value ∙ ap (λ n. repeated n round.total) count)
+    ap (λ s. Ok (record { first = b; following = b + 1; put = s; within = round.first })) (c.repeated.ensures.value ∙ ap (λ n. repeated n round.total) count)
     ∙ judged_ok c.args.edit.now b c.in-Ok.inner.count round.first c.in-Some.others.now c.args.blocks.now found.0 c.args.items.now c.in-Ok.inner.body.now round.total c.in-Some.ensures.cases.0 found.1
     (rw count at c.number.ensures.some) is.total is.first
 
@@ -62,7 +62,7 @@ edit_result_in-returns-in-Ok-clause-ok t c =
     let j = c.in-Ok.ensures in
     let xs = c.args.items.now in
     let last = c.summary_between-in-Ok-2 in
-    let back = subst (λ l. IsSumOf (listed (drop c.in-Ok.judgement.behind l)) last.result) (take-length xs) last.ensures.sum in
+    let back = subst (λ l. IsSumOf (listed (drop c.in-Ok.judgement.following l)) last.result) (take-length xs) last.ensures.sum in
     edit_result_is c.args.edit.now c.args.blocks.now xs c.in-Ok.judgement c.summary_between.result c.summary_between-in-Ok.result last.result c.edit_result_of.result j.value j.small j.front j.good
     c.summary_between.ensures.sum c.summary_between-in-Ok.ensures.sum back j.within_put j.within_gone c.edit_result_of.ensures.value c.edit_result_of.ensures.small
 

@@ -6,12 +6,12 @@ use Rattle.stab_errors.proofs.everywhere_laws.wrong_records_are_inverted.Goals a
 
 pub returns : goal.returns
 returns c = record {
-  law = λ n letters items number flip back i fits apart has.
+  law = λ n letters items number flip back i fits distinct has.
       let found = c.deterministic_parities.ensures.law in
       let bits = c.deterministic_parities.ensures.bits in
       let places = c.faults_flip_parities.ensures.places in
       let adds = c.faults_add.ensures.law in
       All-contains (IsInverted n items fits found bits places adds) (errors_of true letters items) (wrong_record number flip back)
-      (errors-inverted n items fits found bits places adds letters apart) has
+      (errors-inverted n items fits found bits places adds letters distinct) has
       (All-contains (Fits n items) (errors_of true letters items) (wrong_record number flip back) (errors-fit n items true letters fits) has) i;
 }

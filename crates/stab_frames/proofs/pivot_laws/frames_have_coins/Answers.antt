@@ -1,4 +1,4 @@
-use Rattle.stab_frames.proofs.FramedCoinLemmas.{frame-coins}
+use Rattle.stab_frames.proofs.PropagatedCoinLemmas.{frame-coins}
 use Rattle.stab_frames.proofs.pivot_laws.frames_have_coins.Goals as goal
 
 pub returns : goal.returns

@@ -7,14 +7,14 @@ loop-group-preserved c =
     let step = c.in-Some.ensures.steps.1 in
     let group = c.in-Some.group.now in
     let rest = chunks_rest c.loop-group.group-iterator in
-    let behind = chunks_rest c.next.new.self in
-    let cut : length rest ≡ length group + length behind = ap length step.0 ∙ length-append group behind in
+    let following = chunks_rest c.next.new.self in
+    let cut : length rest ≡ length group + length following = ap length step.0 ∙ length-append group following in
     let more = ap length c.in_ok-push.ensures.items ∙ length_push _ c.transposed.result in
     record {
       whole = search rules;
       room = omega (arith, c.loop-group.invariant.room, c.loop-group.invariant.whole, cut, more, step.1);
       made = λ j lt.
-          next-block j rest group behind _ c.transposed.result _ c.push.new.self.items (lane_bits word_bit j c.args.words.now)
+          next-block j rest group following _ c.transposed.result _ c.push.new.self.items (lane_bits word_bit j c.args.words.now)
           c.loop-group.invariant.whole step.0 step.1 (λ k few. c.transposed.ensures.value j k lt few) (c.loop-group.invariant.made j lt) c.in_ok-push.ensures.items;
     }
 

@@ -1,6 +1,7 @@
 use Rattle.stab_lanes.proofs.Names.{rules, arith, refl, true, false, ◌≡◌, ◌+◌, sym, ◌∙◌, ap, length, take, get_or, [], ◌∷◌, length-append, length-take, ones, times_where, ones-few, lane_output, lane_difference}
-use Rattle.stab_lanes.proofs.PivotLemmas.{ones-before, counted-next, decided-deterministic, decided-random}
+use Rattle.stab_lanes.proofs.PivotLemmas.{counted-next, decided-deterministic, decided-random}
 use Rattle.stab_lanes.proofs.measure.decide.Goals as goal
+use Rattle.stab_frames.proofs.PivotAtLemmas.{ones-before}
 
 pub string-requires : goal.string-requires
 string-requires g c =
@@ -27,11 +28,11 @@ returns-then-not-bit_at-clause-counted g c =
     (ap length c.in_ok-push.ensures.items ∙ length-append c.args.lanes.now.free.items (false ∷ []))
 
 pub returns-then-not-bit_at-clause-measures : goal.returns-then-not-bit_at-clause-measures
-returns-then-not-bit_at-clause-measures g c = λ l lt m apart.
+returns-then-not-bit_at-clause-measures g c = λ l lt m distinct.
     let at = g.W.Word.at in
     let coin : c.len-coin.result ≡ length c.args.lanes.now.free.items = search rules in
     let flag : get_or c.args.recorded_pivots.free.now (length c.args.lanes.now.free.items) false ≡ false = grind (arith, coin, c.bit_at.ensures.value) in
-    decided-deterministic c.args.recorded_pivots (g.D.Draw.sequences c.args.draw.now l) m (at c.args.anticommuting l) (lane_difference at l c.args.lanes.now) _ apart
+    decided-deterministic c.args.recorded_pivots (g.D.Draw.sequences c.args.draw.now l) m (at c.args.anticommuting l) (lane_difference at l c.args.lanes.now) _ distinct
     (λ i. record (lane_output at l c.args.lanes.now) { free = c.in_ok-push.ensures.items i }) flag refl
 
 pub returns-clause-counted : goal.returns-clause-counted
@@ -42,14 +43,14 @@ returns-clause-counted g c =
     (ap length c.in_ok-push.ensures.items ∙ length-append c.args.lanes.now.free.items (false ∷ []))
 
 pub returns-clause-measures : goal.returns-clause-measures
-returns-clause-measures g c = λ l lt m apart.
+returns-clause-measures g c = λ l lt m distinct.
     let at = g.W.Word.at in
     let recorded_pivots = c.args.recorded_pivots in
     let old = lane_difference at l c.args.lanes.now in
     let coins = g.D.Draw.sequences c.args.draw.now l in
     let coin : c.len-coin.result ≡ length c.args.lanes.now.free.items = search rules in
     let flag : get_or recorded_pivots.free.now (length c.args.lanes.now.free.items) false ≡ true = grind (arith, coin, c.bit_at.ensures.value) in
-    decided-random recorded_pivots coins m (at c.args.anticommuting l) old _ apart
+    decided-random recorded_pivots coins m (at c.args.anticommuting l) old _ distinct
     (λ i. record (lane_output at l c.args.lanes.now) { free = c.in_ok-push.ensures.items i })
     c.args.number.now (at c.coins-flips.result l) c.requires.all c.requires.counted flag
     (c.coins-flips.ensures.value l lt ∙ ap coins coin)

@@ -16,7 +16,7 @@ returns-clause-advanced g c =
       follow = λ l lt.
           let pivots = lane_pivots c.args.recorded_pivots (g.D.Draw.sequences c.args.draw.now l) in
           let before = lane_difference g.W.Word.at l c.args.lanes.now in
-          let behind = lane_difference g.W.Word.at l c.propagate_part.new.lanes in
-          subst (λ xs. Follows n pivots xs (no_difference n) behind) (sym (take-add from count steps))
-          (follows-append n pivots (take from steps) (take count (drop from steps)) (no_difference n) before behind (advanced.follow l lt) (done.follows l lt));
+          let following = lane_difference g.W.Word.at l c.propagate_part.new.lanes in
+          subst (λ xs. Follows n pivots xs (no_difference n) following) (sym (take-add from count steps))
+          (follows-append n pivots (take from steps) (take count (drop from steps)) (no_difference n) before following (advanced.follow l lt) (done.follows l lt));
     }

@@ -8,7 +8,7 @@ propagate_left-requires-clause-fits g c =
     subst (All (StepFits n)) (sym c.in_ok-cursor.ensures.steps)
     (All-drop (StepFits n) c.args.from (unroll items)
     (subst (All (StepFits n)) c.in_ok-cursor.ensures.all
-    (check-fits n items c.in_ok-cursor.cursor.all c.requires.checked c.in_ok-cursor.ensures.all c.in_ok-cursor.ensures.apart)))
+    (check-fits n items c.in_ok-cursor.cursor.all c.requires.checked c.in_ok-cursor.ensures.all c.in_ok-cursor.ensures.distinct)))
 
 pub returns-clause-coin : goal.returns-clause-coin
 returns-clause-coin g c =
@@ -26,4 +26,4 @@ returns-clause-fits g c =
     let items = circuit_items c.args.circuit.now in
     let n = c.args.recorded_pivots.strings.now.qubits in
     subst (All (StepFits n)) c.in_ok-cursor.ensures.all
-    (check-fits n items c.in_ok-cursor.cursor.all c.requires.checked c.in_ok-cursor.ensures.all c.in_ok-cursor.ensures.apart)
+    (check-fits n items c.in_ok-cursor.cursor.all c.requires.checked c.in_ok-cursor.ensures.all c.in_ok-cursor.ensures.distinct)

@@ -1,4 +1,4 @@
-use Rattle.stab_lanes.proofs.Names.{arith, refl, sym, ap, subst, ◌∙◌, ◌∷◌, [], measured, step_shown, IsApart, coins_of, StepFits, fits-target, lane_pivots, lane_difference, Follows}
+use Rattle.stab_lanes.proofs.Names.{arith, refl, sym, ap, subst, ◌∙◌, ◌∷◌, [], measured, step_shown, HasDistinctQubits, coins_of, StepFits, fits-target, lane_pivots, lane_difference, Follows}
 use Rattle.stab_lanes.proofs.FollowLemmas.{follows-target, follows-targets}
 use Rattle.stab_lanes.proofs.steps.propagate_targets.Goals as goal
 
@@ -13,7 +13,7 @@ propagate_step-requires g c =
       fits = subst (StepFits n) (sym c.measured_step-step.ensures.value)
           (fits-target n n (measured c.args.measurement) c.args.targets.now c.loop-target.target-index c.target-item.result
           refl c.loop-target-test.true c.target-item.is c.requires.fits);
-      apart = subst IsApart (sym c.measured_step-step.ensures.value) tt;
+      distinct = subst HasDistinctQubits (sym c.measured_step-step.ensures.value) tt;
     }
 
 pub loop-target-preserved : goal.loop-target-preserved

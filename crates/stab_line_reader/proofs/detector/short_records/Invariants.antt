@@ -1,5 +1,5 @@
 use Rattle.stab_line_reader.proofs.Names.{◌≡◌, ◌≤◌, ◌-◌, length, take, All, each, words, IsLookback, lookback_of}
-use Rattle.stab_line_reader.proofs.ResultLemmas.{behind}
+use Rattle.stab_line_reader.proofs.ResultLemmas.{following}
 use Rattle.stab_line_reader.proofs.detector.short_records.Given as goal
 
 abbrev pub invariant-loop-count : goal.invariant-loop-count
@@ -7,7 +7,7 @@ invariant-loop-count l = record {
   long : length l.found ≡ 2;
   room : l.count ≤ 2;
   in_range : All IsLookback (take l.count l.found);
-  kept : behind (take l.count l.found) (each lookback_of (words l.rest)) ≡ each lookback_of (words l.words_text);
+  kept : following (take l.count l.found) (each lookback_of (words l.rest)) ≡ each lookback_of (words l.words_text);
 }
 
 abbrev pub decreases-loop-count : goal.decreases-loop-count

@@ -4,7 +4,7 @@ use Rattle.stab_line_reader.proofs.factor.names_twice.Given as goal
 abbrev pub invariant-loop-start : goal.invariant-loop-start
 invariant-loop-start l = record {
   within : l.start ≤ length l.factors;
-  apart : names_twice (drop l.start l.factors) ≡ false;
+  can_follow : names_twice (drop l.start l.factors) ≡ false;
 }
 
 abbrev pub decreases-loop-start : goal.decreases-loop-start

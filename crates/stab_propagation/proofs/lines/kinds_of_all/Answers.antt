@@ -1,7 +1,7 @@
 use Rattle.stab_propagation.proofs.Names.{◌∙◌, circuit_items}
 use Rattle.std.proofs.Common.{ap₂}
 use Rattle.stab_results.specs.declared.format.Kinds.TheVariants.{Whole}
-use Rattle.stab_propagation.proofs.SendLemmas.{records_counted, detectors_counted}
+use Rattle.stab_items.proofs.CountLemmas.{records_counted, detectors_counted}
 use Rattle.stab_propagation.proofs.lines.kinds_of_all.Goals as goal
 
 pub returns : goal.returns

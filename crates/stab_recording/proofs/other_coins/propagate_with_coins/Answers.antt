@@ -16,12 +16,12 @@ pub returns-clause-asks_free : goal.returns-clause-asks_free
 returns-clause-asks_free g c =
     omega (arith, c.propagate.ensures.asks, ones-split c.args.propagation.now.coin (all_coins_of (take c.args.most c.args.cursor.now.left)) c.args.free.now)
 
--- no string is missing
-kept : (strings : List (List Letter)) (free : List Bool) (coin most framed : ℕ) (xs : List Step) → framed ≤ 0 + length (take most xs)
-    → IsMissing strings free (coin + all_coins_of (take (framed - 0) xs)) → IsMissing strings free (coin + all_coins_of (take most xs))
-kept strings free coin most framed xs le =
-    missing-later strings free (coin + all_coins_of (take (framed - 0) xs)) (coin + all_coins_of (take most xs))
-    (omega (arith, coins-less (framed - 0) most xs (omega (arith, le, length-take most xs))))
+-- no pivot is missing
+kept : (strings : List (List Letter)) (free : List Bool) (coin most by_frame : ℕ) (xs : List Step) → by_frame ≤ 0 + length (take most xs)
+    → IsMissing strings free (coin + all_coins_of (take (by_frame - 0) xs)) → IsMissing strings free (coin + all_coins_of (take most xs))
+kept strings free coin most by_frame xs le =
+    missing-later strings free (coin + all_coins_of (take (by_frame - 0) xs)) (coin + all_coins_of (take most xs))
+    (omega (arith, coins-less (by_frame - 0) most xs (omega (arith, le, length-take most xs))))
 
 pub returns-clause-left : goal.returns-clause-left
 returns-clause-left g c =
@@ -29,7 +29,7 @@ returns-clause-left g c =
     let done = c.in_ok-propagate.ensures {u = tt} in
     whole-left (length c.args.propagation.now.letters) 0 c.in_ok-propagate.field-0.steps c.args.most _ c.args.strings.now.strings c.args.free.now xs c.propagate.new.cursor.left c.propagate.new.propagation
     c.in_ok-propagate.field-0.stop done.stop done.gone
-    (λ told. kept c.args.strings.now.strings c.args.free.now c.args.propagation.now.coin c.args.most c.propagate.new.framed xs done.most (done.missing told)) c.requires.kept done.left
+    (λ determined. kept c.args.strings.now.strings c.args.free.now c.args.propagation.now.coin c.args.most c.propagate.new.by_frame xs done.most (done.missing determined)) c.requires.kept done.left
 
 pub returns-clause-propagated : goal.returns-clause-propagated
 returns-clause-propagated g c =
@@ -40,7 +40,7 @@ returns-clause-propagated g c =
     let whole =
     propagation-whole n 0 c.in_ok-propagate.field-0.steps c.args.most _ c.args.strings.now.strings c.args.free.now xs c.propagate.new.propagation c.in_ok-propagate.field-0.stop
     done.stop done.gone
-    (λ told. kept c.args.strings.now.strings c.args.free.now c.args.propagation.now.coin c.args.most c.propagate.new.framed xs done.most (done.missing told))
+    (λ determined. kept c.args.strings.now.strings c.args.free.now c.args.propagation.now.coin c.args.most c.propagate.new.by_frame xs done.most (done.missing determined))
     c.requires.kept in
     propagation-others n c.args.strings.now.strings c.args.free.now c.args.outcomes.now others (take c.args.most xs) c.args.propagation.now c.propagate.new.propagation
     (subst (λ ys. GoesOver n c.args.strings.now.strings c.args.free.now (differing (outcome_of c.args.outcomes.now c.args.propagation.now.coin) others) ys c.args.propagation.now c.propagate.new.propagation) whole

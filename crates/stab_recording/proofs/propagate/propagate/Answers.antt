@@ -20,39 +20,39 @@ propagate_instruction-requires-clause-few g c =
     let le = left-over c.loop-steps.steps c.args.cursor.now.left (steps_shown c.in-Some.next) c.next_steps.new.self.left (sym c.loop-steps.invariant.left ∙ c.in-Some.ensures.some) c.in-Some.ensures.within.0 in
     omega (arith, c.loop-steps.invariant.goes.coin, coins-few c.loop-steps.steps c.args.cursor.now.left, le, c.requires.few)
 
-pub propagate_instruction-requires-clause-few_framed : goal.propagate_instruction-requires-clause-few_framed
-propagate_instruction-requires-clause-few_framed g c =
+pub propagate_instruction-requires-clause-few_propagated : goal.propagate_instruction-requires-clause-few_propagated
+propagate_instruction-requires-clause-few_propagated g c =
     let le = left-over c.loop-steps.steps c.args.cursor.now.left (steps_shown c.in-Some.next) c.next_steps.new.self.left (sym c.loop-steps.invariant.left ∙ c.in-Some.ensures.some) c.in-Some.ensures.within.0 in
-    omega (arith, c.loop-steps.invariant.framed, le, c.requires.few_framed)
+    omega (arith, c.loop-steps.invariant.by_frame, le, c.requires.few_propagated)
 
 -- no more steps are counted than it may pass
 
 pub returns-then-is_gone-clause-most : goal.returns-then-is_gone-clause-most
 returns-then-is_gone-clause-most g c =
-    omega (arith, length-take c.args.most c.args.cursor.now.left, c.loop-steps.invariant.framed, c.loop-steps.invariant.most, c.loop-steps.invariant.within)
+    omega (arith, length-take c.args.most c.args.cursor.now.left, c.loop-steps.invariant.by_frame, c.loop-steps.invariant.most, c.loop-steps.invariant.within)
 
 pub returns-in_default-clause-most : goal.returns-in_default-clause-most
 returns-in_default-clause-most g c =
-    omega (arith, length-take c.args.most c.args.cursor.now.left, c.loop-steps.invariant.framed, c.loop-steps.invariant.most, c.loop-steps.invariant.within)
+    omega (arith, length-take c.args.most c.args.cursor.now.left, c.loop-steps.invariant.by_frame, c.loop-steps.invariant.most, c.loop-steps.invariant.within)
 
 pub returns-clause-most : goal.returns-clause-most
 returns-clause-most g c =
-    omega (arith, length-take c.args.most c.args.cursor.now.left, c.loop-steps.invariant.framed, c.loop-steps.invariant.most, c.loop-steps.invariant.within)
+    omega (arith, length-take c.args.most c.args.cursor.now.left, c.loop-steps.invariant.by_frame, c.loop-steps.invariant.most, c.loop-steps.invariant.within)
 
 pub returns-in_err-went-clause-most : goal.returns-in_err-went-clause-most
 returns-in_err-went-clause-most g c =
     let le = left-over c.loop-steps.steps c.args.cursor.now.left (steps_shown c.in-Some.next) c.next_steps.new.self.left (sym c.loop-steps.invariant.left ∙ c.in-Some.ensures.some) c.in-Some.ensures.within.0 in
-    omega (arith, length-take c.args.most c.args.cursor.now.left, c.loop-steps.invariant.framed, c.propagate_instruction.ensures.counted, le, c.in-Some.ensures.within.1, c.loop-steps-test.true)
+    omega (arith, length-take c.args.most c.args.cursor.now.left, c.loop-steps.invariant.by_frame, c.propagate_instruction.ensures.counted, le, c.in-Some.ensures.within.1, c.loop-steps-test.true)
 
 pub returns-then-went-len-clause-most : goal.returns-then-went-len-clause-most
 returns-then-went-len-clause-most g c =
     let le = left-over c.loop-steps.steps c.args.cursor.now.left (steps_shown c.in-Some.next) c.next_steps.new.self.left (sym c.loop-steps.invariant.left ∙ c.in-Some.ensures.some) c.in-Some.ensures.within.0 in
-    omega (arith, length-take c.args.most c.args.cursor.now.left, c.loop-steps.invariant.framed, c.propagate_instruction.ensures.counted, le, c.in-Some.ensures.within.1, c.loop-steps-test.true)
+    omega (arith, length-take c.args.most c.args.cursor.now.left, c.loop-steps.invariant.by_frame, c.propagate_instruction.ensures.counted, le, c.in-Some.ensures.within.1, c.loop-steps-test.true)
 
 pub returns-then-went-len-clause-counted : goal.returns-then-went-len-clause-counted
 returns-then-went-len-clause-counted g c =
     let few : c.in_ok-went.went ≤ length (steps_shown c.in-Some.next) = c.in_ok-went.ensures.within in
-    omega (arith, few, c.loop-steps.invariant.framed, c.propagate_instruction.ensures.counted)
+    omega (arith, few, c.loop-steps.invariant.by_frame, c.propagate_instruction.ensures.counted)
 
 pub returns-then-went-len-clause-within : goal.returns-then-went-len-clause-within
 returns-then-went-len-clause-within g c =
@@ -107,11 +107,11 @@ pub returns-then-went-len-clause-missing : goal.returns-then-went-len-clause-mis
 returns-then-went-len-clause-missing g c = λ is.
     let ys = steps_shown c.in-Some.next in
     let xs = c.args.cursor.now.left in
-    let passed : c.propagate_instruction.new.framed - c.args.framed.now ≡ c.loop-steps.steps + length ys =
-    omega (arith, c.loop-steps.invariant.framed, c.propagate_instruction.ensures.counted) in
+    let passed : c.propagate_instruction.new.by_frame - c.args.by_frame.now ≡ c.loop-steps.steps + length ys =
+    omega (arith, c.loop-steps.invariant.by_frame, c.propagate_instruction.ensures.counted) in
     let coins = coins-within c.loop-steps.steps (c.loop-steps.steps + length ys) xs ys _ (sym c.loop-steps.invariant.left ∙ c.in-Some.ensures.some) (omega arith) in
     missing-later c.args.known.strings.now.strings c.args.known.free.now (c.loop-steps.propagation.coin + all_coins_of ys)
-    (c.args.propagation.now.coin + all_coins_of (take (c.propagate_instruction.new.framed - c.args.framed.now) xs))
+    (c.args.propagation.now.coin + all_coins_of (take (c.propagate_instruction.new.by_frame - c.args.by_frame.now) xs))
     (omega (arith, c.loop-steps.invariant.goes.coin, coins, ap (λ k. all_coins_of (take k xs)) passed))
     ((c.in_ok-went.ensures {u = tt}).missing (omega (arith, c.if-went-len.true, c.len.ensures.value)))
 
@@ -131,7 +131,7 @@ loop-steps-preserved g c =
     let coins = ap (λ j. all_coins_of (take j ys)) (sym all) ∙ ap all_coins_of (take-length ys) in
     record {
       most = omega (arith, few, c.in-Some.ensures.within.1, c.loop-steps-test.true);
-      framed = omega (arith, done.counted, all, inv.framed);
+      by_frame = omega (arith, done.counted, all, inv.by_frame);
       within = omega (arith, few, left-over c.loop-steps.steps xs ys rest left c.in-Some.ensures.within.0);
       left = drop-over c.loop-steps.steps xs ys rest left ∙ ap (λ j. drop (c.loop-steps.steps + j) xs) all;
       all = c.next_steps.ensures.all ∙ inv.all;

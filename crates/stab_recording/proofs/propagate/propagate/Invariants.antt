@@ -4,7 +4,7 @@ use Rattle.stab_recording.proofs.propagate.propagate.Given as goal
 abbrev pub invariant-loop-steps : goal.invariant-loop-steps
 invariant-loop-steps g l = record {
   most : l.steps ≤ l.most;
-  framed : l.framed ≡ l.initial.framed + l.steps;
+  by_frame : l.by_frame ≡ l.initial.by_frame + l.steps;
   within : l.steps ≤ length l.initial.cursor.left;
   left : l.cursor.left ≡ drop l.steps l.initial.cursor.left;
   all : l.cursor.all ≡ l.initial.cursor.all;

@@ -32,17 +32,17 @@ loop-left-preserved g c =
     let left = c.loop-left.left in
     let count = c.len-left.result in
     let before = c.loop-left.cursor.left in
-    let behind = c.next_steps.new.self.left in
-    let front = take-steps left count before shown behind more c.len-left.ensures.value c.in-Some.ensures.within.1 in
-    let then = take (left - count) behind in
-    let parts = ap length more ∙ length-append shown behind in
+    let following = c.next_steps.new.self.left in
+    let front = take-steps left count before shown following more c.len-left.ensures.value c.in-Some.ensures.within.1 in
+    let then = take (left - count) following in
+    let parts = ap length more ∙ length-append shown following in
     let taken = ap length front ∙ length-append shown then in
     let asked = ap all_coins_of front ∙ coins-append shown then in
     record {
-      fits = (fits-steps c.loop-left.tableau.qubits c.run_steps.new.tableau.qubits before shown behind more done.qubits inv.fits).1;
+      fits = (fits-steps c.loop-left.tableau.qubits c.run_steps.new.tableau.qubits before shown following more done.qubits inv.fits).1;
       few = omega (arith, parts, done.counted, inv.few);
       counted = omega (arith, taken, done.counted, inv.counted);
-      rest = sym (drop-steps left count before shown behind more c.len-left.ensures.value c.in-Some.ensures.within.1) ∙ inv.rest;
+      rest = sym (drop-steps left count before shown following more c.len-left.ensures.value c.in-Some.ensures.within.1) ∙ inv.rest;
       all = c.next_steps.ensures.all ∙ inv.all;
       qubits = done.qubits ∙ inv.qubits;
       string = done.string ∙ inv.string;
@@ -104,8 +104,8 @@ pub returns-in_err-run_steps-clause-asks : goal.returns-in_err-run_steps-clause-
 returns-in_err-run_steps-clause-asks g c =
     let shown = steps_shown c.in-Some.steps in
     let left = c.loop-left.left in
-    let behind = c.next_steps.new.self.left in
+    let following = c.next_steps.new.self.left in
     let count = c.len-left.result in
-    let front = take-steps left count c.loop-left.cursor.left shown behind c.in-Some.ensures.some c.len-left.ensures.value c.in-Some.ensures.within.1 in
-    let asked = ap all_coins_of front ∙ coins-append shown (take (left - count) behind) in
+    let front = take-steps left count c.loop-left.cursor.left shown following c.in-Some.ensures.some c.len-left.ensures.value c.in-Some.ensures.within.1 in
+    let asked = ap all_coins_of front ∙ coins-append shown (take (left - count) following) in
     omega (arith, asked, c.run_steps.ensures.asks, c.loop-left.invariant.asks)

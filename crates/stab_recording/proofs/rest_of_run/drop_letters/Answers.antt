@@ -7,14 +7,14 @@ returns-in_default-clause-conjugate c = λ e.
     let string : c.in_ok-string.string ≡ record { negative = false; letters = c.args.propagation.now.letters } =
     c.in_ok-string.ensures.value ∙ ap (λ l. record { negative = false; letters = l }) c.letters.ensures.value in
     inr
-    (none-found c.args.propagation.now.letters c.args.copy.now.tableau c.in_ok-tableau.tableau c.in_ok-string.string c.in_ok-tableau.ensures.ok string (sym c.requires.same_qubits)
+    (none-found c.args.propagation.now.letters c.args.checkpoint.now.tableau c.in_ok-tableau.tableau c.in_ok-string.string c.in_ok-tableau.ensures.ok string (sym c.requires.same_qubits)
     c.stabilises_a_group.ensures.law c.stabilisers_generate.ensures.law (c.sign_of-sign.ensures.none.0 c.in_default.is))
 
 pub returns-clause-stabilise : goal.returns-clause-stabilise
 returns-clause-stabilise c = λ e.
     let string : c.in_ok-string.string ≡ record { negative = false; letters = c.args.propagation.now.letters } =
     c.in_ok-string.ensures.value ∙ ap (λ l. record { negative = false; letters = l }) c.letters.ensures.value in
-    some-found c.args.propagation.now.letters c.args.copy.now.tableau c.in_ok-tableau.tableau c.in_ok-string.string c.in-Some.field-0 c.in_ok-tableau.ensures.ok string
+    some-found c.args.propagation.now.letters c.args.checkpoint.now.tableau c.in_ok-tableau.tableau c.in_ok-string.string c.in-Some.field-0 c.in_ok-tableau.ensures.ok string
     ((c.sign_of-sign.ensures.some c.in-Some.field-0).0 c.in-Some.is)
 
 pub returns-clause-value : goal.returns-clause-value

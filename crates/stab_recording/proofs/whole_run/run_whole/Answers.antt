@@ -28,7 +28,7 @@ pub run_all-requires-clause-fits : goal.run_all-requires-clause-fits
 run_all-requires-clause-fits g c =
     let at = (goal.at.run_all-requires-clause-fits g c).In_ok-replay in
     subst (λ n. All (StepFits n) c.in_ok-replay.replay.cursor.all) (sym (qubits g at))
-    (check-fits c.args.n (circuit_items c.args.circuit.now) c.in_ok-replay.replay.cursor.all c.requires.checked (all g at) c.in_ok-replay.ensures.apart)
+    (check-fits c.args.n (circuit_items c.args.circuit.now) c.in_ok-replay.replay.cursor.all c.requires.checked (all g at) c.in_ok-replay.ensures.distinct)
 
 pub run_all-requires-clause-repeats : goal.run_all-requires-clause-repeats
 run_all-requires-clause-repeats g c =

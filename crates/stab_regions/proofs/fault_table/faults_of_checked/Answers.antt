@@ -1,5 +1,5 @@
 use Rattle.stab_regions.proofs.Names.{◌∙◌, reverse, circuit_items, IsFaultTable, sites_asked}
-use Rattle.stab_regions.proofs.FaultTableLemmas.{are-deterministic, tell-long, tell-found, table-flips, table-backwards}
+use Rattle.stab_regions.proofs.FaultTableLemmas.{are-deterministic, determine-long, determine-found, table-flips, table-backwards}
 use Rattle.stab_regions.proofs.FaultSumLemmas.{rows-add}
 use Rattle.stab_regions.proofs.fault_table.faults_of_checked.Goals as goal
 
@@ -11,10 +11,10 @@ returns c =
     let rows = reverse c.keep.new.self in
     let fits = c.in_ok-regions.ensures.fits in
     let swept = c.in_ok-regions.ensures.swept in
-    let tells = c.deterministic-deterministic.ensures.value in
-    let found = tell-found n items c.in_ok-regions.field-0.regions deterministic tells swept.regions in
+    let determines = c.deterministic-deterministic.ensures.value in
+    let found = determine-found n items c.in_ok-regions.field-0.regions deterministic determines swept.regions in
     let table : IsFaultTable n c.args.everywhere items deterministic rows = record {
-      are_deterministic = are-deterministic n items deterministic c.deterministic_parities.ensures.law fits (tell-long n items c.in_ok-regions.field-0.regions deterministic tells swept.regions) found;
+      are_deterministic = are-deterministic n items deterministic c.deterministic_parities.ensures.law fits (determine-long n items c.in_ok-regions.field-0.regions deterministic determines swept.regions) found;
       are_flipped = λ coins.
           table-backwards deterministic c.as_slice.result.now c.in_ok-regions.field-0.rows c.keep.new.self c.as_slice.ensures.value c.keep.ensures.value
           ∙ table-flips n c.args.everywhere items deterministic coins (sites_asked c.asked_for.result) (reverse c.in_ok-regions.field-0.rows)

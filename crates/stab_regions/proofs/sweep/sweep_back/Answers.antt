@@ -5,7 +5,7 @@ use Rattle.stab_regions.proofs.sweep.sweep_back.Goals as goal
 use Rattle.stab_regions.proofs.sweep.sweep_back.Goals.{After-items, After-steps-end, After-as_slice}
 
 fits : (c : After-items) → All (StepFits c.args.qubits) (unroll (circuit_items c.args.circuit.now))
-fits c = check-fits c.args.qubits (circuit_items c.args.circuit.now) (unroll (circuit_items c.args.circuit.now)) c.requires.checked refl c.items.ensures.apart
+fits c = check-fits c.args.qubits (circuit_items c.args.circuit.now) (unroll (circuit_items c.args.circuit.now)) c.requires.checked refl c.items.ensures.distinct
 
 counted : (c : After-steps-end) → c.steps-end.result ≡ length (unroll (circuit_items c.args.circuit.now))
 counted c =
@@ -37,7 +37,7 @@ passes c all_fit =
     let xs : List Step = unroll (circuit_items c.args.circuit.now) in
     subst (λ (ys : List Step). MayPass c.args.qubits (detectors_of xs) (observables_of (circuit_items c.args.circuit.now)) ys (drop c.pieces.end xs)) (sym (taken c))
     (passes-piece c.args.qubits (observables_of (circuit_items c.args.circuit.now)) c.saturating_sub-begin.result c.pieces.end xs (omega (arith, c.saturating_sub-begin.ensures))
-    all_fit c.items.ensures.apart (names-below (circuit_items c.args.circuit.now)))
+    all_fit c.items.ensures.distinct (names-below (circuit_items c.args.circuit.now)))
 
 pub before_all-requires : goal.before_all-requires
 before_all-requires c =

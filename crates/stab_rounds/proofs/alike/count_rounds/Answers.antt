@@ -29,11 +29,11 @@ returns-clause-again c =
     let ys = unroll (circuit_items c.args.circuit.now) in
     let l = c.args.round in
     let m = c.count_same.result in
-    let behind = drop c.args.first ys in
-    let same : take m behind ≡ take m (drop l behind) =
+    let following = drop c.args.first ys in
+    let same : take m following ≡ take m (drop l following) =
     ap (take m) (sym c.in_ok-near.ensures.steps)
     ∙ c.count_same.ensures.same
     ∙ ap (take m) (c.in_ok-far.ensures.steps ∙ sym (drop-drop l c.args.first ys)) in
-    ap (λ n. take (n * l) behind) {x = 1 + m / l} {y = suc (m / l)} (omega arith)
-    ∙ come-again l m (m / l) behind same (omega arith)
-    ∙ ap (λ n. rounds n (take l behind)) {x = suc (m / l)} {y = 1 + m / l} (omega arith)
+    ap (λ n. take (n * l) following) {x = 1 + m / l} {y = suc (m / l)} (omega arith)
+    ∙ come-again l m (m / l) following same (omega arith)
+    ∙ ap (λ n. rounds n (take l following)) {x = suc (m / l)} {y = 1 + m / l} (omega arith)

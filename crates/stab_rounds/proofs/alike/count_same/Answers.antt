@@ -1,5 +1,5 @@
 use Rattle.stab_rounds.proofs.Names.{◌≡◌, ◌+◌, ◌++◌, ◌∙◌, sym, ap, length, take, drop, arith, OnTrue_at, drop-drop, steps_shown}
-use Rattle.stab_rounds.proofs.AlikeLemmas.{goes-behind, goes-before, goes-within, same-more}
+use Rattle.stab_rounds.proofs.AlikeLemmas.{goes-following, goes-before, goes-within, same-more}
 use Rattle.stab_rounds.proofs.alike.count_same.Goals as goal
 
 pub overflow_add-count : goal.overflow_add-count
@@ -28,13 +28,13 @@ comparing-preserved c =
     let f : drop i far ≡ part ++ far_left = sym inv.far ∙ OnTrue_at c.if-not-goes_over.false c.goes_over.ensures.same in
     let k = i + length part in
     let all : k + m ≡ i + (c.len.result + m) = omega (arith, c.len.ensures.value) in
-    let near_behind = goes-behind i near part near_left n in
-    let far_behind = goes-behind i far part far_left f in
+    let near_after = goes-following i near part near_left n in
+    let far_after = goes-following i far part far_left f in
     let same : take k near ≡ take k far = goes-before i near part near_left n ∙ ap (λ l. l ++ part) inv.same ∙ sym (goes-before i far part far_left f) in
     record {
       few = omega (arith, goes-within i m near part near_left n inv.few c.pass_same.ensures.within, c.len.ensures.value);
       within = omega (arith, goes-within i m far part far_left f inv.within c.pass_same.ensures.other_within, c.len.ensures.value);
-      near = c.pass_same.ensures.left ∙ ap (drop m) near_behind ∙ drop-drop m k near ∙ ap (λ q. drop q near) all;
-      far = c.pass_same.ensures.other_left ∙ ap (drop m) far_behind ∙ drop-drop m k far ∙ ap (λ q. drop q far) all;
-      same = ap (λ q. take q near) (sym all) ∙ same-more k m near far near_left far_left near_behind far_behind same c.pass_same.ensures.same ∙ ap (λ q. take q far) all;
+      near = c.pass_same.ensures.left ∙ ap (drop m) near_after ∙ drop-drop m k near ∙ ap (λ q. drop q near) all;
+      far = c.pass_same.ensures.other_left ∙ ap (drop m) far_after ∙ drop-drop m k far ∙ ap (λ q. drop q far) all;
+      same = ap (λ q. take q near) (sym all) ∙ same-more k m near far near_left far_left near_after far_after same c.pass_same.ensures.same ∙ ap (λ q. take q far) all;
     }

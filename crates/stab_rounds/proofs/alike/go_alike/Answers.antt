@@ -1,5 +1,5 @@
 use Rattle.stab_rounds.proofs.Names.{◌≡◌, ◌+◌, ◌++◌, ◌∙◌, sym, ap, length, take, drop, arith, OnTrue_at, steps_shown}
-use Rattle.stab_rounds.proofs.AlikeLemmas.{goes-behind, goes-before}
+use Rattle.stab_rounds.proofs.AlikeLemmas.{goes-following, goes-before}
 use Rattle.stab_rounds.proofs.alike.go_alike.Goals as goal
 
 pub comparing-preserved : goal.comparing-preserved
@@ -16,8 +16,8 @@ comparing-preserved c =
     let all : i + length part ≡ i + c.len-done.result = omega (arith, c.len-done.ensures.value) in
     record {
       most = omega (arith, c.in-Some.ensures.within.1, c.len-done.ensures.value, inv.most, c.comparing-test.true);
-      near = goes-behind i near part near_left n ∙ ap (λ q. drop q near) all;
-      far = goes-behind i far part far_left f ∙ ap (λ q. drop q far) all;
+      near = goes-following i near part near_left n ∙ ap (λ q. drop q near) all;
+      far = goes-following i far part far_left f ∙ ap (λ q. drop q far) all;
       same =
           ap (λ q. take q near) (sym all)
           ∙ goes-before i near part near_left n

@@ -1,6 +1,6 @@
 use Rattle.stab_rounds.proofs.Names.{◌≡◌, ◌+◌, ◌*◌, ◌++◌, ◌∷◌, [], ◌∙◌, sym, ap, subst, IfSome, arith, few_steps, unroll, circuit_items, IsRepeat, AreRepeats}
 use Rattle.stab_rounds.proofs.SearchLemmas.{one-repeat-more}
-use Rattle.stab_rounds.proofs.SeamLemmas.{before-last, one-behind}
+use Rattle.stab_rounds.proofs.SeamLemmas.{before-last, one-following}
 use Rattle.stab_rounds.proofs.edited.add.Goals as goal
 
 pub joined-requires-clause-last : goal.joined-requires-clause-last
@@ -16,7 +16,7 @@ returns-in-Some-2-clause-are c =
     let front = before-last 0 ys rest last (subst (AreRepeats 0 ys) c.in-Some.ensures.items c.requires.are) in
     let first = subst (λ f. IfSome f (λ r. r.first ≡ last.first)) c.in-Some-2.is c.in_ok-joined.ensures.first in
     let is = subst (λ f. IfSome f (IsRepeat ys)) c.in-Some-2.is c.in_ok-joined.ensures.is in
-    subst (AreRepeats 0 ys) (sym c.in_ok-push-2.ensures.items) (one-behind 0 last.first ys rest c.in-Some-2.joined front.0 (omega (arith, first)) is)
+    subst (AreRepeats 0 ys) (sym c.in_ok-push-2.ensures.items) (one-following 0 last.first ys rest c.in-Some-2.joined front.0 (omega (arith, first)) is)
 
 pub overflow_mul-last : goal.overflow_mul-last
 overflow_mul-last c =
@@ -37,5 +37,5 @@ returns-in_ok-push-4-clause-are c =
     let last = c.in-Some.last in
     let front = before-last 0 ys rest last (subst (AreRepeats 0 ys) c.in-Some.ensures.items c.requires.are) in
     subst (AreRepeats 0 ys) (sym (c.in_ok-push-4.ensures.items ∙ ap (λ l. l ++ c.args.next ∷ []) c.in_ok-push-3.ensures.items))
-    (one-behind 0 (last.first + last.rounds * last.length) ys (rest ++ last ∷ []) c.args.next (one-repeat-more 0 last.first ys rest last front.0 (omega arith) front.1) (omega (arith, c.if-last-next.true))
+    (one-following 0 (last.first + last.rounds * last.length) ys (rest ++ last ∷ []) c.args.next (one-repeat-more 0 last.first ys rest last front.0 (omega arith) front.1) (omega (arith, c.if-last-next.true))
     c.requires.is)

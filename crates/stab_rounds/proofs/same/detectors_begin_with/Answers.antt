@@ -1,5 +1,5 @@
 use Rattle.stab_rounds.proofs.Names.{◌<◌, ◌∙◌, [], sym, length, drop, arith, take_more_same, get_or-drop, length-drop, lookbacks_of}
-use Rattle.stab_rounds.proofs.SameLemmas.{same_list, tells_qubits}
+use Rattle.stab_rounds.proofs.SameLemmas.{same_list, determines_qubits}
 use Rattle.stab_rounds.proofs.same.detectors_begin_with.Goals as goal
 
 pub loop-number-preserved : goal.loop-number-preserved
@@ -10,4 +10,4 @@ loop-number-preserved c =
     let place = c.args.place in
     let lt : i < length others = omega (arith, c.loop-number-test.true, c.len-number-end.ensures.value) in
     take_more_same (drop place own) others i [] (omega (arith, lt, length-drop place own, c.requires.within)) lt c.loop-number.invariant
-    (get_or-drop place own i [] ∙ sym c.get.ensures.value ∙ same_list _ c.get.result.now c.get-in-loop-number.result.now tells_qubits (sym c.eq-same.ensures ∙ c.if-not-same.false) ∙ c.get-in-loop-number.ensures.value)
+    (get_or-drop place own i [] ∙ sym c.get.ensures.value ∙ same_list _ c.get.result.now c.get-in-loop-number.result.now determines_qubits (sym c.eq-same.ensures ∙ c.if-not-same.false) ∙ c.get-in-loop-number.ensures.value)

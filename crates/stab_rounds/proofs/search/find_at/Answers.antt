@@ -1,5 +1,5 @@
 use Rattle.stab_rounds.proofs.Names.{◌≡◌, ◌+◌, ◌++◌, ◌∙◌, sym, ap, length, drop, arith, length-drop, length-append, few_steps, unroll, circuit_items, steps_shown}
-use Rattle.stab_rounds.proofs.AlikeLemmas.{goes-behind}
+use Rattle.stab_rounds.proofs.AlikeLemmas.{goes-following}
 use Rattle.stab_rounds.proofs.search.find_at.Goals as goal
 
 pub overflow_sub-longest : goal.overflow_sub-longest
@@ -14,7 +14,7 @@ seeking-init c =
     record {
       some = omega (arith, c.in-Some.ensures.within.0, c.len-round.ensures.value);
       within = omega (arith, c.requires.within, c.len-round.ensures.value, ap length e, length-drop i ys, length-append part c.next_steps.new.self.left);
-      left = goes-behind i ys part c.next_steps.new.self.left e ∙ ap (λ n. drop (i + n) ys) (sym c.len-round.ensures.value);
+      left = goes-following i ys part c.next_steps.new.self.left e ∙ ap (λ n. drop (i + n) ys) (sym c.len-round.ensures.value);
     }
 
 pub overflow_add-round : goal.overflow_add-round
@@ -41,6 +41,6 @@ seeking-preserved c =
     record {
       some = omega (arith, c.seeking.invariant.some);
       within = omega (arith, c.seeking.invariant.within, c.len-round-in-seeking.ensures.value, ap length e, length-drop i ys, length-append part rest);
-      left = goes-behind i ys part rest e
+      left = goes-following i ys part rest e
           ∙ ap (λ n. drop n ys) {x = i + length part} {y = c.args.first + (c.seeking.round + c.len-round-in-seeking.result)} (omega (arith, c.len-round-in-seeking.ensures.value));
     }

@@ -1,5 +1,5 @@
 use Rattle.stab_rounds.proofs.Names.{◌≡◌, ◌+◌, ◌++◌, ◌∙◌, sym, ap, length, drop, arith, length-drop, length-append, few_steps, unroll, circuit_items, steps_shown}
-use Rattle.stab_rounds.proofs.AlikeLemmas.{goes-behind}
+use Rattle.stab_rounds.proofs.AlikeLemmas.{goes-following}
 use Rattle.stab_rounds.proofs.search.next_place.Goals as goal
 
 pub overflow_add-place : goal.overflow_add-place
@@ -25,5 +25,5 @@ going-preserved c =
     record {
       order = omega (arith, c.going.invariant.order);
       within = omega (arith, c.going.invariant.within, c.len-place.ensures.value, ap length e, length-drop i ys, length-append part c.next_steps.new.self.left);
-      left = goes-behind i ys part c.next_steps.new.self.left e ∙ ap (λ n. drop (i + n) ys) (sym c.len-place.ensures.value);
+      left = goes-following i ys part c.next_steps.new.self.left e ∙ ap (λ n. drop (i + n) ys) (sym c.len-place.ensures.value);
     }

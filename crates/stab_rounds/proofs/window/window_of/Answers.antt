@@ -1,5 +1,5 @@
 use Rattle.stab_rounds.proofs.Names.{◌≡◌, ◌+◌, ◌++◌, ◌∙◌, sym, ap, subst, All, take, drop, arith, All-append, steps_shown, LooksWithin, within-more}
-use Rattle.stab_rounds.proofs.AlikeLemmas.{goes-behind, goes-before, nothing-left}
+use Rattle.stab_rounds.proofs.AlikeLemmas.{goes-following, goes-before, nothing-left}
 use Rattle.stab_rounds.proofs.window.window_of.Goals as goal
 
 pub looking-preserved : goal.looking-preserved
@@ -11,7 +11,7 @@ looking-preserved c =
     let far = c.furthest_of_steps-window.result in
     record {
       few = omega (arith, c.in-Some.ensures.within.1, c.len-done.ensures.value, inv.few);
-      left = goes-behind c.looking.done left part c.next_steps.new.self.left e ∙ ap (λ n. drop (c.looking.done + n) left) (sym c.len-done.ensures.value);
+      left = goes-following c.looking.done left part c.next_steps.new.self.left e ∙ ap (λ n. drop (c.looking.done + n) left) (sym c.len-done.ensures.value);
       within =
           subst (All (LooksWithin far))
           (sym (goes-before c.looking.done left part c.next_steps.new.self.left e) ∙ ap (λ n. take (c.looking.done + n) left) (sym c.len-done.ensures.value))

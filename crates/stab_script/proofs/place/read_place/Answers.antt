@@ -1,4 +1,4 @@
-use Rattle.stab_script.proofs.Names.{◌≡◌, length, take, ap, ◌∙◌, arith, length-take, length-set, option_copied, pieces_after, numbers_behind, path_if_any}
+use Rattle.stab_script.proofs.Names.{◌≡◌, length, take, ap, ◌∙◌, arith, length-take, length-set, option_copied, pieces_after, numbers_after, path_if_any}
 use Rattle.stab_script.proofs.PlaceLaws.{too_many, no_number, keeps_number}
 use Rattle.stab_script.proofs.place.read_place.Goals as goal
 
@@ -7,8 +7,8 @@ returns-in-None c =
     let front = take c.loop-rest.count c.loop-rest.numbers in
     record {
       value = c.loop-rest.invariant.met
-          ∙ ap (λ r. path_if_any (numbers_behind front (pieces_after 47 (option_copied r)))) c.in-Some.is
-          ∙ ap (λ ws. path_if_any (numbers_behind front ws)) c.first_piece.ensures.value
+          ∙ ap (λ r. path_if_any (numbers_after front (pieces_after 47 (option_copied r)))) c.in-Some.is
+          ∙ ap (λ ws. path_if_any (numbers_after front ws)) c.first_piece.ensures.value
           ∙ ap path_if_any (no_number front c.first_piece.result.0.now (pieces_after 47 (option_copied c.first_piece.result.1)) c.in-None.ensures.value);
     }
 
@@ -18,8 +18,8 @@ returns-then-count-eq-MOST_NUMBERS c =
     let full : length front ≡ 17 = omega (arith, length-take c.loop-rest.count c.loop-rest.numbers) in
     record {
       value = c.loop-rest.invariant.met
-          ∙ ap (λ r. path_if_any (numbers_behind front (pieces_after 47 (option_copied r)))) c.in-Some.is
-          ∙ ap (λ ws. path_if_any (numbers_behind front ws)) c.first_piece.ensures.value
+          ∙ ap (λ r. path_if_any (numbers_after front (pieces_after 47 (option_copied r)))) c.in-Some.is
+          ∙ ap (λ ws. path_if_any (numbers_after front ws)) c.first_piece.ensures.value
           ∙ ap path_if_any (too_many front c.first_piece.result.0.now (pieces_after 47 (option_copied c.first_piece.result.1)) full);
     }
 

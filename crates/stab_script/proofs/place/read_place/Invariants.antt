@@ -1,4 +1,4 @@
-use Rattle.stab_script.proofs.Names.{◌≡◌, ◌≤◌, ◌<◌, ◌+◌, length, take, option_copied, pieces_after, place_of, numbers_behind, path_if_any}
+use Rattle.stab_script.proofs.Names.{◌≡◌, ◌≤◌, ◌<◌, ◌+◌, length, take, option_copied, pieces_after, place_of, numbers_after, path_if_any}
 use Rattle.stab_script.proofs.PlaceLaws.{bytes_left}
 use Rattle.stab_script.proofs.place.read_place.Given as goal
 
@@ -7,7 +7,7 @@ invariant-loop-rest l = record {
   room : length l.numbers ≡ 17;
   few : l.count ≤ 17;
   some : 0 < l.count + bytes_left (option_copied l.rest);
-  met : place_of l.word ≡ path_if_any (numbers_behind (take l.count l.numbers) (pieces_after 47 (option_copied l.rest)));
+  met : place_of l.word ≡ path_if_any (numbers_after (take l.count l.numbers) (pieces_after 47 (option_copied l.rest)));
 }
 
 abbrev pub decreases-loop-rest : goal.decreases-loop-rest

@@ -1,5 +1,5 @@
 use Rattle.stab_script.proofs.Names.{OneItem, item_at, place_text, circuit_items, text_found}
-use Rattle.stab_script.proofs.PlaceCountLaws.{no_place, place_unshown, place_told}
+use Rattle.stab_script.proofs.PlaceCountLaws.{no_place, place_unshown, place_reported}
 use Rattle.stab_script.proofs.place_counts.show_place.Goals as goal
 
 pub returns-in_err-item : goal.returns-in_err-item
@@ -14,6 +14,6 @@ returns-in_err-before c = record {
 
 pub returns : goal.returns
 returns c = record {
-  shows = place_told c.args.circuit.now c.args.place c.in_ok-item.field-0.now c.in_ok-before.before c.in_ok-before.own c.place.result c.memory.result
+  shows = place_reported c.args.circuit.now c.args.place c.in_ok-item.field-0.now c.in_ok-before.before c.in_ok-before.own c.place.result c.memory.result
       c.in_ok-item.ensures.value c.in_ok-before.ensures.before c.in_ok-before.ensures.own c.place.ensures.written c.memory.ensures.same c.memory.ensures.err;
 }

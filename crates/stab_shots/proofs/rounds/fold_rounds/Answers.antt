@@ -1,7 +1,8 @@
 use Rattle.stab_shots.proofs.Names.{◌≡◌, ◌+◌, ◌-◌, ◌*◌, ◌/◌, ◌<◌, ◌≤◌, arith, sym, ap, ◌∙◌, subst, length, refl, IfSome, div-mul-le_self, Frames, lane_letters, lane_pivots, IsCheckpoint, lane_difference}
 use Rattle.stab_shots.proofs.CheckpointLemmas.{counted-again}
-use Rattle.stab_shots.proofs.AdvancedLemmas.{without_pivots, advanced-again}
+use Rattle.stab_shots.proofs.AdvancedLemmas.{advanced-again}
 use Rattle.stab_shots.proofs.rounds.fold_rounds.Goals as goal
+use Rattle.stab_frames.proofs.FreeLemmas.{pivot-none}
 
 pub returns-clause-go_on : goal.returns-clause-go_on
 returns-clause-go_on g c = λ coins steps number is kept advanced.
@@ -13,13 +14,13 @@ returns-clause-go_on g c = λ coins steps number is kept advanced.
     let done = c.args.done in
     let lengths = c.in-Some.checkpoint.lengths in
     let old = c.args.lanes.now in
-    let new = c.flip_again.new.lanes in
+    let new = c.repeat_flips.new.lanes in
     let left = r.rounds - done in
     let count = left / (done - early) in
     let within : done + count * (done - early) ≤ r.rounds = omega (arith, c.requires.within, div-mul-le_self left (done - early)) in
     let fixed = (c.if-not-are_deterministic.ensures {u = tt}).deterministic refl in
     let again = (c.if-not-comes_again.ensures {u = tt}).again refl in
-    let flipped = c.in_ok-flip_again.ensures {u = tt} in
+    let flipped = c.in_ok-repeat_flips.ensures {u = tt} in
     let period = c.saturating_sub-coins.result in
     let few : period ≡ length old.free.items - lengths.free = omega (arith, c.saturating_sub-coins.ensures, c.len.ensures) in
     let all : c.in-Some-checked_mul.count ≡ period * (count + 1) = c.in-Some-checked_mul.ensures.1 in
@@ -35,6 +36,6 @@ returns-clause-go_on g c = λ coins steps number is kept advanced.
           let now = lane_difference at l old in
           advanced-again recorded_pivots.strings.now.qubits pivots steps r is early done count later within (lane_letters at l c.in-Some.checkpoint.letters.items) lengths (checkpoint l lt) now
           (advanced.follow l lt) (again l lt).letters (again l lt).records period (lane_difference at l new) few
-          (λ t le. without_pivots recorded_pivots.strings.now.strings recorded_pivots.free.now (lengths.free + t) (fixed t (omega (arith, le, all))))
+          (λ t le. pivot-none recorded_pivots.strings.now.strings recorded_pivots.free.now (lengths.free + t) (fixed t (omega (arith, le, all))))
           (λ i. record { letters = lane_letters at l (flipped.frames i).letters.items; flips = flipped.output l i });
     }

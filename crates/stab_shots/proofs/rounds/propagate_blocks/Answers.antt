@@ -1,4 +1,4 @@
-use Rattle.stab_shots.proofs.Names.{◌≤◌, arith, subst, ◌∙◌, get_or, take, Repeat, unroll, circuit_items, check-steps, check-whole, behind_rounds, repeat-here, repeats-behind, ArePropagated}
+use Rattle.stab_shots.proofs.Names.{◌≤◌, arith, subst, ◌∙◌, get_or, take, Repeat, unroll, circuit_items, check-steps, check-whole, after_rounds, repeat-here, repeats-following, ArePropagated}
 use Rattle.stab_shots.proofs.rounds.propagate_blocks.Goals as goal
 
 abbrev none : Repeat
@@ -37,11 +37,11 @@ loop-repeat-preserved g c =
     let from = c.loop-repeat.from in
     let next = c.in_ok-from.from in
     let here = repeat-here from steps all i none c.loop-repeat-test.true inv.repeats in
-    let before : next ≤ behind_rounds (get_or all i none) (get_or all i none).rounds =
+    let before : next ≤ after_rounds (get_or all i none) (get_or all i none).rounds =
     omega (arith, done.next, c.taken_together.ensures.first, c.taken_together.ensures.within) in
     record {
       within = omega (arith, before, here.1.inside);
-      repeats = repeats-behind from next steps all i none c.loop-repeat-test.true inv.repeats before;
+      repeats = repeats-following from next steps all i none c.loop-repeat-test.true inv.repeats before;
       same_coins = c.propagate_block.ensures.same_coins ∙ inv.same_coins;
       advanced =
           subst (λ coins. ArePropagated g.W.Word.at g.W.Word.lanes c.args.recorded_pivots coins (take next steps) c.propagate_block.new.number c.propagate_block.new.lanes) inv.same_coins done.advanced;

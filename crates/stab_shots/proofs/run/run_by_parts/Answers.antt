@@ -34,11 +34,11 @@ returns-clause-runs g c = λ l lt.
     let q = c.in_ok-recording.ensures.sized.qubits in
     let done = c.in_ok-propagate_by_parts.ensures {u = tt} in
     let r = c.propagate_by_parts.new.recording in
-    let behind = lane_difference at l c.propagate_by_parts.new.lanes in
+    let following = lane_difference at l c.propagate_by_parts.new.lanes in
     let recorded = subst (λ m. IsPartRecording m (unroll items) r) q done.recorded in
-    let lane = subst (λ m. IsLane m coins (unroll items) behind) q (done.lanes l lt) in
+    let lane = subst (λ m. IsLane m coins (unroll items) following) q (done.lanes l lt) in
     let shot = c.in_ok-shot.shot in
     let made = c.in_ok-shot.ensures {u = tt} in
     let is = shot-run n zero_coins items (given_by r) recorded.gave shot made.records made.free made.detectors made.observables in
-    lane-runs n coins items shot is c.observables.result c.observables.ensures.value behind lane at l _
-    (c.in_ok-shots.ensures.flipped l lt (as-long n coins items shot is c.observables.result c.observables.ensures.value behind lane))
+    lane-runs n coins items shot is c.observables.result c.observables.ensures.value following lane at l _
+    (c.in_ok-shots.ensures.flipped l lt (as-long n coins items shot is c.observables.result c.observables.ensures.value following lane))

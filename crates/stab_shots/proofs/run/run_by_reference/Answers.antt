@@ -34,18 +34,18 @@ returns-clause-runs g c = λ l lt.
     let is = c.requires.reference in
     let lent = c.recorded_pivots-recorded_pivots.ensures in
     let q = ap (λ (k : PivotsState). k.qubits) lent.strings ∙ is.qubits in
-    let behind = lane_difference at l c.propagate_all.new.lanes in
+    let following = lane_difference at l c.propagate_all.new.lanes in
     let done = c.in_ok-propagate_all.ensures {u = tt} in
     let fits = subst (λ m. All (StepFits m) (unroll items)) q done.fits in
     let reference = c.args.reference.now in
     let advanced =
     subst (λ x. x)
-    (λ i. Follows (q i) (pivots_of (pivot_at (ap (λ (k : PivotsState). k.strings) lent.strings i) (lent.free i)) coins) (unroll items) (no_difference (q i)) behind)
+    (λ i. Follows (q i) (pivots_of (pivot_at (ap (λ (k : PivotsState). k.strings) lent.strings i) (lent.free i)) coins) (unroll items) (no_difference (q i)) following)
     (done.advanced.follow l lt) in
     let lane =
-    lane-further n coins [] (unroll items) (All-nil (StepFits n)) fits (pivot_at reference.strings.strings reference.shot.free.items) is.right (no_difference n) behind
+    lane-further n coins [] (unroll items) (All-nil (StepFits n)) fits (pivot_at reference.strings.strings reference.shot.free.items) is.right (no_difference n) following
     (lane-first n coins (no_difference n) refl refl) advanced in
     let shot = c.shot.result.now in
     let is_shot = subst (IsShot n zero_coins items) (sym c.shot.ensures.value) is.shot in
-    lane-runs n coins items shot is_shot c.observables.result c.observables.ensures.value behind lane at l _
-    (c.in_ok-shots.ensures.flipped l lt (as-long n coins items shot is_shot c.observables.result c.observables.ensures.value behind lane))
+    lane-runs n coins items shot is_shot c.observables.result c.observables.ensures.value following lane at l _
+    (c.in_ok-shots.ensures.flipped l lt (as-long n coins items shot is_shot c.observables.result c.observables.ensures.value following lane))

@@ -18,15 +18,15 @@ loop-gap-init c =
       under_way = λ coins xs base front s first b.
           subst (λ k. IsUnderWay n coins xs c.args.cursor.now.all pivots c.args.free.now base front s c.args.change.now b.differ.differ.old_gates b.differ.differ.new_gates 0 k k
           c.args.cursor.now.left c.args.propagation.now) first (under-way-first b);
-      are_copies = λ coins xs base front s first b are.
+      are_checkpoints = λ coins xs base front s first b are.
           subst (All (IsCheckpoint n coins c.args.cursor.now.all)) (sym c.requires.nothing) (All-nil (IsCheckpoint n coins c.args.cursor.now.all));
     }
 
 -- no more steps are counted than there are
 
-pub propagate_piece-requires-clause-few_framed : goal.propagate_piece-requires-clause-few_framed
-propagate_piece-requires-clause-few_framed c =
-    omega (arith, ap length (c.skip_steps.ensures.left c.if-not-skip_steps.false), length-drop c.args.change.now.new c.loop-gap.cursor.left, c.loop-gap.invariant.counted, c.requires.few_framed)
+pub propagate_piece-requires-clause-few_propagated : goal.propagate_piece-requires-clause-few_propagated
+propagate_piece-requires-clause-few_propagated c =
+    omega (arith, ap length (c.skip_steps.ensures.left c.if-not-skip_steps.false), length-drop c.args.change.now.new c.loop-gap.cursor.left, c.loop-gap.invariant.counted, c.requires.few_propagated)
 
 pub returns-in_err-propagate_piece-clause-most : goal.returns-in_err-propagate_piece-clause-most
 returns-in_err-propagate_piece-clause-most c =
@@ -74,8 +74,8 @@ loop-gap-preserved c =
     let went = c.if-not-branch.false in
     let n = length c.args.propagation.now.letters in
     let skipped = c.skip_steps.ensures.left c.if-not-skip_steps.false in
-    let some = c.copies_until-here.ensures.value in
-    let copies = c.args.copies.now in
+    let some = c.checkpoints_until-here.ensures.value in
+    let checkpoints = c.args.checkpoints.now in
     record {
       all = piece.all ∙ all c;
       fits =
@@ -98,8 +98,8 @@ loop-gap-preserved c =
             arith,
             piece.count went,
             ap length some.1,
-            length-take some.0 (drop c.len.result copies),
-            length-drop c.len.result copies,
+            length-take some.0 (drop c.len.result checkpoints),
+            length-drop c.len.result checkpoints,
             c.len.ensures,
             c.loop-gap.passed.ok.0,
             inv.within,
@@ -113,13 +113,13 @@ loop-gap-preserved c =
           (λ i. IsFrameBetween (size c i) coins xs (all c i) (pivot_at c.args.strings.now.strings c.args.free.now) c.args.free.now base front
           (c.saturating_add-old.result + gap c) (c.saturating_add-new.result + gap c) c.propagate_piece.new.propagation)
           (piece.between went coins xs base front (before c coins xs base front s first b)));
-      are_copies = λ coins xs base front s first b are.
+      are_checkpoints = λ coins xs base front s first b are.
           subst (λ x. x) (λ i. All (IsCheckpoint (size c i) coins (all c i)) c.propagate_piece.new.passed.items)
-          (piece.copies went coins xs base front (before c coins xs base front s first b)
-          (subst (λ k. All (IsCheckpoint k coins xs) c.copies_until-here.result.now) (sym (size c))
+          (piece.checkpoints went coins xs base front (before c coins xs base front s first b)
+          (subst (λ k. All (IsCheckpoint k coins xs) c.checkpoints_until-here.result.now) (sym (size c))
           (subst (All (IsCheckpoint n coins xs)) (sym some.1)
-          (All-take (IsCheckpoint n coins xs) some.0 (drop c.len.result copies) (All-drop (IsCheckpoint n coins xs) c.len.result copies are))))
-          (subst (λ x. x) (λ i. All (IsCheckpoint (sym (size c) i) coins (sym (all c) i)) c.loop-gap.passed.items) (inv.are_copies coins xs base front s first b are)));
+          (All-take (IsCheckpoint n coins xs) some.0 (drop c.len.result checkpoints) (All-drop (IsCheckpoint n coins xs) c.len.result checkpoints are))))
+          (subst (λ x. x) (λ i. All (IsCheckpoint (sym (size c) i) coins (sym (all c) i)) c.loop-gap.passed.items) (inv.are_checkpoints coins xs base front s first b are)));
     }
 
 pub returns-clause-between : goal.returns-clause-between

@@ -5,22 +5,22 @@ use Rattle.stab_splices.proofs.rest.put_states.Goals as goal
 pub loop-state-preserved : goal.loop-state-preserved
 loop-state-preserved c =
     let from = c.args.from in
-    let copies = c.loop-state.copies.items in
+    let checkpoints = c.loop-state.checkpoints.items in
     let left = c.pop.new.self.items in
     let here = c.index_mut.result.now in
     let inv = c.loop-state.invariant in
     let count : c.len.result ≡ length left = c.len.ensures ∙ c.pop.new.self.ok.0 in
     let long : length c.loop-state.states.items ≡ length left + 1 = ap length c.in-Some.ensures.items ∙ length-append left (c.in-Some.state ∷ []) in
-    let at : here ≡ get_or (drop from copies) (length left) here =
-    c.index_mut.ensures.value ∙ sym (get_or-drop from copies c.len.result here) ∙ ap (λ k. get_or (drop from copies) k here) count in
+    let at : here ≡ get_or (drop from checkpoints) (length left) here =
+    c.index_mut.ensures.value ∙ sym (get_or-drop from checkpoints c.len.result here) ∙ ap (λ k. get_or (drop from checkpoints) k here) count in
     record {
-      front = take-set-le from copies (from + c.len.result) (record here { tableau = c.in-Some.state }) (omega arith) ∙ inv.front;
+      front = take-set-le from checkpoints (from + c.len.result) (record here { tableau = c.in-Some.state }) (omega arith) ∙ inv.front;
       states =
-          ap (with_states left) (drop-set-add from copies c.len.result (record here { tableau = c.in-Some.state }))
-          ∙ (λ i. with_states left (set (drop from copies) (count i) (record (at i) { tableau = c.in-Some.state })))
-          ∙ states-last left c.in-Some.state (drop from copies) here (omega (arith, inv.within, long, length-drop from copies))
-          ∙ ap (λ ts. with_states ts (drop from copies)) (sym c.in-Some.ensures.items)
+          ap (with_states left) (drop-set-add from checkpoints c.len.result (record here { tableau = c.in-Some.state }))
+          ∙ (λ i. with_states left (set (drop from checkpoints) (count i) (record (at i) { tableau = c.in-Some.state })))
+          ∙ states-last left c.in-Some.state (drop from checkpoints) here (omega (arith, inv.within, long, length-drop from checkpoints))
+          ∙ ap (λ ts. with_states ts (drop from checkpoints)) (sym c.in-Some.ensures.items)
           ∙ inv.states;
-      within = omega (arith, inv.within, long, length-set copies (from + c.len.result) (record here { tableau = c.in-Some.state }));
+      within = omega (arith, inv.within, long, length-set checkpoints (from + c.len.result) (record here { tableau = c.in-Some.state }));
       capacity = inv.capacity;
     }

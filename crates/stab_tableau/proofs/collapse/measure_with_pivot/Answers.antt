@@ -1,7 +1,7 @@
 use Rattle.stab_tableau.proofs.Names.{◌∙◌, refl, sym, ap, subst, length, Z, Signed, IsPivot, stabilises, observed}
 use Rattle.stab_tableau.proofs.ColumnLemmas.{length-column}
 use Rattle.stab_tableau.proofs.ExchangedOutcomeLemmas.{place-exchanges}
-use Rattle.stab_tableau.proofs.MeasureLemmas.{place-in, multiplier-length, told-multiplier, measured-fixed, measured-free}
+use Rattle.stab_tableau.proofs.MeasureLemmas.{place-in, multiplier-length, determined-multiplier, measured-fixed, measured-free}
 use Rattle.stab_tableau.proofs.collapse.measure_with_pivot.Goals as goal
 
 pub write_multiplier-requires-clause-same_length : goal.write_multiplier-requires-clause-same_length
@@ -16,9 +16,9 @@ collapse_rows_with_pivot-requires-clause-same_length c =
     multiplier-length (length c.args.table.now) c.args.preimage.now c.requires.tableau.size.x c.in-Some.place c.in-Some.ensures.in_range c.in-Some.ensures.has_x
     c.args.coin _ c.write_multiplier.new.multiplier (length c.args.multiplier.now.letters) c.requires.tableau.size.z refl c.write_multiplier.ensures.multiplier
 
-pub collapse_rows_with_pivot-requires-clause-told : goal.collapse_rows_with_pivot-requires-clause-told
-collapse_rows_with_pivot-requires-clause-told c =
-    told-multiplier (length c.args.table.now) c.args.table.now (record { x = c.args.preimage.now; z = c.args.multiplier.now }) c.requires.tableau
+pub collapse_rows_with_pivot-requires-clause-determined : goal.collapse_rows_with_pivot-requires-clause-determined
+collapse_rows_with_pivot-requires-clause-determined c =
+    determined-multiplier (length c.args.table.now) c.args.table.now (record { x = c.args.preimage.now; z = c.args.multiplier.now }) c.requires.tableau
     (observed (length c.args.table.now) c.args.observable.now) c.requires.same_length c.requires.preimage
     c.in-Some.place c.in-Some.ensures.in_range c.in-Some.ensures.has_x c.args.coin
     _ c.write_multiplier.new.multiplier (length c.args.multiplier.now.letters) c.requires.tableau.size.z refl c.write_multiplier.ensures.multiplier

@@ -6,6 +6,6 @@ pub returns : goal.returns
 returns c = record {
   law = (
     (λ g q p r same. (IsSymmetry-image (length r.letters) g q).keeps_product p r same refl),
-    (λ g n a b lt_a lt_b apart. (IsSymmetry-pair n g a b lt_a lt_b apart).keeps_product),
+    (λ g n a b lt_a lt_b distinct. (IsSymmetry-pair n g a b lt_a lt_b distinct).keeps_product),
   );
 }

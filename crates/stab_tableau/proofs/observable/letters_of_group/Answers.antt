@@ -1,5 +1,5 @@
 use Rattle.stab_tableau.proofs.Names.{◌*◌, ◌%◌}
-use Rattle.stab_tableau.proofs.MaskHalfLemmas.{half-few, group-inside, group-spared}
+use Rattle.stab_tableau.proofs.MaskHalfLemmas.{half-few, group-inside, group-unchosen}
 use Rattle.stab_tableau.proofs.observable.letters_of_group.Goals as goal
 
 pub returns-clause-few : goal.returns-clause-few
@@ -8,5 +8,5 @@ returns-clause-few c = λ k lk one. half-few c.letters_mask-both_groups.result (
 pub returns-clause-in_range : goal.returns-clause-in_range
 returns-clause-in_range c = λ k lk one. group-inside c.args.pauli.now.letters c.letters_mask-both_groups.result c.args.group c.letters_mask-both_groups.ensures.in_range k one
 
-pub returns-clause-spared : goal.returns-clause-spared
-returns-clause-spared c = group-spared c.args.pauli.now.letters c.letters_mask-both_groups.result c.args.group c.letters_mask-both_groups.ensures.spared
+pub returns-clause-unchosen : goal.returns-clause-unchosen
+returns-clause-unchosen c = group-unchosen c.args.pauli.now.letters c.letters_mask-both_groups.result c.args.group c.letters_mask-both_groups.ensures.unchosen

@@ -1,7 +1,7 @@
 use Rattle.stab_texts.proofs.Names.{◌∙◌, refl, ap, subst, TookAndFailed, WritesAll, failed_on, failed_within, circuit_items, ErrorTable, row, error_shown, fault_shown, where_text, what_text, numbered_line}
 use Rattle.stab_texts.proofs.ErrorLineLaws.{found_error, joined-error}
 use Rattle.stab_texts.proofs.FaultTextLaws.{path_here}
-use Rattle.stab_texts.proofs.WritingLaws.{writes_behind}
+use Rattle.stab_texts.proofs.WritingLaws.{writes_after}
 use Rattle.stab_texts.proofs.error_lines.write_error.Goals as goal
 
 pub returns-in_err-write_where : goal.returns-in_err-write_where
@@ -34,5 +34,5 @@ returns g c =
     let second = what_text c.args.kinds error c.row.result.now in
     let text = joined-error items t k c.before-2.result c.step.result c.args.kinds item.path error (fault_shown c.first-first.result) c.row.result.now c.requires.kinds is c.first-first.ensures.value c.before-2.ensures.value c.step.ensures.value path (c.row.ensures.value ∙ ap (λ (x : ErrorTable). row x.rows k) c.table.ensures.value) in record {
       writes = subst (λ l. WritesAll (g.O.Output.seen c.args.out.now) (g.O.Output.seen c.write_what.new.out) l c.write_what.result) text
-          (writes_behind (g.O.Output.seen c.write_what.new.out) first second c.write_what.result c.in_ok-write_where.ensures.writes c.write_what.ensures.writes);
+          (writes_after (g.O.Output.seen c.write_what.new.out) first second c.write_what.result c.in_ok-write_where.ensures.writes c.write_what.ensures.writes);
     }

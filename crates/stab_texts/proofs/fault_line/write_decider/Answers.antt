@@ -1,6 +1,6 @@
 use Rattle.stab_texts.proofs.Names.{◌≡◌, ◌∙◌, ap, [], ◌∷◌, ◌++◌, codes, decimal, subst, TookAndFailed, WritesAll, failed_on, failed_within, path_text, texts_joined}
 use Rattle.stab_texts.proofs.FaultTextLaws.{joined_three}
-use Rattle.stab_texts.proofs.WritingLaws.{writes_behind}
+use Rattle.stab_texts.proofs.WritingLaws.{writes_after}
 use Rattle.stab_texts.proofs.fault_line.write_decider.Goals as goal
 
 pub returns-in_err-write_texts : goal.returns-in_err-write_texts
@@ -23,5 +23,5 @@ returns g c =
     let text : front ++ path ≡ all = joined_three (codes " c") c.as_bytes.result.now (codes "@") path ∙ ap (λ d. codes " c" ++ (d ++ (codes "@" ++ path))) (c.as_bytes.ensures.value ∙ c.format.ensures.text) in
     record {
       writes = subst (λ l. WritesAll (g.O.Output.seen c.args.out.now) (g.O.Output.seen c.write_path.new.out) l c.write_path.result) text
-          (writes_behind (g.O.Output.seen c.write_path.new.out) front path c.write_path.result c.in_ok-write_texts.ensures.writes c.write_path.ensures.writes);
+          (writes_after (g.O.Output.seen c.write_path.new.out) front path c.write_path.result c.in_ok-write_texts.ensures.writes c.write_path.ensures.writes);
     }

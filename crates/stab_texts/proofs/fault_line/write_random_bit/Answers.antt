@@ -1,6 +1,6 @@
 use Rattle.stab_texts.proofs.Names.{◌∙◌, [], ◌∷◌, codes, subst, TookAndFailed, WritesAll, failed_on, failed_within, path_text, random_bit, texts_joined}
 use Rattle.stab_texts.proofs.FaultTextLaws.{joined-random}
-use Rattle.stab_texts.proofs.WritingLaws.{writes_behind}
+use Rattle.stab_texts.proofs.WritingLaws.{writes_after}
 use Rattle.stab_texts.proofs.fault_line.write_random_bit.Goals as goal
 
 pub returns-in_err-write_texts : goal.returns-in_err-write_texts
@@ -19,5 +19,5 @@ returns g c =
     let text = joined-random u c.bit_name-number.result.0.now c.as_bytes-digits.result.now c.bit_name-number.result.1 c.bit_name-number.ensures.value (c.as_bytes-digits.ensures.value ∙ c.format.ensures.text) in
     let front = texts_joined (codes "stabsim: " ∷ c.bit_name-number.result.0.now ∷ c.as_bytes-digits.result.now ∷ codes ", item " ∷ []) in record {
       writes = subst (λ l. WritesAll (g.O.Output.seen c.args.out.now) (g.O.Output.seen c.write_path.new.out) l c.write_path.result) text
-          (writes_behind (g.O.Output.seen c.write_path.new.out) front (path_text u.path) c.write_path.result c.in_ok-write_texts.ensures.writes c.write_path.ensures.writes);
+          (writes_after (g.O.Output.seen c.write_path.new.out) front (path_text u.path) c.write_path.result c.in_ok-write_texts.ensures.writes c.write_path.ensures.writes);
     }

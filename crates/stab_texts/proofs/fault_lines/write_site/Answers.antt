@@ -1,7 +1,7 @@
 use Rattle.stab_texts.proofs.Names.{◌++◌, codes, subst, flat_map, TookAndFailed, WritesAll, failed_on, failed_within, entry, fault_on, fault_text, table_line, site_shown}
 use Rattle.stab_gates.specs.declared.letter.Letter.TheVariants as letter
 use Rattle.stab_texts.proofs.FaultTextLaws.{joined-site}
-use Rattle.stab_texts.proofs.WritingLaws.{writes_behind}
+use Rattle.stab_texts.proofs.WritingLaws.{writes_after}
 use Rattle.stab_texts.proofs.fault_lines.write_site.Goals as goal
 
 pub returns-in_err-write_line : goal.returns-in_err-write_line
@@ -29,5 +29,5 @@ returns g c =
     let first = fault_text before path letter.X site.qubit ++ (flat_map (entry kinds) c.args.by_x.now ++ codes "\n") in
     let second = fault_text before path letter.Z site.qubit ++ (flat_map (entry kinds) c.args.by_z.now ++ codes "\n") in record {
       writes = subst (λ l. WritesAll (g.O.Output.seen c.args.out.now) (g.O.Output.seen c.write_line-2.new.out) l c.write_line-2.result) text
-          (writes_behind (g.O.Output.seen c.write_line-2.new.out) first second c.write_line-2.result c.in_ok-write_line.ensures.writes c.write_line-2.ensures.writes);
+          (writes_after (g.O.Output.seen c.write_line-2.new.out) first second c.write_line-2.result c.in_ok-write_line.ensures.writes c.write_line-2.ensures.writes);
     }

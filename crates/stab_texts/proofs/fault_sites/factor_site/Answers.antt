@@ -1,4 +1,4 @@
-use Rattle.stab_texts.proofs.Names.{◌∙◌, ◌%◌, [], ◌∷◌, sym, ap, ap₂, slice_get, in_front, behind}
+use Rattle.stab_texts.proofs.Names.{◌∙◌, ◌%◌, [], ◌∷◌, sym, ap, ap₂, slice_get, in_front, following}
 use Rattle.stab_texts.proofs.FaultSiteLaws.{site_past, site_of_factor}
 use Rattle.stab_texts.proofs.fault_sites.factor_site.Goals as goal
 
@@ -10,5 +10,5 @@ returns c =
     let factors = c.args.factors.now in
     let number = c.args.number in
     let factor = c.index-factors-factor.result in
-    let sides = ap₂ (λ a b. slice_get (a ∷ b ∷ []) (number % 2)) (c.in_front.ensures.value ∙ ap in_front c.number-qubit.ensures.value) (c.behind.ensures.value ∙ ap behind c.number-qubit.ensures.value) in
+    let sides = ap₂ (λ a b. slice_get (a ∷ b ∷ []) (number % 2)) (c.in_front.ensures.value ∙ ap in_front c.number-qubit.ensures.value) (c.following.ensures.value ∙ ap following c.number-qubit.ensures.value) in
     record { value = c.two_sites.ensures.value ∙ sides ∙ sym (site_of_factor factors number factor c.if-factor-factors.false) }

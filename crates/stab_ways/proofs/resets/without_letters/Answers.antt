@@ -1,6 +1,7 @@
 use Rattle.stab_ways.proofs.Names.{refl, sym, subst, All-take, length, map, take, measured, MeasureTarget, ◌<◌, EndsTogether, IsFront}
-use Rattle.stab_ways.proofs.TogetherLemmas.{front-mapped, fits-targets, together-free}
+use Rattle.stab_ways.proofs.TogetherLemmas.{front-mapped, together-free}
 use Rattle.stab_ways.proofs.resets.without_letters.Goals as goal
+use Rattle.stab_frames.proofs.StillPropagationLemmas.{targets-fit}
 
 pub returns-clause-front : goal.returns-clause-front
 returns-clause-front c =
@@ -13,4 +14,4 @@ returns-clause-together c = λ flips.
     let ts = c.args.targets.now in
     subst (λ us. EndsTogether n (map (measured c.args.measurement) us) (record { letters = c.args.letters.now; flips = flips })) (sym c.split_at.ensures.front)
     (together-free n c.args.measurement (take c.args.count ts) (record { letters = c.args.letters.now; flips = flips }) refl
-    (All-take (λ (t : MeasureTarget). t.qubit < n) c.args.count ts (fits-targets n c.args.measurement ts c.requires.fits)) c.requires.none)
+    (All-take (λ (t : MeasureTarget). t.qubit < n) c.args.count ts (targets-fit n c.args.measurement ts c.requires.fits)) c.requires.none)

@@ -38,11 +38,11 @@ propagate_instruction-requires-clause-few c =
       coin-bound (length c.args.propagation.now.letters) (c.steps.place - c.args.from) (drop c.args.from (steps_of c.args.kind.now)) c.args.propagation.now c.steps.propagation c.steps.invariant.passed,
     )
 
-pub propagate_instruction-requires-clause-few_framed : goal.propagate_instruction-requires-clause-few_framed
-propagate_instruction-requires-clause-few_framed c =
+pub propagate_instruction-requires-clause-few_propagated : goal.propagate_instruction-requires-clause-few_propagated
+propagate_instruction-requires-clause-few_propagated c =
     omega (
       arith,
-      c.requires.few_framed,
+      c.requires.few_propagated,
       c.in-Some.ensures.within.1,
       front-short (steps_shown c.at_once-front.result) (steps_shown c.in-Some.steps) c.at_once-front.ensures.front,
       c.steps.invariant.order,

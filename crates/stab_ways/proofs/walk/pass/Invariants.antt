@@ -7,7 +7,7 @@ abbrev pub invariant-steps : goal.invariant-steps
 invariant-steps l = record {
   order : l.from ≤ l.place;
   within : l.place ≤ l.to;
-  counted : l.framed ≡ l.initial.framed + (l.place - l.from);
+  counted : l.by_frame ≡ l.initial.by_frame + (l.place - l.from);
   size : length l.propagation.letters ≡ length l.initial.propagation.letters;
   passed : l.propagation ≡ passed (length l.initial.propagation.letters) (take (l.place - l.from) (drop l.from (steps_of l.kind))) l.initial.propagation;
 }

@@ -16,7 +16,7 @@ returns-clause-runs c =
     let ran = c.in_ok-zero.ensures in
     let flags = c.as_slice.ensures.value ∙ ran.free ∙ ap (λ coins. (run_of n coins items).free) zero in
     let found = c.in_ok-numbers.ensures in
-    let fits = check-fits n items (unroll items) c.requires.checked refl found.apart in
+    let fits = check-fits n items (unroll items) c.requires.checked refl found.distinct in
     record {
       checked = c.requires.checked;
       fits = fits;

@@ -5,7 +5,7 @@ use Rattle.stab_args.proofs.words.options.distance.Goals as goal
 
 pub returns-then-is_beside_count-clause-refused : goal.returns-then-is_beside_count-clause-refused
 returns-then-is_beside_count-clause-refused c =
-    let text : string_bytes c.in_ok-told.told ≡ count_fault = search rules in
+    let text : string_bytes c.in_ok-reported.reported ≡ count_fault = search rules in
     let set : IsSet (one_of (codes "count") (rows_of (found_of c.args.options.now))) true = search rules in
     inr (inr (inr (
       text,

@@ -5,7 +5,7 @@ use Rattle.stab_args.proofs.words.options.uncounted.Goals as goal
 
 pub returns-then-is_beside_problem-clause-refused : goal.returns-then-is_beside_problem-clause-refused
 returns-then-is_beside_problem-clause-refused c =
-    let text : string_bytes c.in_ok-told.told ≡ problem_fault = search rules in
+    let text : string_bytes c.in_ok-reported.reported ≡ problem_fault = search rules in
     let set : IsSet (one_of (codes "wcnf") (rows_of (found_of c.args.options.now))) true = search rules in
     inr (inr (inl (
       text,

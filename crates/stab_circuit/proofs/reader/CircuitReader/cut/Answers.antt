@@ -12,8 +12,8 @@ end_run-requires-clause-known c =
 pub end_run-requires-clause-ended : goal.end_run-requires-clause-ended
 end_run-requires-clause-ended c =
     let r = c.args.self.now in
-    let behind : c.len-first.result ≡ length r.outer.items = omega (arith, c.len-first.ensures, r.outer.ok.0) in
-    run_ends r.outer.items c.as_slice.result.now r.open_blocks.items r.items.items c.len-first.result c.args.line c.args.rest.now c.args.stretches.now.run c.requires.outside behind
+    let following : c.len-first.result ≡ length r.outer.items = omega (arith, c.len-first.ensures, r.outer.ok.0) in
+    run_ends r.outer.items c.as_slice.result.now r.open_blocks.items r.items.items c.len-first.result c.args.line c.args.rest.now c.args.stretches.now.run c.requires.outside following
     (c.as_slice.ensures.value ∙ c.in_ok-append.ensures.items) c.requires.run
 
 pub returns-clause-same : goal.returns-clause-same

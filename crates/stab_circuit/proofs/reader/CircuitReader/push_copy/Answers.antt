@@ -13,7 +13,7 @@ returns-clause-stretches c =
     let new = c.push_copies.new.items.items in
     let known = c.args.stretches.now.all.items in
     let first : c.len-first.result ≡ length r.outer.items = omega (arith, c.len-first.ensures, r.outer.ok.0) in
-    let behind : c.len-behind.result ≡ length new = omega (arith, c.len-behind.ensures, c.push_copies.new.items.ok.0) in
+    let following : c.len-following.result ≡ length new = omega (arith, c.len-following.ensures, c.push_copies.new.items.ok.0) in
     one_more new known c.remember.new.self.all.items _ c.in_ok-remember.ensures.all
     (keeps_all r.outer.items new known known refl (more_keeps r.outer.items new (items_of c.args.stretch r.outer.items) c.in_ok-push_copies.ensures.ok) c.requires.stretches)
-    (copy_stretch r.outer.items new c.args.stretch _ c.requires.known c.in_ok-push_copies.ensures.ok refl refl first behind)
+    (copy_stretch r.outer.items new c.args.stretch _ c.requires.known c.in_ok-push_copies.ensures.ok refl refl first following)

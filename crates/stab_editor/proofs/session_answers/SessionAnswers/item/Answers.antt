@@ -1,4 +1,4 @@
-use Rattle.stab_editor.proofs.SessionAnswerLaws.{item_refused, item_told}
+use Rattle.stab_editor.proofs.SessionAnswerLaws.{item_refused, item_reported}
 use Rattle.stab_editor.proofs.session_answers.SessionAnswers.item.Goals as goal
 
 pub returns-in_err-item : goal.returns-in_err-item
@@ -8,5 +8,5 @@ returns-in_err-item g c = record {
 
 pub returns : goal.returns
 returns g c = record {
-  shows = item_told c.circuit.result.now c.args.self.now.session.items c.args.place c.in_ok-item.item.now c.item-2.result c.memory.result c.circuit.ensures.value c.in_ok-item.ensures.value c.item-2.ensures.written c.memory.ensures.same c.memory.ensures.err;
+  shows = item_reported c.circuit.result.now c.args.self.now.session.items c.args.place c.in_ok-item.item.now c.item-2.result c.memory.result c.circuit.ensures.value c.in_ok-item.ensures.value c.item-2.ensures.written c.memory.ensures.same c.memory.ensures.err;
 }

@@ -1,5 +1,5 @@
 use Rattle.stab_edits.proofs.Names.{◌≡◌, ◌<◌, ap, sym, subst, ◌∙◌, arith, get_or, length, drop, slice_set, AreStretches}
-use Rattle.stab_edits.proofs.StretchLemmas.{items_next, end_within, stays_behind, renewed_at}
+use Rattle.stab_edits.proofs.StretchLemmas.{items_next, end_within, stays_after, renewed_at}
 use Rattle.stab_edits.proofs.circuit.stretches.renew_stretch.Goals as goal
 
 pub overflow_add-end : goal.overflow_add-end
@@ -54,5 +54,5 @@ returns c =
     let ss = c.args.stretches.now.items in
     record {
       are = subst (λ l. AreStretches l c.args.items.now) (sym at.kept)
-          (stays_behind ss c.stretches.number c.args.place c.args.len c.stretches.first c.args.items.now c.requires.were (omega (arith, c.stretches-test.false, c.len-number-end.ensures)) at.first at.before);
+          (stays_after ss c.stretches.number c.args.place c.args.len c.stretches.first c.args.items.now c.requires.were (omega (arith, c.stretches-test.false, c.len-number-end.ensures)) at.first at.before);
     }

@@ -30,9 +30,9 @@ returns c =
     let place = c.stretches.place in
     let last = c.items_summary in
     let before = drop c.args.first (take place front) in
-    let behind : rest ≡ drop (max c.args.first place) front = c.items_from.ensures.value ∙ ap (λ n. drop n front) c.max.ensures in
+    let following : rest ≡ drop (max c.args.first place) front = c.items_from.ensures.value ∙ ap (λ n. drop n front) c.max.ensures in
     let whole : drop c.args.first (take c.args.end c.args.items.now) ≡ before ++ rest =
-    ap (drop c.args.first) (sym c.items_up_to-front.ensures.value) ∙ from_joined c.args.first place front ∙ ap (λ l. before ++ l) (sym behind) in
+    ap (drop c.args.first) (sym c.items_up_to-front.ensures.value) ∙ from_joined c.args.first place front ∙ ap (λ l. before ++ l) (sym following) in
     let more = sum_is rest rest last.result refl last.ensures.value last.ensures.small last.ensures.good in
     record {
       sum = sum_joined (drop c.args.first (take c.args.end c.args.items.now)) before rest c.stretches.all last.result c.then.result whole c.stretches.invariant.sum more c.then.ensures.value c.then.ensures.small;

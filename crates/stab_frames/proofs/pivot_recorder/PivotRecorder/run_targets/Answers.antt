@@ -10,9 +10,9 @@ returns-then-is_full-clause-asks g c = omega (arith, c.apply_steps.ensures.asks,
 
 pub returns-then-is_full-clause-has_pivots : goal.returns-then-is_full-clause-has_pivots
 returns-then-is_full-clause-has_pivots g c =
-    let behind = c.apply_steps.new in
+    let following = c.apply_steps.new in
     pivots-full c.args.tableau.now.qubits (g.C.Coins.sequence c.args.coins.now) (map (measured c.args.measurement) c.args.targets.now) c.args.self.now.window
-    c.args.self.now.strings (program_state c.args.tableau.now (output_of c.args.outputs.now)) (program_state behind.tableau (output_of behind.outputs))
+    c.args.self.now.strings (program_state c.args.tableau.now (output_of c.args.outputs.now)) (program_state following.tableau (output_of following.outputs))
     (c.is_full.ensures.value.0 c.if-is_full.true) (near-targets c.args.self.now.window c.args.measurement c.args.targets.now)
     (c.in_ok-apply_steps.ensures {u = tt}).run
 

@@ -1,4 +1,4 @@
-use Rattle.stab_lanes.proofs.Names.{sym, ◌∙◌, ap, length-map, drop_all, ◌⊕◌, parity-false, factors_anticommute, factors-apart, letter_in, lane_letters}
+use Rattle.stab_lanes.proofs.Names.{sym, ◌∙◌, ap, length-map, drop_all, ◌⊕◌, parity-false, factors_anticommute, factors-distinct, letter_in, lane_letters}
 use Rattle.stab_lanes.proofs.frames.Frames.anticommuting_factors.Goals as goal
 
 pub returns : goal.returns
@@ -10,5 +10,5 @@ returns g c = record {
       sym (parity-false found)
       ∙ ap (λ fs. found ⊕ factors_anticommute lane fs) (sym (drop_all c.loop-factor.factor-index c.args.factors.now c.loop-factor-test.false))
       ∙ c.loop-factor.invariant l lt
-      ∙ sym (factors-apart _ lane c.args.factors.now (length-map letters (letter_in g.W.Word.at l)) c.requires.in_range c.requires.apart);
+      ∙ sym (factors-distinct _ lane c.args.factors.now (length-map letters (letter_in g.W.Word.at l)) c.requires.in_range c.requires.distinct);
 }

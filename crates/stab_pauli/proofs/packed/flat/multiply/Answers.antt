@@ -1,9 +1,9 @@
 use Rattle.stab_pauli.proofs.Names.{◌≡◌, ◌∙◌, ◌*◌, ap, sym, chunk, put_chunk, strings_meet, xor_words, row_letters}
-use Rattle.stab_pauli.proofs.Lemmas.{rows_apart}
+use Rattle.stab_pauli.proofs.Lemmas.{rows_disjoint}
 use Rattle.stab_pauli.proofs.packed.flat.multiply.Goals as goal
 
-pub multiply_at-requires-clause-apart : goal.multiply_at-requires-clause-apart
-multiply_at-requires-clause-apart c = rw (c.place_of-first-2.ensures.value, c.place_of-second-2.ensures.value) (rows_apart c.args.blocks c.args.a c.args.b c.requires.apart)
+pub multiply_at-requires-clause-disjoint : goal.multiply_at-requires-clause-disjoint
+multiply_at-requires-clause-disjoint c = rw (c.place_of-first-2.ensures.value, c.place_of-second-2.ensures.value) (rows_disjoint c.args.blocks c.args.a c.args.b c.requires.distinct)
 
 pub returns-then-blocks-eq1-clause-meet : goal.returns-then-blocks-eq1-clause-meet
 returns-then-blocks-eq1-clause-meet c =

@@ -9,7 +9,7 @@ pub loop-half-preserved : goal.loop-half-preserved
 loop-half-preserved c =
     let next : 4 * (c.loop-half.half + 1) ≡ 4 * c.loop-half.half + 4 = omega arith in
     ap (swapped_words (c.args.a + 4 * c.loop-half.half) (c.args.b + 4 * c.loop-half.half) 4) c.loop-half.invariant
-    ∙ swapped-more c.args.a c.args.b (4 * c.loop-half.half) 4 c.args.words.now (omega arith) (omega arith) (earlier c.args.a c.args.b (4 * c.loop-half.half + 4) (8 * c.args.blocks) (omega arith) c.requires.apart)
+    ∙ swapped-more c.args.a c.args.b (4 * c.loop-half.half) 4 c.args.words.now (omega arith) (omega arith) (earlier c.args.a c.args.b (4 * c.loop-half.half + 4) (8 * c.args.blocks) (omega arith) c.requires.disjoint)
     ∙ ap (λ n. swapped_words c.args.a c.args.b n c.args.words.now) (sym next)
 
 pub returns : goal.returns

@@ -9,8 +9,8 @@ loop-a-preserved c =
     record {
       in_range = omega (arith, inv.in_range);
       value = grown (λ j. has_x (get_or (row_letters c.args.blocks (chunk (8 * c.args.blocks * j) (8 * c.args.blocks) c.args.part.now)) c.args.qubit I))
-          c.loop-a.a 8 c.loop-a.mask c.behind-mask.result c.bit_of.result (omega (arith, c.loop-a-test.true))
+          c.loop-a.a 8 c.loop-a.mask c.following-mask.result c.bit_of.result (omega (arith, c.loop-a-test.true))
           (c.bit_of.ensures.value ∙ x-at (λ j. has_x (get_or (row_letters c.args.blocks (chunk (8 * c.args.blocks * (c.loop-a.a - 1)) (8 * c.args.blocks) c.args.part.now)) j I)) c.x_mask-word.result c.args.qubit c.x_mask-word.ensures.value)
-          c.behind-mask.ensures.first c.behind-mask.ensures.others inv.value;
-      short = subst (λ n. c.behind-mask.result < 2 ^ n) longer c.behind-mask.ensures.short;
+          c.following-mask.ensures.first c.following-mask.ensures.others inv.value;
+      short = subst (λ n. c.following-mask.result < 2 ^ n) longer c.following-mask.ensures.short;
     }

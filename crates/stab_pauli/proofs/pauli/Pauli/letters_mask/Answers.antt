@@ -24,5 +24,5 @@ returns c =
           (λ e. c.letters_mask.ensures.chosen k lk one (ap (λ w. get_or (row_letters m w) (64 * c.args.word + k) I) c.as_slice.ensures.value ∙ e)) in
           omega (arith, size, lt);
       chosen = λ k lk one e. c.letters_mask.ensures.chosen k lk one (sym (letter_is (64 * c.args.word + k)) ∙ e);
-      spared = λ k lk none. letter_is (64 * c.args.word + k) ∙ c.letters_mask.ensures.spared k lk none;
+      unchosen = λ k lk none. letter_is (64 * c.args.word + k) ∙ c.letters_mask.ensures.unchosen k lk none;
     }

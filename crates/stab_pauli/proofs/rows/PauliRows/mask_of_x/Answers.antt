@@ -9,8 +9,8 @@ pub eight_with_x-eight-requires-clause-in_range : goal.eight_with_x-eight-requir
 eight_with_x-eight-requires-clause-in_range c =
     omega (arith, c.loop-a.invariant.from, c.loop-a.invariant.parts, c.loop-a.invariant.in_range, c.loop-a-test.true, c.requires.in_range)
 
-pub behind_eight-mask-requires-clause-room : goal.behind_eight-mask-requires-clause-room
-behind_eight-mask-requires-clause-room c =
+pub after_eight-mask-requires-clause-room : goal.after_eight-mask-requires-clause-room
+after_eight-mask-requires-clause-room c =
     omega (arith, c.loop-a.invariant.from, c.loop-a.invariant.parts, c.loop-a.invariant.in_range, c.loop-a-test.true, c.requires.few)
 
 pub overflow_sub-a-in-loop-a-2 : goal.overflow_sub-a-in-loop-a-2
@@ -25,9 +25,9 @@ loop-a-preserved c =
       from = omega (arith, part);
       in_range = omega (arith, inv.in_range);
       parts = omega (arith, part, inv.parts);
-      value = grown-eight (λ j. has_x (get_or (row_at c.args.self.now j).letters c.args.qubit I)) c.loop-a.a c.args.end c.loop-a.mask c.behind_eight-mask.result c.eight_with_x-eight.result.0
-          (omega (arith, part)) c.eight_with_x-eight.ensures.value c.behind_eight-mask.ensures.first c.behind_eight-mask.ensures.others inv.value;
-      short = subst (λ n. c.behind_eight-mask.result < 2 ^ n) longer c.behind_eight-mask.ensures.short;
+      value = grown-eight (λ j. has_x (get_or (row_at c.args.self.now j).letters c.args.qubit I)) c.loop-a.a c.args.end c.loop-a.mask c.after_eight-mask.result c.eight_with_x-eight.result.0
+          (omega (arith, part)) c.eight_with_x-eight.ensures.value c.after_eight-mask.ensures.first c.after_eight-mask.ensures.others inv.value;
+      short = subst (λ n. c.after_eight-mask.result < 2 ^ n) longer c.after_eight-mask.ensures.short;
       places = gathered (λ k j. has_x (get_or (row_at c.args.self.now k).letters (64 * (c.args.qubit / 64) + j) I)) 8 c.loop-a.a c.args.end c.loop-a.places c.eight_with_x-eight.result.1
           (omega (arith, part)) c.eight_with_x-eight.ensures.places inv.places;
     }

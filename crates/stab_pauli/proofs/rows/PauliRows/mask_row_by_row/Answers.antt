@@ -9,11 +9,11 @@ loop-a-preserved c =
     record {
       from = omega (arith, c.loop-a-test.true);
       in_range = omega (arith, inv.in_range);
-      value = grown (λ k. has_x (get_or (row_at c.args.self.now k).letters c.args.qubit I)) c.loop-a.a c.args.end c.loop-a.mask c.behind-mask.result c.bit_of.result
+      value = grown (λ k. has_x (get_or (row_at c.args.self.now k).letters c.args.qubit I)) c.loop-a.a c.args.end c.loop-a.mask c.following-mask.result c.bit_of.result
           (omega (arith, c.loop-a-test.true))
           (c.bit_of.ensures.value ∙ x-at (λ j. has_x (get_or (row_at c.args.self.now (c.loop-a.a - 1)).letters j I)) c.x_mask-word.result c.args.qubit c.x_mask-word.ensures.value)
-          c.behind-mask.ensures.first c.behind-mask.ensures.others inv.value;
-      short = subst (λ n. c.behind-mask.result < 2 ^ n) longer c.behind-mask.ensures.short;
+          c.following-mask.ensures.first c.following-mask.ensures.others inv.value;
+      short = subst (λ n. c.following-mask.result < 2 ^ n) longer c.following-mask.ensures.short;
       places = gathered-one (λ k j. has_x (get_or (row_at c.args.self.now k).letters (64 * (c.args.qubit / 64) + j) I)) c.loop-a.a c.args.end c.loop-a.places c.x_mask-word.result
           (omega (arith, c.loop-a-test.true)) c.x_mask-word.ensures.value inv.places;
     }

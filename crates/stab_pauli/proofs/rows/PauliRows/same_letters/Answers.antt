@@ -1,5 +1,5 @@
 use Rattle.stab_pauli.proofs.Names.{arith, ◌≡◌, ◌∙◌, sym, length}
-use Rattle.stab_pauli.proofs.Lemmas.{AreShort-same, words_told, letters_told, same_number, no_false, seen_of, qubits_seen}
+use Rattle.stab_pauli.proofs.Lemmas.{AreShort-same, words_determined, letters_determined, same_number, no_false, seen_of, qubits_seen}
 use Rattle.stab_pauli.proofs.rows.PauliRows.same_letters.Goals as goal
 
 pub same-requires-clause-are_short : goal.same-requires-clause-are_short
@@ -35,8 +35,8 @@ returns c =
       value = (
         (λ h. (
           sym (qubits_seen mine) ∙ c.if-self-other.false ∙ qubits_seen theirs,
-          letters_told mine theirs c.if-self-other.false number (sym c.as_slice-words.ensures.value ∙ c.same.ensures.value.0 h ∙ c.as_slice-others.ensures.value),
+          letters_determined mine theirs c.if-self-other.false number (sym c.as_slice-words.ensures.value ∙ c.same.ensures.value.0 h ∙ c.as_slice-others.ensures.value),
         )),
-        (λ both. c.same.ensures.value.1 (c.as_slice-words.ensures.value ∙ words_told mine theirs short shorts both.0 both.1 ∙ sym c.as_slice-others.ensures.value)),
+        (λ both. c.same.ensures.value.1 (c.as_slice-words.ensures.value ∙ words_determined mine theirs short shorts both.0 both.1 ∙ sym c.as_slice-others.ensures.value)),
       );
     }

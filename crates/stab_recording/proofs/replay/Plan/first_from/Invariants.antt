@@ -3,5 +3,5 @@ use Rattle.stab_recording.proofs.replay.Plan.first_from.Given as goal
 
 abbrev pub invariant-loop-number : goal.invariant-loop-number
 invariant-loop-number l = record {
-  among : (i : ℕ) → l.next ≤ i → i < l.number → IfSome (slice_get l.copies i) (λ c. l.begin ≤ c.step);
+  among : (i : ℕ) → l.next ≤ i → i < l.number → IfSome (slice_get l.checkpoints i) (λ c. l.begin ≤ c.step);
 }

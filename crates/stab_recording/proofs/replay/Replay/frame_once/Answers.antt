@@ -1,4 +1,4 @@
-use Rattle.stab_recording.proofs.Names.{◌≡◌, ℕ, ◌+◌, ◌-◌, ◌≤◌, [], ◌∷◌, ◌++◌, refl, sym, ◌∙◌, ap, subst, All, IsSomeAnd, length, take, drop, arith, slice_get_read, ones, RunOutput, joined, all_coins_of, StepFits, output_of, ones-append, flipped_output, pivot_at, IsPlaced, coins_from, PropagatesToOthers, ones-within, flipped-empty, Checkpoint, stabilises, IsConjugated, coins-few, Replay, flips_behind, HasFramed, HasStringsAgain}
+use Rattle.stab_recording.proofs.Names.{◌≡◌, ℕ, ◌+◌, ◌-◌, ◌≤◌, [], ◌∷◌, ◌++◌, refl, sym, ◌∙◌, ap, subst, All, IsSomeAnd, length, take, drop, arith, slice_get_read, ones, RunOutput, joined, all_coins_of, StepFits, output_of, ones-append, flipped_output, pivot_at, IsPlaced, coins_from, PropagatesToOthers, ones-within, flipped-empty, Checkpoint, stabilises, IsConjugated, coins-few, Replay, flips_after, HasPropagated, HasStringsAgain}
 use Rattle.std.proofs.Common.{IfSome}
 use Rattle.stab_recording.proofs.ReplayLemmas.{coins-cut}
 use Rattle.stab_recording.proofs.FoldedReplayLemmas.{kept-before, ones-given}
@@ -42,13 +42,13 @@ overflow_add-self-2 g c = let le = few g ((goal.at.overflow_add-self-2 g c).In-S
 pub overflow_sub-ahead : goal.overflow_sub-ahead
 overflow_sub-ahead g c = let k = c.requires.may in omega (arith, k.free, c.len.ensures)
 
-pub framed_checkpoint-requires : goal.framed_checkpoint-requires
-framed_checkpoint-requires g c = record {
+pub propagated_checkpoint-requires : goal.propagated_checkpoint-requires
+propagated_checkpoint-requires g c = record {
   same_length =
       ap length c.letters.ensures.value
       ∙ c.propagate_with_coins.ensures.length
       ∙ c.requires.may.size
-      ∙ sym (subst (λ o. IfSome o (λ (d : Checkpoint). d.tableau.qubits ≡ c.args.self.now.tableau.qubits)) (slice_get_read c.args.self.now.laid.items (length c.args.self.now.laid.items) (c.args.segment.number + 1) c.index.result.now refl c.requires.in_range c.index.ensures) c.requires.may.qubits);
+      ∙ sym (subst (λ o. IfSome o (λ (d : Checkpoint). d.tableau.qubits ≡ c.args.self.now.tableau.qubits)) (slice_get_read c.args.self.now.saved.items (length c.args.self.now.saved.items) (c.args.segment.number + 1) c.index.result.now refl c.requires.in_range c.index.ensures) c.requires.may.qubits);
 }
 
 pub propagate_with_coins-requires-clause-fits : goal.propagate_with_coins-requires-clause-fits
@@ -92,11 +92,11 @@ returns-in_err-tableau-clause-asked g c = asked-for g ((goal.at.returns-in_err-t
 pub returns-in_err-part-clause-asked : goal.returns-in_err-part-clause-asked
 returns-in_err-part-clause-asked g c = asked-for g ((goal.at.returns-in_err-part-clause-asked g c).In-Some) _ _ c.propagate_with_coins.ensures.asks
 
-pub returns-in_err-append_framed-clause-asked : goal.returns-in_err-append_framed-clause-asked
-returns-in_err-append_framed-clause-asked g c = asked-for g ((goal.at.returns-in_err-append_framed-clause-asked g c).In-Some) _ _ c.propagate_with_coins.ensures.asks
+pub returns-in_err-append_propagated-clause-asked : goal.returns-in_err-append_propagated-clause-asked
+returns-in_err-append_propagated-clause-asked g c = asked-for g ((goal.at.returns-in_err-append_propagated-clause-asked g c).In-Some) _ _ c.propagate_with_coins.ensures.asks
 
-pub returns-in_err-pivot_again-clause-asked : goal.returns-in_err-pivot_again-clause-asked
-returns-in_err-pivot_again-clause-asked g c = asked-for g ((goal.at.returns-in_err-pivot_again-clause-asked g c).In-Some) _ _ c.propagate_with_coins.ensures.asks
+pub returns-in_err-repeat_pivots-clause-asked : goal.returns-in_err-repeat_pivots-clause-asked
+returns-in_err-repeat_pivots-clause-asked g c = asked-for g ((goal.at.returns-in_err-repeat_pivots-clause-asked g c).In-Some) _ _ c.propagate_with_coins.ensures.asks
 
 pub returns-in_err-push-clause-asked : goal.returns-in_err-push-clause-asked
 returns-in_err-push-clause-asked g c = asked-for g ((goal.at.returns-in_err-push-clause-asked g c).In-Some) _ _ c.propagate_with_coins.ensures.asks
@@ -123,7 +123,7 @@ returns-clause-asks_free g c =
     let to = c.args.segment.to.free in
     let count = all_coins_of (take c.args.segment.steps c.args.self.now.cursor.left) in
     let asked = (c.in_ok-propagate_with_coins.ensures {u = tt}).asks_free in
-    let given = ap (λ (o : RunOutput). ones o.free) ((c.in_ok-append_framed.ensures {u = tt}).value ∙ ap (λ o. joined (output_of c.args.self.now.outputs) (flipped_output o (flips_behind c.lengths_propagated-gone.result c.propagate_with_coins.new.propagation))) (c.in_ok-part.ensures {u = tt}).value) in
+    let given = ap (λ (o : RunOutput). ones o.free) ((c.in_ok-append_propagated.ensures {u = tt}).value ∙ ap (λ o. joined (output_of c.args.self.now.outputs) (flipped_output o (flips_after c.lengths_propagated-gone.result c.propagate_with_coins.new.propagation))) (c.in_ok-part.ensures {u = tt}).value) in
     omega (
       arith,
       asked,
@@ -136,26 +136,26 @@ returns-clause-asks_free g c =
       ap (λ bits. ones (free ++ bits)) (flipped-empty (drop from (take to free))),
     )
 
-pub returns-clause-framed : goal.returns-clause-framed
-returns-clause-framed g c =
-    let at = (goal.at.returns-clause-framed g c).In-Some in
+pub returns-clause-by_frame : goal.returns-clause-by_frame
+returns-clause-by_frame g c =
+    let at = (goal.at.returns-clause-by_frame g c).In-Some in
     let propagated = c.in_ok-propagate_with_coins.ensures {u = tt} in
     let s = c.args.segment in
     let old = c.args.self.now in
     let w = c.args.propagation in
     let v = c.propagate_with_coins.new.propagation in
-    let copy = c.index.result.now in
+    let checkpoint = c.index.result.now in
     let coins = g.C.Coins.sequence c.args.coins.now in
     let new : Replay = record old {
-      outputs = c.append_framed.new.outputs;
-      pivots = record old.pivots { strings = c.pivot_again.new.strings };
+      outputs = c.append_propagated.new.outputs;
+      pivots = record old.pivots { strings = c.repeat_pivots.new.strings };
       cursor = c.propagate_with_coins.new.cursor;
       step = old.step + s.steps;
       applied = old.applied + c.in-Some.asked;
-      framed = old.framed + (s.steps - c.in-Some.asked);
-      laid = c.push.new.self;
+      by_frame = old.by_frame + (s.steps - c.in-Some.asked);
+      saved = c.push.new.self;
     } in
-    subst (λ o. IsSomeAnd o (HasFramed coins s old new w v)) (sym (slice_get_read old.laid.items (length old.laid.items) (s.number + 1) copy refl c.requires.in_range c.index.ensures))
+    subst (λ o. IsSomeAnd o (HasPropagated coins s old new w v)) (sym (slice_get_read old.saved.items (length old.saved.items) (s.number + 1) checkpoint refl c.requires.in_range c.index.ensures))
     (record {
       step = refl;
       counted = omega (arith, few g at);
@@ -169,7 +169,7 @@ returns-clause-framed g c =
           propagated.propagated;
       left = propagated.left;
       output =
-          (c.in_ok-append_framed.ensures {u = tt}).value
+          (c.in_ok-append_propagated.ensures {u = tt}).value
           ∙ (λ i. joined (output_of old.outputs) (flipped_output ((c.in_ok-part.ensures {u = tt}).value i) (record {
             records = drop (c.lengths_propagated-gone.ensures.records i) v.flips.records;
             free = [];
@@ -179,15 +179,15 @@ returns-clause-framed g c =
           })));
       kept = kept g at;
       strings =
-          subst (λ x. x) (λ i. HasStringsAgain (c.number-before.ensures.value i) (c.number-after.ensures.value i) old.pivots.strings c.pivot_again.new.strings)
-          (c.in_ok-pivot_again.ensures {u = tt}).value;
+          subst (λ x. x) (λ i. HasStringsAgain (c.number-before.ensures.value i) (c.number-after.ensures.value i) old.pivots.strings c.repeat_pivots.new.strings)
+          (c.in_ok-repeat_pivots.ensures {u = tt}).value;
       state = c.in_ok-tableau.tableau;
       qubits = (c.in_ok-tableau.ensures {u = tt}).qubits;
       conjugated =
-          subst (λ l. IsConjugated copy.tableau.qubits l (stabilises copy.tableau) (stabilises c.in_ok-tableau.tableau)) c.letters.ensures.value (c.in_ok-tableau.ensures {u = tt}).conjugated;
-      laid =
+          subst (λ l. IsConjugated checkpoint.tableau.qubits l (stabilises checkpoint.tableau) (stabilises c.in_ok-tableau.tableau)) c.letters.ensures.value (c.in_ok-tableau.ensures {u = tt}).conjugated;
+      saved =
           (c.in_ok-push.ensures {u = tt}).items
-          ∙ (λ i. old.laid.items ++ record { step = new.step; lengths = c.lengths.ensures.value i; tableau = c.in_ok-tableau.tableau } ∷ []);
+          ∙ (λ i. old.saved.items ++ record { step = new.step; lengths = c.lengths.ensures.value i; tableau = c.in_ok-tableau.tableau } ∷ []);
     })
   where
     ahead : c.len.result - c.args.segment.from.free ≡ length c.args.self.now.outputs.free.items - c.args.segment.from.free

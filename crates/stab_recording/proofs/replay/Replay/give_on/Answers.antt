@@ -1,4 +1,4 @@
-use Rattle.stab_recording.proofs.Names.{◌≡◌, ℕ, ◌+◌, ◌<◌, ◌≤◌, ◌∙◌, sym, ap, subst, Bool, true, List, Option, Some, length, drop, arith, Repeat, Checkpoint, Earlier, Plan, all_coins_of, Replay, IsOnWay, with_folded, IsFolding, with_state, with_cursor}
+use Rattle.stab_recording.proofs.Names.{◌≡◌, ℕ, ◌+◌, ◌<◌, ◌≤◌, ◌∙◌, sym, ap, subst, Bool, true, List, Option, Some, length, drop, arith, Repeat, Checkpoint, Recurrence, Plan, all_coins_of, Replay, IsOnWay, with_folded, IsFolding, with_state, with_cursor}
 use Rattle.std.proofs.Common.{IfSome}
 use Rattle.stab_recording.proofs.FoldedReplayLemmas.{folding-named}
 use Rattle.stab_recording.proofs.replay.Replay.give_on.Goals as goal
@@ -19,10 +19,10 @@ give_once-requires-clause-folding g c =
     )
 
 pub returns-in_default-clause-way : goal.returns-in_default-clause-way
-returns-in_default-clause-way g c = λ begin p copies old next block folding.
-    subst (λ (r : Replay). IsOnWay c.args.self.now.tableau.qubits (g.C.Coins.sequence c.args.coins.now) begin p c.args.self.now.cursor.all copies old next (with_cursor c.args.self.now.cursor.all (with_state c.giving.passed r)))
+returns-in_default-clause-way g c = λ begin p checkpoints old next block folding.
+    subst (λ (r : Replay). IsOnWay c.args.self.now.tableau.qubits (g.C.Coins.sequence c.args.coins.now) begin p c.args.self.now.cursor.all checkpoints old next (with_cursor c.args.self.now.cursor.all (with_state c.giving.passed r)))
     (sym ((c.in_ok-later.ensures {u = tt}).stays c.in_default.is))
-    (c.giving.invariant.way begin p copies old next block folding).may.way
+    (c.giving.invariant.way begin p checkpoints old next block folding).may.way
 
 -- what holds of an element that there is
 some-one : {X : Type 0} (P : X → Type 0) (o : Option X) (x : X) → o ≡ Some x → IfSome o P → P x
@@ -40,7 +40,7 @@ giving-preserved g c =
     let before = inv.gone in
     let qubits : old.tableau.qubits ≡ c.args.self.now.tableau.qubits = ap (λ (r : Replay). r.tableau.qubits) inv.rest in
     record {
-      in_range = (some-one (λ (e : Earlier). (old.step < new.step) × (new.step ≤ c.args.end) × (e.number + 1 < length new.laid.items)) _ later c.in-Some.is gave.further).2;
+      in_range = (some-one (λ (e : Recurrence). (old.step < new.step) × (new.step ≤ c.args.end) × (e.number + 1 < length new.saved.items)) _ later c.in-Some.is gave.further).2;
       rest = done.rest ∙ ap (λ r. with_folded r new) inv.rest;
       all = done.all ∙ inv.all;
       same_coins = done.same_coins ∙ inv.same_coins;
@@ -51,13 +51,13 @@ giving-preserved g c =
         asks_free = omega (arith, before.asks_free, gone.asks_free);
         counted = omega (arith, before.counted, gone.counted);
         further = omega (arith, before.further, gone.further);
-        few_laid = omega (arith, before.few_laid, gone.few_laid);
+        few_saved = omega (arith, before.few_saved, gone.few_saved);
       };
-      way = λ begin p copies kept next block folding.
-          folding-named begin p copies kept next block c.args.end true new later qubits inv.same_coins inv.all
-          (some-one (λ (e : Earlier). (begin : ℕ) (p : Plan) (copies : List Checkpoint) (old : List Bool) (next : ℕ) (block : Repeat) (passed : Bool)
-          → IsFolding c.giving.self.tableau.qubits (g.C.Coins.sequence c.giving.coins) begin p c.giving.self.cursor.all copies old next block c.args.end passed c.giving.self c.giving.found
-          → IsFolding c.giving.self.tableau.qubits (g.C.Coins.sequence c.giving.coins) begin p c.giving.self.cursor.all copies old next block c.args.end true new e) _ later c.in-Some.is gave.way
-          begin p copies kept next block c.giving.passed
-          (folding-named begin p copies kept next block c.args.end c.giving.passed old c.giving.found (sym qubits) (sym inv.same_coins) (sym inv.all) (inv.way begin p copies kept next block folding)));
+      way = λ begin p checkpoints kept next block folding.
+          folding-named begin p checkpoints kept next block c.args.end true new later qubits inv.same_coins inv.all
+          (some-one (λ (e : Recurrence). (begin : ℕ) (p : Plan) (checkpoints : List Checkpoint) (old : List Bool) (next : ℕ) (block : Repeat) (passed : Bool)
+          → IsFolding c.giving.self.tableau.qubits (g.C.Coins.sequence c.giving.coins) begin p c.giving.self.cursor.all checkpoints old next block c.args.end passed c.giving.self c.giving.found
+          → IsFolding c.giving.self.tableau.qubits (g.C.Coins.sequence c.giving.coins) begin p c.giving.self.cursor.all checkpoints old next block c.args.end true new e) _ later c.in-Some.is gave.way
+          begin p checkpoints kept next block c.giving.passed
+          (folding-named begin p checkpoints kept next block c.args.end c.giving.passed old c.giving.found (sym qubits) (sym inv.same_coins) (sym inv.all) (inv.way begin p checkpoints kept next block folding)));
     }

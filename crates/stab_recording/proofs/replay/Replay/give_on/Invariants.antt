@@ -3,7 +3,7 @@ use Rattle.stab_recording.proofs.replay.Replay.give_on.Given as goal
 
 abbrev pub invariant-giving : goal.invariant-giving
 invariant-giving g l = record {
-  in_range : l.found.number + 1 < length l.self.laid.items;
+  in_range : l.found.number + 1 < length l.self.saved.items;
   rest : l.self ≡ with_folded l.initial.self l.self;
   all : l.self.cursor.all ≡ l.initial.self.cursor.all;
   same_coins : g.C.Coins.sequence l.coins ≡ g.C.Coins.sequence l.initial.coins;
@@ -11,9 +11,9 @@ invariant-giving g l = record {
       ≤ g.C.Coins.asks l.initial.coins + all_coins_of (drop l.initial.self.step l.initial.self.cursor.all);
   most : l.initial.self.pivots.strings.most ≤ l.self.pivots.strings.most;
   gone : HasGone l.spacing (g.C.Coins.asks l.initial.coins) (g.C.Coins.asks l.coins) l.initial.self l.self;
-  way : (begin : ℕ) (p : Plan) (copies : List Checkpoint) (old : List Bool) (next : ℕ) (block : Repeat)
-      → IsFolding l.initial.self.tableau.qubits (g.C.Coins.sequence l.initial.coins) begin p l.initial.self.cursor.all copies old next block l.end false l.initial.self l.initial.found
-      → IsFolding l.initial.self.tableau.qubits (g.C.Coins.sequence l.initial.coins) begin p l.initial.self.cursor.all copies old next block l.end l.passed l.self l.found;
+  way : (begin : ℕ) (p : Plan) (checkpoints : List Checkpoint) (old : List Bool) (next : ℕ) (block : Repeat)
+      → IsFolding l.initial.self.tableau.qubits (g.C.Coins.sequence l.initial.coins) begin p l.initial.self.cursor.all checkpoints old next block l.end false l.initial.self l.initial.found
+      → IsFolding l.initial.self.tableau.qubits (g.C.Coins.sequence l.initial.coins) begin p l.initial.self.cursor.all checkpoints old next block l.end l.passed l.self l.found;
 }
 
 abbrev pub decreases-giving : goal.decreases-giving

@@ -1,20 +1,21 @@
 use Rattle.stab_recording.proofs.Names.{◌≡◌, sym, ◌∙◌, ap, subst, length, drop, All, arith, StepFits, Repeat, IsRepeat, circuit_items, check-steps, check-whole, counted-steps, all_coins_of, IsAtStep}
-use Rattle.stab_recording.proofs.RunLemmas.{own-on, own-named, repeat-of}
+use Rattle.stab_recording.proofs.RunLemmas.{own-on, own-named}
 use Rattle.stab_recording.proofs.replay.Replay.run_all.Given.{Over}
 use Rattle.stab_recording.proofs.replay.Replay.run_all.Goals as goal
 use Rattle.stab_recording.proofs.replay.Replay.run_all.Goals.{After-steps}
+use Rattle.stab_recording.proofs.AgainOverLemmas.{repeat-at}
 
 abbrev none : Repeat
 none = record { first = 0; length = 0; rounds = 0; window = 0 }
 
 pub taken_together-requires-clause-some : goal.taken_together-requires-clause-some
 taken_together-requires-clause-some g c =
-    (repeat-of 0 c.args.self.now.cursor.all c.args.repeats.now c.loop-repeat.repeat-index none c.loop-repeat-test.true c.requires.repeats).some
+    (repeat-at 0 c.args.self.now.cursor.all c.args.repeats.now c.loop-repeat.repeat-index none c.loop-repeat-test.true c.requires.repeats).some
 
 pub taken_together-requires-clause-few : goal.taken_together-requires-clause-few
 taken_together-requires-clause-few g c =
     let items = circuit_items c.args.circuit.now in
-    let here = repeat-of 0 c.args.self.now.cursor.all c.args.repeats.now c.loop-repeat.repeat-index none c.loop-repeat-test.true c.requires.repeats in
+    let here = repeat-at 0 c.args.self.now.cursor.all c.args.repeats.now c.loop-repeat.repeat-index none c.loop-repeat-test.true c.requires.repeats in
     omega (arith, here.inside, ap length c.requires.same_circuit, check-steps items (check-whole c.args.self.now.tableau.qubits items c.requires.checked))
 
 pub run_block-requires-clause-same_circuit : goal.run_block-requires-clause-same_circuit
@@ -35,7 +36,7 @@ run_block-requires-clause-few g c =
 
 pub run_block-requires-clause-repeat : goal.run_block-requires-clause-repeat
 run_block-requires-clause-repeat g c =
-    let here = repeat-of 0 c.args.self.now.cursor.all c.args.repeats.now c.loop-repeat.repeat-index none c.loop-repeat-test.true c.requires.repeats in
+    let here = repeat-at 0 c.args.self.now.cursor.all c.args.repeats.now c.loop-repeat.repeat-index none c.loop-repeat-test.true c.requires.repeats in
     subst (λ ys. IsRepeat ys c.taken_together.result) (sym c.loop-repeat.invariant.all) (c.taken_together.ensures.repeat c.args.self.now.cursor.all here)
 
 pub run_block-requires-clause-own : goal.run_block-requires-clause-own
@@ -87,8 +88,8 @@ returns-clause-own g c =
     let done = c.in_ok-run_to.ensures {u = tt} in
     let within = inv.own.replay.at_step.within in
     own-on c.args.self.now.tableau.qubits (g.C.Coins.sequence c.args.coins.now) c.args.self.now.cursor.all c.loop-repeat.self c.run_to.new.self inv.own
-    (subst (λ x. x) (λ i. IsAtStep (inv.qubits i) (inv.same_coins i) (inv.all i) c.run_to.new.self) done.at_step) ran.laid
-    (let counted = done.counted in let framed = ran.framed in let step = ran.step in omega (arith, counted, framed, step))
+    (subst (λ x. x) (λ i. IsAtStep (inv.qubits i) (inv.same_coins i) (inv.all i) c.run_to.new.self) done.at_step) ran.saved
+    (let counted = done.counted in let by_frame = ran.by_frame in let step = ran.step in omega (arith, counted, by_frame, step))
     (let step = ran.step in omega (arith, step, within, total g ((goal.at.returns-clause-own g c).After-steps)))
 
 pub returns-clause-step : goal.returns-clause-step

@@ -33,8 +33,8 @@ loop-round-init g c =
       asked = omega (arith, ran.asked, ap (λ k. all_coins_of (drop k c.args.self.now.cursor.all)) ran.step);
       most = omega (arith, ran.most);
       own =
-          own-on c.args.self.now.tableau.qubits (g.C.Coins.sequence c.args.coins.now) c.args.self.now.cursor.all c.args.self.now c.run_to.new.self c.requires.own done.at_step ran.laid
-          (let counted = done.counted in let framed = ran.framed in let step = ran.step in omega (arith, counted, framed, step)) (let step = ran.step in omega (arith, step));
+          own-on c.args.self.now.tableau.qubits (g.C.Coins.sequence c.args.coins.now) c.args.self.now.cursor.all c.args.self.now c.run_to.new.self c.requires.own done.at_step ran.saved
+          (let counted = done.counted in let by_frame = ran.by_frame in let step = ran.step in omega (arith, counted, by_frame, step)) (let step = ran.step in omega (arith, step));
     }
 
 pub loop-round-preserved : goal.loop-round-preserved
@@ -55,5 +55,5 @@ loop-round-preserved g c =
 
 pub returns-clause-own : goal.returns-clause-own
 returns-clause-own g c =
-    own-front c.args.self.now.tableau.qubits (g.C.Coins.sequence c.args.coins.now) c.args.self.now.cursor.all 0 c.loop-round.self (record c.loop-round.self { laid = c.truncate.new.self })
+    own-front c.args.self.now.tableau.qubits (g.C.Coins.sequence c.args.coins.now) c.args.self.now.cursor.all 0 c.loop-round.self (record c.loop-round.self { saved = c.truncate.new.self })
     c.loop-round.invariant.own refl c.truncate.ensures.items

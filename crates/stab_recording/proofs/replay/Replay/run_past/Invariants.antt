@@ -5,7 +5,7 @@ abbrev pub invariant-loop-self : goal.invariant-loop-self
 invariant-loop-self g l = record {
   all : l.self.cursor.all ≡ l.fn.self.cursor.all;
   qubits : l.self.tableau.qubits ≡ l.fn.self.tableau.qubits;
-  laid : l.self.laid.items ≡ l.fn.self.laid.items;
+  saved : l.self.saved.items ≡ l.fn.self.saved.items;
   same_coins : g.C.Coins.sequence l.coins ≡ g.C.Coins.sequence l.fn.coins;
   at_step : IsAtStep l.self.tableau.qubits (g.C.Coins.sequence l.coins) l.self.cursor.all l.self;
   order : l.fn.self.step ≤ l.self.step;
@@ -15,7 +15,7 @@ invariant-loop-self g l = record {
   raised : l.fn.self.pivots.window ≤ l.self.pivots.window;
   records : l.fn.self.outputs.records.items ≡ take (length l.fn.self.outputs.records.items) l.self.outputs.records.items;
   counted : l.self.applied + l.fn.self.step ≡ l.fn.self.applied + l.self.step;
-  framed : l.self.framed ≡ l.fn.self.framed;
+  by_frame : l.self.by_frame ≡ l.fn.self.by_frame;
   asks : g.C.Coins.asks l.coins + l.fn.self.step ≤ g.C.Coins.asks l.fn.coins + l.self.step;
   asks_free : g.C.Coins.asks l.coins + ones l.fn.self.outputs.free.items ≤ g.C.Coins.asks l.fn.coins + ones l.self.outputs.free.items;
   asked : g.C.Coins.asks l.coins + all_coins_of (drop l.self.step l.fn.self.cursor.all)

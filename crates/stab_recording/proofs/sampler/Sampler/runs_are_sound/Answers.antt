@@ -6,5 +6,5 @@ returns c = (let ready = c.self.invariant in
     record {
       law = λ coins.
           subst (λ (s : SamplerState). IsSoundRun s.qubits coins s.items) c.self.view_is
-          (sound-run c.self.inside.qubits coins (circuit_items c.self.inside.circuit.now) ready.checked ready.apart);
+          (sound-run c.self.inside.qubits coins (circuit_items c.self.inside.circuit.now) ready.checked ready.distinct);
     })

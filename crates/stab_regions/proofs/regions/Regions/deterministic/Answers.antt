@@ -1,6 +1,6 @@
 use Rattle.stab_regions.proofs.Names.{◌≡◌, ◌∙◌, sym, ap, subst, length, not, ◌<◌, Bool, false, List, slice_index_or, with_items}
 use Rattle.stab_regions.proofs.MoveLemmas.{refilled}
-use Rattle.stab_regions.proofs.PlaceLemmas.{tells-deterministic}
+use Rattle.stab_regions.proofs.PlaceLemmas.{determines-deterministic}
 use Rattle.stab_regions.proofs.regions.Regions.deterministic.Goals as goal
 
 pub returns : goal.returns
@@ -14,7 +14,7 @@ returns c =
     refilled between c.invert.new.bits (inverts.same_length ∙ ap length (sym once)) in
     record {
       value =
-          tells-deterministic r _ (ap length twice ∙ inverts.same_length ∙ marks.same_length)
+          determines-deterministic r _ (ap length twice ∙ inverts.same_length ∙ marks.same_length)
           (λ i lt.
           ap (λ (bits : List Bool). slice_index_or bits i false) twice
           ∙ inverts.value i (subst (λ k. i < k) (sym marks.same_length) lt)

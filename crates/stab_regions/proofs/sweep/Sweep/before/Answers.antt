@@ -31,5 +31,5 @@ returns c = record {
       (subst (λ (sides : Sides). HaveRows n D count (flat_map (inserted_by sides x back) (step_qubits x) ++ inserted_from (sites_asked c.args.asked) back) (reverse c.add_all.new.rows))
       c.sides_at-sides.ensures.value
       (c.in_ok-add_all.ensures.rows n D count back (inserted_from (sites_asked c.args.asked) back) at
-      (λ behind. c.in_ok-keep_all.ensures.kept n D count back swept.regions behind) swept.rows));
+      (λ following. c.in_ok-keep_all.ensures.kept n D count back swept.regions following) swept.rows));
 }

@@ -1,5 +1,5 @@
 use Rattle.stab_script.proofs.Names.{ap, codes, two_numbers, ReplyBytes}
-use Rattle.stab_script.proofs.FramedReplyLaws.{four_texts}
+use Rattle.stab_script.proofs.CountedReplyLaws.{four_texts}
 use Rattle.stab_script.proofs.reply.Reply.place.Goals as goal
 
 pub returns-clause-written : goal.returns-clause-written

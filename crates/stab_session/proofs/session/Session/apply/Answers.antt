@@ -42,7 +42,7 @@ invariant_of-self-in-Ok-follow g c =
           (ap (λ (s : SessionState g.row.C.Denot). s.qubits) (sym c.self.view_is) ∙ sym c.len-n.ensures.value)
           c.finish.new.circuit c.finish.ensures.value c.self.inside.stride c.follow.new.coins c.follow.new.self
           (ap (λ (s : SessionState g.row.C.Denot). s.stride) c.self.view_is) (ran.same_coins ∙ coins) run
-          ran.apart (subst (λ n. n ≤ 1024) (sym c.len-n.ensures.value) recorded.few) recorded.stride_above recorded.stride_within,
+          ran.distinct (subst (λ n. n ≤ 1024) (sym c.len-n.ensures.value) recorded.few) recorded.stride_above recorded.stride_within,
       edited-repeats g.C.Coins.sequence c.args.edit c.args.self.now c.len-n.result c.self.inside.circuit c.begin.new.circuit c.in-Ok.begun.0 c.in-Ok.begun.1 begun.begun
           (ap (λ (s : SessionState g.row.C.Denot). s.items) (sym c.self.view_is))
           (ap (λ (s : SessionState g.row.C.Denot). s.qubits) (sym c.self.view_is) ∙ sym c.len-n.ensures.value)
@@ -86,8 +86,8 @@ overflow_add-result g c =
     (ap (λ (s : SessionState g.row.C.Denot). s.qubits) (sym c.self.view_is) ∙ sym c.len-n.ensures.value) in
     omega (arith, few, ran.applied, ran.tried, c.self.invariant.0.stride_within)
 
-pub returns-in-Ok-follow-clause-framed : goal.returns-in-Ok-follow-clause-framed
-returns-in-Ok-follow-clause-framed g c =
+pub returns-in-Ok-follow-clause-by_frame : goal.returns-in-Ok-follow-clause-by_frame
+returns-in-Ok-follow-clause-by_frame g c =
     let begun = c.in-Ok.ensures {u = tt} in
     let ran = c.in-Ok-follow.ensures {u = tt} in
     let coins = ap (λ (s : SessionState g.row.C.Denot). g.C.Coins.sequence s.coins) c.self.view_is in
@@ -98,7 +98,7 @@ returns-in-Ok-follow-clause-framed g c =
     (ap (λ (s : SessionState g.row.C.Denot). s.qubits) (sym c.self.view_is) ∙ sym c.len-n.ensures.value)
     c.finish.new.circuit c.finish.ensures.value c.self.inside.stride c.follow.new.coins c.follow.new.self
     (ap (λ (s : SessionState g.row.C.Denot). s.stride) c.self.view_is) (ran.same_coins ∙ coins) run
-    (c.in-Ok-follow.followed.applied + c.in-Ok-follow.followed.framed) ran.applied in
+    (c.in-Ok-follow.followed.applied + c.in-Ok-follow.followed.by_frame) ran.applied in
     omega (arith, le)
 
 pub returns-in-Ok-follow-clause-tried : goal.returns-in-Ok-follow-clause-tried
@@ -125,8 +125,8 @@ returns-in-Ok-follow-clause-counted g c =
     (ap (λ (s : SessionState g.row.C.Denot). s.qubits) (sym c.self.view_is) ∙ sym c.len-n.ensures.value)
     c.finish.new.circuit c.finish.ensures.value c.self.inside.stride c.follow.new.coins c.follow.new.self
     (ap (λ (s : SessionState g.row.C.Denot). s.stride) c.self.view_is) (ran.same_coins ∙ coins) run
-    (c.in-Ok-follow.followed.applied + c.in-Ok-follow.followed.framed)
-    (c.in-Ok-follow.followed.applied + ((c.in-Ok-follow.followed.framed + c.in-Ok-follow.followed.tried) - c.in-Ok-follow.followed.tried))
+    (c.in-Ok-follow.followed.applied + c.in-Ok-follow.followed.by_frame)
+    (c.in-Ok-follow.followed.applied + ((c.in-Ok-follow.followed.by_frame + c.in-Ok-follow.followed.tried) - c.in-Ok-follow.followed.tried))
     (checkpoint_steps c.self.inside.recording.checkpoints.items) (omega arith) (ap (λ (s : SessionState g.row.C.Denot). s.checkpoints) c.self.view_is)
     (counted_same c.len-n.result c.self.inside.recording.tableau.qubits _ _ (unroll (listed c.self.inside.circuit)) (unroll (listed c.begin.new.circuit)) c.in-Ok.begun.1 _ _ _ c.len-n.ensures.value coins
     (ran.counted (unroll (listed c.self.inside.circuit)) (observables_of (listed c.self.inside.circuit)) c.self.invariant.0.run begun.begun.span.span))
@@ -143,7 +143,7 @@ returns-in-Ok-follow-clause-early g c =
     (ap (λ (s : SessionState g.row.C.Denot). s.qubits) (sym c.self.view_is) ∙ sym c.len-n.ensures.value)
     c.finish.new.circuit c.finish.ensures.value c.self.inside.stride c.follow.new.coins c.follow.new.self
     (ap (λ (s : SessionState g.row.C.Denot). s.stride) c.self.view_is) (ran.same_coins ∙ coins) run
-    (c.in-Ok-follow.followed.applied + ((c.in-Ok-follow.followed.framed + c.in-Ok-follow.followed.tried) - c.in-Ok-follow.followed.tried)) far
+    (c.in-Ok-follow.followed.applied + ((c.in-Ok-follow.followed.by_frame + c.in-Ok-follow.followed.tried) - c.in-Ok-follow.followed.tried)) far
     (λ agree.
     omega (
       arith,
@@ -168,11 +168,11 @@ returns-in-Ok-follow-clause-few_checkpoints g c =
 pub returns-in-Err-change_of-clause-refused : goal.returns-in-Err-change_of-clause-refused
 returns-in-Err-change_of-clause-refused g c =
     let begun = c.in-Ok.ensures {u = tt} in
-    let told = c.in-Err-change_of.ensures {u = tt} in
+    let reported = c.in-Err-change_of.ensures {u = tt} in
     run-fault g.C.Coins.sequence c.args.edit c.args.self.now c.len-n.result c.self.inside.circuit c.begin.new.circuit c.in-Ok.begun.0 c.in-Ok.begun.1 begun.begun
     (ap (λ (s : SessionState g.row.C.Denot). s.items) (sym c.self.view_is))
     (ap (λ (s : SessionState g.row.C.Denot). s.qubits) (sym c.self.view_is) ∙ sym c.len-n.ensures.value)
-    c.refused.result.fault (c.refused.ensures.fault ∙ ap whole told.err)
+    c.refused.result.fault (c.refused.ensures.fault ∙ ap whole reported.err)
 
 pub returns-in-Err-follow-clause-refused : goal.returns-in-Err-follow-clause-refused
 returns-in-Err-follow-clause-refused g c =
@@ -193,7 +193,7 @@ returns-in-Err-follow-clause-refused_asks g c =
       refused-asks g.C.Coins.sequence c.args.edit c.args.self.now c.len-n.result c.self.inside.circuit c.begin.new.circuit c.in-Ok.begun.0 c.in-Ok.begun.1 begun.begun
           (ap (λ (s : SessionState g.row.C.Denot). s.items) (sym c.self.view_is))
           (ap (λ (s : SessionState g.row.C.Denot). s.qubits) (sym c.self.view_is) ∙ sym c.len-n.ensures.value)
-          c.self.inside.stride _ _ (ap (λ (s : SessionState g.row.C.Denot). s.stride) c.self.view_is) c.follow.ensures.asked_behind,
+          c.self.inside.stride _ _ (ap (λ (s : SessionState g.row.C.Denot). s.stride) c.self.view_is) c.follow.ensures.asked_after,
     )
 
 pub returns-in-Err-follow-clause-item : goal.returns-in-Err-follow-clause-item

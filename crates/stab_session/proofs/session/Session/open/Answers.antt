@@ -6,7 +6,7 @@ pub invariant_of-result : goal.invariant_of-result
 invariant_of-result g c =
     let ran = c.in-Ok.ensures in (
       session-recorded g.C.Coins.sequence (circuit_items c.args.circuit) c.args.stride c.record_run.new.coins c.in-Ok.field-0.recording c.args.n (g.C.Coins.sequence c.args.coins) ran.same_coins ran.kept
-          ran.refused ran.apart c.requires.in_range c.requires.stride_above c.requires.stride_within,
+          ran.refused ran.distinct c.requires.in_range c.requires.stride_above c.requires.stride_within,
       ran.repeats,
     )
 

@@ -1,14 +1,14 @@
-use Rattle.stab_splices.proofs.Names.{◌+◌, ◌≤◌, subst, length, arith, HasRoomFor, copies_moved, HasRoom, copies_behind}
-use Rattle.stab_splices.proofs.StateLemmas.{copies-long}
+use Rattle.stab_splices.proofs.Names.{◌+◌, ◌≤◌, subst, length, arith, HasRoomFor, checkpoints_moved, HasRoom, checkpoints_after}
+use Rattle.stab_splices.proofs.StateLemmas.{checkpoints-long}
 use Rattle.stab_splices.proofs.recording.Recording.commit.Goals as goal
 use Rattle.stab_splices.proofs.recording.Recording.commit.Goals.{In-Old}
 
 ordered : (c : In-Old) → c.args.before ≤ c.in-Old.rest.number
 ordered c =
     let cs = c.args.self.now.checkpoints.items in
-    let behind : c.args.before + length (copies_moved c.in-Old.rest cs) ≤ length cs = subst (λ x. c.args.before + length (copies_behind x cs) ≤ length cs) c.in-Old.is c.requires.behind in
+    let following : c.args.before + length (checkpoints_moved c.in-Old.rest cs) ≤ length cs = subst (λ x. c.args.before + length (checkpoints_after x cs) ≤ length cs) c.in-Old.is c.requires.following in
     let room : HasRoomFor c.args.self.now.tableau.qubits c.in-Old.rest cs = subst (λ x. HasRoom c.args.self.now.tableau.qubits x cs) c.in-Old.is c.requires.room in
-    omega (arith, behind, copies-long c.in-Old.rest cs, room.few)
+    omega (arith, following, checkpoints-long c.in-Old.rest cs, room.few)
 
 pub put_rest-requires-clause-order : goal.put_rest-requires-clause-order
 put_rest-requires-clause-order c = ordered ((goal.at.put_rest-requires-clause-order c).In-Old)

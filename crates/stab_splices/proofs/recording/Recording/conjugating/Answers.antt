@@ -1,7 +1,7 @@
 use Rattle.stab_splices.proofs.Names.{◌≡◌, ℕ, ◌+◌, ◌*◌, ◌^◌, ◌<◌, ◌≤◌, None, List, Step, length-drop, check-steps, check-whole, refl, sym, ◌∙◌, ap, subst, arith, length, drop, All, All-drop, unroll, circuit_items, StepFits, check-fits, AreInOrder, IsRestFrame}
 use Rattle.stab_items.specs.Items.{Items}
 use Rattle.stab_items.specs.Steps.{most_steps, check_within}
-use Rattle.stab_splices.proofs.ConjugatingLemmas.{behind-order, advanced-few}
+use Rattle.stab_splices.proofs.ConjugatingLemmas.{following-order, advanced-few}
 use Rattle.stab_splices.proofs.recording.Recording.conjugating.Goals as goal
 
 pub propagate_rest-requires-clause-fits : goal.propagate_rest-requires-clause-fits
@@ -10,15 +10,15 @@ propagate_rest-requires-clause-fits c =
     let n = c.args.self.now.tableau.qubits in
     subst (λ k. All (StepFits k) c.in_ok-cursor.cursor.left) (sym c.requires.letters)
     (subst (All (StepFits n)) (sym c.in_ok-cursor.ensures.steps)
-    (All-drop (StepFits n) c.args.span.new_end ys (check-fits n (circuit_items c.args.circuit.now) ys c.requires.checked refl c.requires.apart)))
+    (All-drop (StepFits n) c.args.span.new_end ys (check-fits n (circuit_items c.args.circuit.now) ys c.requires.checked refl c.requires.distinct)))
 
-few : (items : Items) (n first framed : ℕ) (left : List Step) → check_within n items ≡ None → left ≡ drop first (unroll items) → framed ≤ 2 * most_steps → framed + length left < 2 ^ 63
-few items n first framed left checked rest le =
+few : (items : Items) (n first by_frame : ℕ) (left : List Step) → check_within n items ≡ None → left ≡ drop first (unroll items) → by_frame ≤ 2 * most_steps → by_frame + length left < 2 ^ 63
+few items n first by_frame left checked rest le =
     omega (arith, le, ap length rest, length-drop first (unroll items), check-steps items (check-whole n items checked))
 
-pub propagate_rest-requires-clause-few_framed : goal.propagate_rest-requires-clause-few_framed
-propagate_rest-requires-clause-few_framed c =
-    few (circuit_items c.args.circuit.now) c.args.self.now.tableau.qubits c.args.span.new_end c.args.framed.now c.in_ok-cursor.cursor.left c.requires.checked c.in_ok-cursor.ensures.steps c.requires.few_framed
+pub propagate_rest-requires-clause-few_propagated : goal.propagate_rest-requires-clause-few_propagated
+propagate_rest-requires-clause-few_propagated c =
+    few (circuit_items c.args.circuit.now) c.args.self.now.tableau.qubits c.args.span.new_end c.args.by_frame.now c.in_ok-cursor.cursor.left c.requires.checked c.in_ok-cursor.ensures.steps c.requires.few_propagated
 
 -- no more steps are counted than come after the span
 
@@ -44,7 +44,7 @@ propagate_rest-requires-clause-order c =
     let cs = c.args.self.now.checkpoints.items in
     subst (AreInOrder c.args.span.old_end (c.args.span.old_end + length c.in_ok-cursor.cursor.left)) (sym (c.split_at.ensures.back ∙ ap (drop c.args.inside) c.as_slice.ensures.value))
     (subst (λ zs. AreInOrder c.args.span.old_end (c.args.span.old_end + length zs) (drop c.args.inside cs)) (sym c.in_ok-cursor.ensures.steps)
-    (behind-order f.count f.kept f.span c.args.inside c.requires.behind))
+    (following-order f.count f.kept f.span c.args.inside c.requires.following))
 
 pub returns-clause-conjugating : goal.returns-clause-conjugating
 returns-clause-conjugating c =
@@ -61,7 +61,7 @@ returns-clause-conjugating c =
       from = refl;
       passed = refl;
       number = refl;
-      meeting = c.meeting_behind.ensures.value;
+      meeting = c.meeting_after.ensures.value;
       advanced = advanced;
       room = record {
         nothing = c.in_ok-with_capacity.ensures.items;

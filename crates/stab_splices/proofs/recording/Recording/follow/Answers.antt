@@ -1,4 +1,4 @@
-use Rattle.stab_splices.proofs.Names.{◌≡◌, ℕ, Bool, ◌+◌, ◌∙◌, subst, arith, List, Some, length, IfSome, IfOk, Step, unroll, observables_of, circuit_items, checkpoint_steps, Recording, IsCounted, IsRecording, IsSpan, Follows, AgreeBehindSpan, AgreeBackBehindSpan, HasConjugated}
+use Rattle.stab_splices.proofs.Names.{◌≡◌, ℕ, Bool, ◌+◌, ◌∙◌, subst, arith, List, Some, length, IfSome, IfOk, Step, unroll, observables_of, circuit_items, checkpoint_steps, Recording, IsCounted, IsRecording, IsSpan, Follows, AgreeAfterSpan, AgreeBackAfterSpan, HasConjugated}
 use Rattle.stab_splices.proofs.recording.Recording.follow.Given.{Over}
 use Rattle.stab_splices.proofs.recording.Recording.follow.Goals as goal
 use Rattle.stab_splices.proofs.recording.Recording.follow.Goals.{In-Some-2, in-Some+in_ok-followed+in_default-2, in_default}
@@ -43,6 +43,6 @@ returns-clause-counted g c =
     ] in
     subst (λ (r : Recording). IfOk c.replay.result (λ f. (xs : List Step) (count : ℕ) → IsRecording r.tableau.qubits (g.C.Coins.sequence c.args.coins.now) c.args.stride xs count r
     → IsSpan xs (unroll (circuit_items c.args.circuit.now)) c.args.span
-    → IsCounted (AgreeBehindSpan r.tableau.qubits (g.C.Coins.sequence c.args.coins.now) xs (unroll (circuit_items c.args.circuit.now)) c.args.span)
-    (AgreeBackBehindSpan r.tableau.qubits (g.C.Coins.sequence c.args.coins.now) xs (unroll (circuit_items c.args.circuit.now)) c.args.span) (checkpoint_steps r.checkpoints.items) c.args.span.first
-    c.args.span.old_end c.args.span.new_end (length (unroll (circuit_items c.args.circuit.now))) (f.applied + f.framed))) same c.replay.ensures.counted
+    → IsCounted (AgreeAfterSpan r.tableau.qubits (g.C.Coins.sequence c.args.coins.now) xs (unroll (circuit_items c.args.circuit.now)) c.args.span)
+    (AgreeBackAfterSpan r.tableau.qubits (g.C.Coins.sequence c.args.coins.now) xs (unroll (circuit_items c.args.circuit.now)) c.args.span) (checkpoint_steps r.checkpoints.items) c.args.span.first
+    c.args.span.old_end c.args.span.new_end (length (unroll (circuit_items c.args.circuit.now))) (f.applied + f.by_frame))) same c.replay.ensures.counted

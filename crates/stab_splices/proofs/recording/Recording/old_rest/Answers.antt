@@ -1,25 +1,17 @@
-use Rattle.stab_splices.proofs.Names.{◌≡◌, ◌∙◌, ◌++◌, refl, ap, subst, length, take, drop, take-append-drop, flipped-empty, [], Some, slice_get, take_at, slice_get_read, ones, RunOutput, joined, lengths_of, front_of, rest_of, output_of, rest-joined, flipped_output, IsSpliced, IsOldRest}
+use Rattle.stab_splices.proofs.Names.{◌≡◌, ◌∙◌, ◌++◌, refl, ap, subst, length, take, drop, take-append-drop, flipped-empty, [], Some, slice_get, slice_get_read, ones, RunOutput, joined, front_of, rest_of, output_of, rest-joined, flipped_output, IsSpliced, IsOldRest}
 use Rattle.stab_splices.proofs.FollowLemmas.{at-some}
 use Rattle.stab_splices.proofs.recording.Recording.old_rest.Goals as goal
-
-front-joined : (a b : RunOutput) → length a.outcomes ≡ length a.free → front_of (lengths_of a) (joined a b) ≡ a
-front-joined a b each = λ i. record {
-  records = take_at a.records b.records (length a.records) refl i;
-  free = take_at a.free b.free (length a.free) refl i;
-  outcomes = take_at a.outcomes b.outcomes (length a.free) each i;
-  detectors = take_at a.detectors b.detectors (length a.detectors) refl i;
-  additions = take_at a.additions b.additions (length a.additions) refl i;
-}
+use Rattle.stab_run.proofs.PointLemmas.{front-joined}
 
 pub returns-clause-rest : goal.returns-clause-rest
 returns-clause-rest c =
-    let f = c.args.framed in
+    let f = c.args.by_frame in
     let kept = c.args.self.now in
     let a = output_of c.args.outputs.now in
-    let d = c.index-copy.result.now in
+    let d = c.index-checkpoint.result.now in
     let b = rest_of d.lengths (output_of c.args.self.now.outputs) in
     let here : slice_get kept.checkpoints.items f.number ≡ Some d =
-    slice_get_read kept.checkpoints.items (length kept.checkpoints.items) f.number d refl c.requires.in_range c.index-copy.ensures in
+    slice_get_read kept.checkpoints.items (length kept.checkpoints.items) f.number d refl c.requires.in_range c.index-checkpoint.ensures in
     let long = c.lengths-lengths.ensures.value in
     let all = (c.in_ok-append_rest.ensures {u = tt}).value in
     let appended = output_of c.append_rest.new.self in

@@ -1,14 +1,14 @@
-use Rattle.stab_splices.proofs.Names.{◌≡◌, ℕ, Bool, List, ◌+◌, ◌-◌, ◌≤◌, refl, sym, ◌∙◌, ap, subst, arith, Some, length, drop, take, All, replicate, IfSome, drop-drop, length-replicate, length-take, length-drop, All-drop, All-take, I, Step, unroll, circuit_items, IsApart, Lengths, Checkpoint, IsCheckpoint, pivot_at, PropagationState, IsPlaced, ones, Point, RunOutput, nothing, outputs, lengths_of, StepFits, check-fits, check-whole, check-steps, longer, AreBelow, IsFrameBetween, IsBeforePlaces}
+use Rattle.stab_splices.proofs.Names.{◌≡◌, ℕ, Bool, List, ◌+◌, ◌-◌, ◌≤◌, refl, sym, ◌∙◌, ap, subst, arith, Some, length, drop, take, All, replicate, IfSome, drop-drop, length-replicate, length-take, length-drop, All-drop, All-take, I, Step, unroll, circuit_items, HasDistinctQubits, Lengths, Checkpoint, IsCheckpoint, pivot_at, PropagationState, IsPlaced, ones, Point, RunOutput, nothing, outputs, lengths_of, StepFits, check-fits, check-whole, check-steps, longer, AreBelow, IsFrameBetween, IsBeforePlaces}
 use Rattle.std.specs.Prelude.{slice_get}
-use Rattle.stab_splices.proofs.ConjugatingLemmas.{copy-is, copy-before, copy-within, copy-below, from-within, from-few, behind-qubits}
+use Rattle.stab_splices.proofs.ConjugatingLemmas.{checkpoint-is, checkpoint-before, checkpoint-within, checkpoint-below, from-within, from-few, following-qubits}
 use Rattle.stab_splices.proofs.recording.Recording.past_places.Goals as goal
-use Rattle.stab_splices.proofs.recording.Recording.past_places.Goals.{After-index-copy, In_ok-propagation}
+use Rattle.stab_splices.proofs.recording.Recording.past_places.Goals.{After-index-checkpoint, In_ok-propagation}
 
-few : (c : After-index-copy) → length (unroll (circuit_items c.args.circuit.now)) ≤ 1048576
+few : (c : After-index-checkpoint) → length (unroll (circuit_items c.args.circuit.now)) ≤ 1048576
 few c = check-steps (circuit_items c.args.circuit.now) (check-whole c.args.self.now.tableau.qubits (circuit_items c.args.circuit.now) c.requires.checked)
 
-here : (c : After-index-copy) → slice_get c.args.self.now.checkpoints.items (c.args.before - 1) ≡ Some c.index-copy.result.now
-here c = let f = c.requires.follows.2 in copy-is f.count f.kept f.span (few c) c.requires.before c.index-copy.result.now c.index-copy.ensures
+here : (c : After-index-checkpoint) → slice_get c.args.self.now.checkpoints.items (c.args.before - 1) ≡ Some c.index-checkpoint.result.now
+here c = let f = c.requires.follows.2 in checkpoint-is f.count f.kept f.span (few c) c.requires.before c.index-checkpoint.result.now c.index-checkpoint.ensures
 
 -- the lengths are those that the steps give at any point
 counts : (first : ℕ) (d : Checkpoint) (left ys : List Step) (from : Lengths) → left ≡ drop d.step ys → (k : ℕ) (others : ℕ → Bool) (a : Point)
@@ -19,9 +19,9 @@ letters-long : (n len : ℕ) (w : PropagationState) → len ≡ n → {flips : R
     → length w.letters ≡ n
 letters-long n len w size is = ap (λ (u : PropagationState). length u.letters) is ∙ length-replicate len I ∙ size
 
--- after the copy's step the cursor goes on to the first of the span
-first-left : (first step : ℕ) (left behind ys : List Step) → step ≤ first → left ≡ drop step ys → behind ≡ drop (first - step) left → behind ≡ drop first ys
-first-left first step left behind ys le is went =
+-- after the checkpoint's step the cursor goes on to the first of the span
+first-left : (first step : ℕ) (left following ys : List Step) → step ≤ first → left ≡ drop step ys → following ≡ drop (first - step) left → following ≡ drop first ys
+first-left first step left following ys le is went =
     went
     ∙ ap (drop (first - step)) is
     ∙ drop-drop (first - step) step ys
@@ -29,44 +29,44 @@ first-left first step left behind ys le is went =
 
 pub at-requires-clause-in_range : goal.at-requires-clause-in_range
 at-requires-clause-in_range c =
-    let f = c.requires.follows.2 in copy-within f.count f.kept f.span (few c) c.requires.before c.index-copy.result.now (here c)
+    let f = c.requires.follows.2 in checkpoint-within f.count f.kept f.span (few c) c.requires.before c.index-checkpoint.result.now (here c)
 
 pub overflow_sub-span : goal.overflow_sub-span
 overflow_sub-span c =
-    let at = (goal.at.overflow_sub-span c).After-index-copy in
+    let at = (goal.at.overflow_sub-span c).After-index-checkpoint in
     let f = c.requires.follows.2 in
-    copy-before f.count f.kept f.span (few at) c.requires.before c.index-copy.result.now (here at)
+    checkpoint-before f.count f.kept f.span (few at) c.requires.before c.index-checkpoint.result.now (here at)
 
-pub lengths_behind-from-requires : goal.lengths_behind-from-requires
-lengths_behind-from-requires c =
-    let at = (goal.at.lengths_behind-from-requires c).After-index-copy in
+pub lengths_after-from-requires : goal.lengths_after-from-requires
+lengths_after-from-requires c =
+    let at = (goal.at.lengths_after-from-requires c).After-index-checkpoint in
     let f = c.requires.follows.2 in
     record {
       few =
-          subst (λ zs. AreBelow 9223372036854775808 (length zs) c.index-copy.result.now.lengths) (sym c.in_ok-cursor.ensures.steps)
-          (copy-below f.count f.kept f.span (few at) c.requires.before c.index-copy.result.now (here at));
+          subst (λ zs. AreBelow 9223372036854775808 (length zs) c.index-checkpoint.result.now.lengths) (sym c.in_ok-cursor.ensures.steps)
+          (checkpoint-below f.count f.kept f.span (few at) c.requires.before c.index-checkpoint.result.now (here at));
     }
 
 pub new-requires : goal.new-requires
 new-requires c =
-    let at = (goal.at.new-requires c).After-index-copy in
+    let at = (goal.at.new-requires c).After-index-checkpoint in
     let f = c.requires.follows.2 in
     record {
       in_range =
-          subst (λ bits. c.lengths_behind-from.result.free ≤ length bits) (sym c.as_slice-free.ensures.value)
-          (from-within f.count f.kept f.span (few at) c.requires.before c.index-copy.result.now (here at) c.lengths_behind-from.result
-          (λ k others a. counts c.args.span.first c.index-copy.result.now c.in_ok-cursor.cursor.left (unroll (circuit_items c.args.circuit.now)) c.lengths_behind-from.result c.in_ok-cursor.ensures.steps k others a
-          (c.lengths_behind-from.ensures.value k others a)));
+          subst (λ bits. c.lengths_after-from.result.free ≤ length bits) (sym c.as_slice-free.ensures.value)
+          (from-within f.count f.kept f.span (few at) c.requires.before c.index-checkpoint.result.now (here at) c.lengths_after-from.result
+          (λ k others a. counts c.args.span.first c.index-checkpoint.result.now c.in_ok-cursor.cursor.left (unroll (circuit_items c.args.circuit.now)) c.lengths_after-from.result c.in_ok-cursor.ensures.steps k others a
+          (c.lengths_after-from.ensures.value k others a)));
     }
 
 -- the steps that are left where the frame begins
-left : (c : In_ok-propagation) → c.index-copy.result.now.step ≤ c.args.span.first → c.lengths_behind-from.new.cursor.left ≡ drop c.args.span.first (unroll (circuit_items c.args.circuit.now))
+left : (c : In_ok-propagation) → c.index-checkpoint.result.now.step ≤ c.args.span.first → c.lengths_after-from.new.cursor.left ≡ drop c.args.span.first (unroll (circuit_items c.args.circuit.now))
 left c le =
-    first-left c.args.span.first c.index-copy.result.now.step c.in_ok-cursor.cursor.left c.lengths_behind-from.new.cursor.left (unroll (circuit_items c.args.circuit.now)) le
-    c.in_ok-cursor.ensures.steps c.lengths_behind-from.ensures.left
+    first-left c.args.span.first c.index-checkpoint.result.now.step c.in_ok-cursor.cursor.left c.lengths_after-from.new.cursor.left (unroll (circuit_items c.args.circuit.now)) le
+    c.in_ok-cursor.ensures.steps c.lengths_after-from.ensures.left
 
-at-first : (c : After-index-copy) → c.index-copy.result.now.step ≤ c.args.span.first
-at-first c = let f = c.requires.follows.2 in copy-before f.count f.kept f.span (few c) c.requires.before c.index-copy.result.now (here c)
+at-first : (c : After-index-checkpoint) → c.index-checkpoint.result.now.step ≤ c.args.span.first
+at-first c = let f = c.requires.follows.2 in checkpoint-before f.count f.kept f.span (few c) c.requires.before c.index-checkpoint.result.now (here c)
 
 long : (c : In_ok-propagation) → length c.in_ok-propagation.propagation.letters ≡ c.args.self.now.tableau.qubits
 long c = letters-long c.args.self.now.tableau.qubits c.len.result c.in_ok-propagation.propagation c.len.ensures.value c.in_ok-propagation.ensures.value
@@ -76,10 +76,10 @@ propagate_places-requires-clause-fits c =
     let at = goal.at.propagate_places-requires-clause-fits c in
     let ys = unroll (circuit_items c.args.circuit.now) in
     let n = c.args.self.now.tableau.qubits in
-    let apart : All IsApart ys = subst (All IsApart) c.in_ok-cursor.ensures.all c.in_ok-cursor.ensures.apart in
-    subst (λ k. All (StepFits k) c.lengths_behind-from.new.cursor.left) (sym (long at.In_ok-propagation))
-    (subst (All (StepFits n)) (sym (left at.In_ok-propagation (at-first at.After-index-copy)))
-    (All-drop (StepFits n) c.args.span.first ys (check-fits n (circuit_items c.args.circuit.now) ys c.requires.checked refl apart)))
+    let distinct : All HasDistinctQubits ys = subst (All HasDistinctQubits) c.in_ok-cursor.ensures.all c.in_ok-cursor.ensures.distinct in
+    subst (λ k. All (StepFits k) c.lengths_after-from.new.cursor.left) (sym (long at.In_ok-propagation))
+    (subst (All (StepFits n)) (sym (left at.In_ok-propagation (at-first at.After-index-checkpoint)))
+    (All-drop (StepFits n) c.args.span.first ys (check-fits n (circuit_items c.args.circuit.now) ys c.requires.checked refl distinct)))
 
 pub propagate_places-requires-clause-few : goal.propagate_places-requires-clause-few
 propagate_places-requires-clause-few c =
@@ -87,43 +87,43 @@ propagate_places-requires-clause-few c =
     let f = c.requires.follows.2 in
     omega (
       arith,
-      from-few f.count f.kept f.span (few at.After-index-copy) c.requires.before c.index-copy.result.now (here at.After-index-copy) c.lengths_behind-from.result
-          (λ k others a. counts c.args.span.first c.index-copy.result.now c.in_ok-cursor.cursor.left (unroll (circuit_items c.args.circuit.now)) c.lengths_behind-from.result c.in_ok-cursor.ensures.steps k others a
-          (c.lengths_behind-from.ensures.value k others a)) c.args.span.first,
+      from-few f.count f.kept f.span (few at.After-index-checkpoint) c.requires.before c.index-checkpoint.result.now (here at.After-index-checkpoint) c.lengths_after-from.result
+          (λ k others a. counts c.args.span.first c.index-checkpoint.result.now c.in_ok-cursor.cursor.left (unroll (circuit_items c.args.circuit.now)) c.lengths_after-from.result c.in_ok-cursor.ensures.steps k others a
+          (c.lengths_after-from.ensures.value k others a)) c.args.span.first,
       ap (λ (w : PropagationState). w.coin) c.in_ok-propagation.ensures.value,
-      ap length (left at.In_ok-propagation (at-first at.After-index-copy)),
+      ap length (left at.In_ok-propagation (at-first at.After-index-checkpoint)),
     )
 
-pub propagate_places-requires-clause-few_framed : goal.propagate_places-requires-clause-few_framed
-propagate_places-requires-clause-few_framed c =
-    let at = goal.at.propagate_places-requires-clause-few_framed c in
+pub propagate_places-requires-clause-few_propagated : goal.propagate_places-requires-clause-few_propagated
+propagate_places-requires-clause-few_propagated c =
+    let at = goal.at.propagate_places-requires-clause-few_propagated c in
     let ys = unroll (circuit_items c.args.circuit.now) in
-    omega (arith, ap length (left at.In_ok-propagation (at-first at.After-index-copy)), length-drop c.args.span.first ys, few at.After-index-copy, c.requires.none_framed)
+    omega (arith, ap length (left at.In_ok-propagation (at-first at.After-index-checkpoint)), length-drop c.args.span.first ys, few at.After-index-checkpoint, c.requires.none_propagated)
 
 -- no more steps are counted than there are from the first place on
-most-counted : (c : In_ok-propagation) → (first : ℕ) → c.lengths_behind-from.new.cursor.left ≡ drop first (unroll (circuit_items c.args.circuit.now)) → (framed : ℕ)
-    → framed ≤ c.args.framed.now + length c.lengths_behind-from.new.cursor.left → framed ≤ length (unroll (circuit_items c.args.circuit.now)) - first
-most-counted c first rest framed le = omega (arith, le, ap length rest, length-drop first (unroll (circuit_items c.args.circuit.now)), c.requires.none_framed)
+most-counted : (c : In_ok-propagation) → (first : ℕ) → c.lengths_after-from.new.cursor.left ≡ drop first (unroll (circuit_items c.args.circuit.now)) → (by_frame : ℕ)
+    → by_frame ≤ c.args.by_frame.now + length c.lengths_after-from.new.cursor.left → by_frame ≤ length (unroll (circuit_items c.args.circuit.now)) - first
+most-counted c first rest by_frame le = omega (arith, le, ap length rest, length-drop first (unroll (circuit_items c.args.circuit.now)), c.requires.none_propagated)
 
 pub returns-in_err-went-clause-most : goal.returns-in_err-went-clause-most
 returns-in_err-went-clause-most c =
     let at = goal.at.returns-in_err-went-clause-most c in
-    most-counted at.In_ok-propagation c.args.span.first (left at.In_ok-propagation (at-first at.After-index-copy)) c.propagate_places.new.framed c.propagate_places.ensures.most
+    most-counted at.In_ok-propagation c.args.span.first (left at.In_ok-propagation (at-first at.After-index-checkpoint)) c.propagate_places.new.by_frame c.propagate_places.ensures.most
 
 pub returns-then-not-went-clause-most : goal.returns-then-not-went-clause-most
 returns-then-not-went-clause-most c =
     let at = goal.at.returns-then-not-went-clause-most c in
-    most-counted at.In_ok-propagation c.args.span.first (left at.In_ok-propagation (at-first at.After-index-copy)) c.propagate_places.new.framed c.propagate_places.ensures.most
+    most-counted at.In_ok-propagation c.args.span.first (left at.In_ok-propagation (at-first at.After-index-checkpoint)) c.propagate_places.new.by_frame c.propagate_places.ensures.most
 
 pub returns-clause-most : goal.returns-clause-most
 returns-clause-most c =
     let at = goal.at.returns-clause-most c in
-    most-counted at.In_ok-propagation c.args.span.first (left at.In_ok-propagation (at-first at.After-index-copy)) c.propagate_places.new.framed c.propagate_places.ensures.most
+    most-counted at.In_ok-propagation c.args.span.first (left at.In_ok-propagation (at-first at.After-index-checkpoint)) c.propagate_places.new.by_frame c.propagate_places.ensures.most
 
--- the copies that are within the span
+-- the checkpoints that are within the span
 within : (back cs : List Checkpoint) (before inside : ℕ) (some all : List Checkpoint) → some ≡ take (inside - before) back → back ≡ drop before all → all ≡ cs
     → some ≡ take (inside - before) (drop before cs)
-within back cs before inside some all is behind same = is ∙ ap (take (inside - before)) (behind ∙ ap (drop before) same)
+within back cs before inside some all is following same = is ∙ ap (take (inside - before)) (following ∙ ap (drop before) same)
 
 pub propagate_places-requires-clause-same_qubits : goal.propagate_places-requires-clause-same_qubits
 propagate_places-requires-clause-same_qubits c =
@@ -133,7 +133,7 @@ propagate_places-requires-clause-same_qubits c =
     subst (All (λ d. d.tableau.qubits ≡ length c.in_ok-propagation.propagation.letters))
     (sym (within c.split_at.result.1.now cs c.args.before c.args.inside c.split_at-2.result.0.now c.as_slice.result.now c.split_at-2.ensures.front c.split_at.ensures.back c.as_slice.ensures.value))
     (All-take (λ d. d.tableau.qubits ≡ length c.in_ok-propagation.propagation.letters) (c.args.inside - c.args.before) (drop c.args.before cs)
-    (behind-qubits f.count f.kept f.span c.args.before (length c.in_ok-propagation.propagation.letters) (long at.In_ok-propagation)))
+    (following-qubits f.count f.kept f.span c.args.before (length c.in_ok-propagation.propagation.letters) (long at.In_ok-propagation)))
 
 pub returns-clause-passed : goal.returns-clause-passed
 returns-clause-passed c =
@@ -141,22 +141,22 @@ returns-clause-passed c =
     let n = c.args.self.now.tableau.qubits in
     let ys = unroll (circuit_items c.args.circuit.now) in
     let cs = c.args.self.now.checkpoints.items in
-    let from = c.lengths_behind-from.result in
+    let from = c.lengths_after-from.result in
     let propagation = c.in_ok-propagation.propagation in
     let strings = c.args.self.now.strings.strings in
     let went = c.in_ok-went.ensures in
     let did = c.if-not-went.false in
     let size : length propagation.letters ≡ n = long at.In_ok-propagation in
-    let all : c.lengths_behind-from.new.cursor.all ≡ ys = c.lengths_behind-from.ensures.all ∙ c.in_ok-cursor.ensures.all in
-    let rest : c.lengths_behind-from.new.cursor.left ≡ drop c.args.span.first ys = left at.In_ok-propagation (at-first at.After-index-copy) in
+    let all : c.lengths_after-from.new.cursor.all ≡ ys = c.lengths_after-from.ensures.all ∙ c.in_ok-cursor.ensures.all in
+    let rest : c.lengths_after-from.new.cursor.left ≡ drop c.args.span.first ys = left at.In_ok-propagation (at-first at.After-index-checkpoint) in
     let flags : c.as_slice-free.result.now ≡ c.args.self.now.outputs.free.items = c.as_slice-free.ensures.value in
     let some : c.split_at-2.result.0.now ≡ take (c.args.inside - c.args.before) (drop c.args.before cs) =
     within c.split_at.result.1.now cs c.args.before c.args.inside c.split_at-2.result.0.now c.as_slice.result.now c.split_at-2.ensures.front c.split_at.ensures.back c.as_slice.ensures.value in
     record {
       from_is =
           subst (λ o. IfSome o (λ d. (k : ℕ) (others : ℕ → Bool) (a : Point) → from ≡ longer d.lengths (lengths_of (outputs k others (take (c.args.span.first - d.step) (drop d.step ys)) a))))
-          (sym (here at.After-index-copy))
-          (λ k others a. counts c.args.span.first c.index-copy.result.now c.in_ok-cursor.cursor.left ys from c.in_ok-cursor.ensures.steps k others a (c.lengths_behind-from.ensures.value k others a));
+          (sym (here at.After-index-checkpoint))
+          (λ k others a. counts c.args.span.first c.index-checkpoint.result.now c.in_ok-cursor.cursor.left ys from c.in_ok-cursor.ensures.steps k others a (c.lengths_after-from.ensures.value k others a));
       start = propagation;
       begins =
           subst (λ x. x)
@@ -180,9 +180,9 @@ returns-clause-passed c =
           (went.between did coins xs base front c.args.span refl
           (subst (λ x. x)
           (λ i. IsBeforePlaces (sym size i) coins xs (sym all i) (pivot_at strings (sym flags i)) (sym flags i) base front c.args.span c.args.change.now (sym rest i) propagation) b));
-      are_copies = λ coins xs base front b are.
+      are_checkpoints = λ coins xs base front b are.
           subst (λ x. x) (λ i. All (IsCheckpoint (size i) coins (all i)) c.propagate_places.new.passed.items)
-          (went.copies did coins xs base front c.args.span refl
+          (went.checkpoints did coins xs base front c.args.span refl
           (subst (λ x. x)
           (λ i. IsBeforePlaces (sym size i) coins xs (sym all i) (pivot_at strings (sym flags i)) (sym flags i) base front c.args.span c.args.change.now (sym rest i) propagation) b)
           (subst (λ x. x) (λ i. All (IsCheckpoint (sym size i) coins xs) (sym some i)) are));

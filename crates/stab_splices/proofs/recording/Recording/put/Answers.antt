@@ -1,4 +1,4 @@
-use Rattle.stab_splices.proofs.Names.{sym, ◌∙◌, ap, length, take, reverse, replicate, false, reverse-reverse, RunOutput, with_additions, all_laid, copies_moved}
+use Rattle.stab_splices.proofs.Names.{sym, ◌∙◌, ap, length, take, reverse, replicate, false, reverse-reverse, RunOutput, with_additions, all_saved, checkpoints_moved}
 use Rattle.stab_splices.proofs.recording.Recording.put.Goals as goal
 
 pub returns : goal.returns
@@ -20,7 +20,7 @@ returns c =
         window = put.window;
         checkpoints =
             put.checkpoints
-            ∙ ap (λ zs. all_laid c.args.stride (copies_moved rest cs) (all_laid c.args.stride zs (take c.args.before cs)))
+            ∙ ap (λ zs. all_saved c.args.stride (checkpoints_moved rest cs) (all_saved c.args.stride zs (take c.args.before cs)))
             (ap reverse c.reverse.ensures.items ∙ reverse-reverse c.args.conjugating.passed.items);
       };
     }

@@ -1,5 +1,5 @@
 use Rattle.stab_splices.proofs.Names.{sym, ◌∙◌, ap, subst, arith, length, TableauState, stabilises, IsConjugated}
-use Rattle.stab_splices.proofs.StateLemmas.{put-length, put-laid, taken-long}
+use Rattle.stab_splices.proofs.StateLemmas.{put-length, put-saved, taken-long}
 use Rattle.stab_splices.proofs.recording.Recording.put_rest.Goals as goal
 
 pub take_moved-requires : goal.take_moved-requires
@@ -11,26 +11,26 @@ take_moved-requires c =
         arith,
         ap length c.requires.room.nothing,
         c.requires.room.room,
-        put-length c.args.rest.number c.args.stride c.args.rest.conjugated.items cs c.put_states.new.copies.items (omega (arith, few)) c.put_states.ensures.value,
+        put-length c.args.rest.number c.args.stride c.args.rest.conjugated.items cs c.put_states.new.checkpoints.items (omega (arith, few)) c.put_states.ensures.value,
       );
     }
 
-pub lay_all-requires : goal.lay_all-requires
-lay_all-requires c =
+pub save_all-requires : goal.save_all-requires
+save_all-requires c =
     let cs = c.args.self.now.checkpoints.items in
     let few = c.requires.room.few in
-    let laid = c.lay_behind.ensures in
+    let saved = c.save_after.ensures in
     record {
       room = omega (
         arith,
         c.requires.capacity,
         few,
-        laid.shorter,
-        laid.capacity,
+        saved.shorter,
+        saved.capacity,
         c.take_moved.ensures.capacity,
         c.put_states.ensures.capacity,
-        taken-long c.args.rest.meeting c.args.rest.number c.put_states.new.copies.items c.args.rest.room.items c.take_moved.new.taken.items c.take_moved.ensures.taken c.requires.room.nothing,
-        put-length c.args.rest.number c.args.stride c.args.rest.conjugated.items cs c.put_states.new.copies.items (omega (arith, few)) c.put_states.ensures.value,
+        taken-long c.args.rest.meeting c.args.rest.number c.put_states.new.checkpoints.items c.args.rest.room.items c.take_moved.new.taken.items c.take_moved.ensures.taken c.requires.room.nothing,
+        put-length c.args.rest.number c.args.stride c.args.rest.conjugated.items cs c.put_states.new.checkpoints.items (omega (arith, few)) c.put_states.ensures.value,
       );
     }
 
@@ -40,21 +40,21 @@ returns c =
     let cs = c.args.self.now.checkpoints.items in
     let few = c.requires.room.few in
     let letters = c.letters.ensures.value in
-    let laid = c.lay_behind.ensures in
+    let saved = c.save_after.ensures in
     record {
       put = record {
-        qubits = ap (λ (t : TableauState). t.qubits) laid.tableau ∙ c.apply_frame.ensures.qubits;
+        qubits = ap (λ (t : TableauState). t.qubits) saved.tableau ∙ c.apply_frame.ensures.qubits;
         conjugated =
-            subst (λ t. IsConjugated n c.args.rest.propagation.letters (stabilises c.args.self.now.tableau) (stabilises t)) (sym laid.tableau)
+            subst (λ t. IsConjugated n c.args.rest.propagation.letters (stabilises c.args.self.now.tableau) (stabilises t)) (sym saved.tableau)
             (subst (λ l. IsConjugated n l (stabilises c.args.self.now.tableau) (stabilises c.apply_frame.new.tableau)) letters c.apply_frame.ensures.conjugated);
-        output = laid.output;
-        observables = laid.observables;
-        strings = laid.strings;
-        window = laid.window;
+        output = saved.output;
+        observables = saved.observables;
+        strings = saved.strings;
+        window = saved.window;
         checkpoints =
-            put-laid c.args.rest.number c.args.stride c.args.rest.conjugated.items cs c.put_states.new.copies.items (omega (arith, few)) c.put_states.ensures.value
-            c.args.before c.args.rest.meeting c.args.rest.room.items c.take_moved.new.taken.items c.take_moved.new.copies.items c.args.laid.now.items
-            c.lay_behind.new.self.checkpoints.items c.lay_all.new.copies.items c.requires.order
-            c.requires.room.nothing c.take_moved.ensures.taken c.take_moved.ensures.left laid.checkpoints c.lay_all.ensures.value;
+            put-saved c.args.rest.number c.args.stride c.args.rest.conjugated.items cs c.put_states.new.checkpoints.items (omega (arith, few)) c.put_states.ensures.value
+            c.args.before c.args.rest.meeting c.args.rest.room.items c.take_moved.new.taken.items c.take_moved.new.checkpoints.items c.args.saved.now.items
+            c.save_after.new.self.checkpoints.items c.save_all.new.checkpoints.items c.requires.order
+            c.requires.room.nothing c.take_moved.ensures.taken c.take_moved.ensures.left saved.checkpoints c.save_all.ensures.value;
       };
     }

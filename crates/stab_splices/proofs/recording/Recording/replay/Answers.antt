@@ -1,6 +1,6 @@
-use Rattle.stab_splices.proofs.Names.{◌≡◌, ℕ, ◌+◌, ◌-◌, ◌≤◌, refl, sym, ◌∙◌, ap, subst, length, take, drop, All, None, arith, Result, Ok, Err, OnErr, unroll, circuit_items, IsApart, AreRepeats, Plan, Span, all_coins_of, StepFits, output_of, IsOldRun, IsRecording, Follows, Ascending, check-fits, check-whole, check-steps, IsCount, stop_of}
-use Rattle.stab_splices.proofs.CountLemmas.{coins-behind}
-use Rattle.stab_splices.proofs.CourseLemmas.{HasBegun, HasEnded, count-of, seen-end, seen-soon, some-before, copy-within, has-begun, asked-behind, ascending-here, old-run, has-ended}
+use Rattle.stab_splices.proofs.Names.{◌≡◌, ℕ, ◌+◌, ◌-◌, ◌≤◌, refl, sym, ◌∙◌, ap, subst, length, take, drop, All, None, arith, Result, Ok, Err, OnErr, unroll, circuit_items, HasDistinctQubits, AreRepeats, Plan, Span, all_coins_of, StepFits, output_of, IsOldRun, IsRecording, Follows, Ascending, check-fits, check-whole, check-steps, IsCount, stop_of}
+use Rattle.stab_splices.proofs.CountLemmas.{coins-following}
+use Rattle.stab_splices.proofs.CourseLemmas.{HasBegun, HasEnded, count-of, seen-end, seen-soon, some-before, checkpoint-within, has-begun, asked-following, ascending-here, old-run, has-ended}
 use Rattle.stab_splices.proofs.recording.Recording.replay.Given.{Over}
 use Rattle.stab_splices.proofs.recording.Recording.replay.Goals as goal
 use Rattle.stab_splices.proofs.recording.Recording.replay.Goals.{After-place_of-place, After-as_slice, After-count_before-before, In_ok-replay, After-as_slice-3, After-follow, In_ok-end}
@@ -12,22 +12,22 @@ on-err (Err x) P p = p
 few : (g : Over) (c : After-as_slice g) → length (unroll (circuit_items c.args.circuit.now)) ≤ 1048576
 few g c = check-steps (circuit_items c.args.circuit.now) (check-whole c.args.self.now.tableau.qubits (circuit_items c.args.circuit.now) c.requires.checked)
 
-fitting : (g : Over) (c : After-as_slice g) → All IsApart (unroll (circuit_items c.args.circuit.now)) → All (StepFits c.args.self.now.tableau.qubits) (unroll (circuit_items c.args.circuit.now))
-fitting g c apart =
-    check-fits c.args.self.now.tableau.qubits (circuit_items c.args.circuit.now) (unroll (circuit_items c.args.circuit.now)) c.requires.checked refl apart
+fitting : (g : Over) (c : After-as_slice g) → All HasDistinctQubits (unroll (circuit_items c.args.circuit.now)) → All (StepFits c.args.self.now.tableau.qubits) (unroll (circuit_items c.args.circuit.now))
+fitting g c distinct =
+    check-fits c.args.self.now.tableau.qubits (circuit_items c.args.circuit.now) (unroll (circuit_items c.args.circuit.now)) c.requires.checked refl distinct
 
--- the copies at or before the first step that changed
+-- the checkpoints at or before the first step that changed
 first : (g : Over) (c : After-count_before-before g) → IsCount (c.args.span.first + 1) c.args.self.now.checkpoints.items c.count_before-before.result
 first g c =
     let count = c.count_before-before.ensures in
     count-of (c.args.span.first + 1) c.as_slice.result.now c.args.self.now.checkpoints.items c.count_before-before.result c.as_slice.ensures.value count.within count.before
-    count.behind
+    count.following
 
 -- and those before the end of what was changed
-behind : (g : Over) (c : After-as_slice-3 g) → IsCount c.args.span.old_end c.args.self.now.checkpoints.items c.count_before.result
-behind g c =
+following : (g : Over) (c : After-as_slice-3 g) → IsCount c.args.span.old_end c.args.self.now.checkpoints.items c.count_before.result
+following g c =
     let count = c.count_before.ensures in
-    count-of c.args.span.old_end c.as_slice-2.result.now c.args.self.now.checkpoints.items c.count_before.result c.as_slice-2.ensures.value count.within count.before count.behind
+    count-of c.args.span.old_end c.as_slice-2.result.now c.args.self.now.checkpoints.items c.count_before.result c.as_slice-2.ensures.value count.within count.before count.following
 
 begun : (g : Over) (c : In_ok-replay g) → length (unroll (circuit_items c.args.circuit.now)) ≤ 1048576
     → IsCount (c.args.span.first + 1) c.args.self.now.checkpoints.items c.count_before-before.result
@@ -43,7 +43,7 @@ asked : (g : Over) (c : After-follow g) → c.in_ok-replay.replay.cursor.all ≡
     → g.C.Coins.asks c.follow.new.coins ≤ g.C.Coins.asks c.args.coins.now + all_coins_of (unroll (circuit_items c.args.circuit.now))
 asked g c all =
     let asked = c.follow.ensures.asked in
-    omega (arith, asked, coins-behind c.in_ok-replay.replay.step c.in_ok-replay.replay.cursor.all, ap all_coins_of all)
+    omega (arith, asked, coins-following c.in_ok-replay.replay.step c.in_ok-replay.replay.cursor.all, ap all_coins_of all)
 
 -- the replay ended, whichever old steps are followed
 end_of : (g : Over) (c : In_ok-end g)
@@ -56,11 +56,11 @@ end_of : (g : Over) (c : In_ok-end g)
     → HasEnded c.args.self.now.tableau.qubits (g.C.Coins.sequence c.args.coins.now) c.args.stride (unroll (circuit_items c.args.circuit.now)) c.args.span c.args.self.now
     c.count_before-before.result f.old c.in_ok-replay.replay.step (planned c.steps.result c.args.stride c.args.span c.max.result c.len.result c.args.self.now.window) c.follow.new.self
     c.in_ok-end.end
-end_of g c f few first begins behind =
+end_of g c f few first begins following =
     let plan = planned c.steps.result c.args.stride c.args.span c.max.result c.len.result c.args.self.now.window in
-    has-ended f few first begins behind plan refl refl (omega (arith, c.steps.ensures.value, few)) c.max.ensures refl c.follow.new.self c.in_ok-end.end
-    c.in_ok-end.ensures.replay c.in_ok-end.ensures.raised
-    (seen-end c.in_ok-replay.replay.tableau.qubits plan c.follow.new.self (output_of c.args.self.now.outputs) c.args.self.now.strings c.in_ok-end.end c.as_slice-3.ensures.value c.in_ok-end.ensures.end)
+    has-ended f few first begins following plan refl refl (omega (arith, c.steps.ensures.value, few)) c.max.ensures refl c.follow.new.self c.in_ok-end.end
+    c.in_ok-end.ensures.replay c.in_ok-end.ensures.ended.raised
+    (seen-end c.in_ok-replay.replay.tableau.qubits plan c.follow.new.self (output_of c.args.self.now.outputs) c.args.self.now.strings c.in_ok-end.end c.as_slice-3.ensures.value c.in_ok-end.ensures.ended.end)
 
 -- where it ended among the new steps
 stop_is : (g : Over) (c : After-place_of-place g) → length (unroll (circuit_items c.args.circuit.now)) ≤ 1048576
@@ -72,22 +72,22 @@ stop_is g c few =
 -- how many steps were followed
 followed : (g : Over) (c : After-place_of-place g) → length (unroll (circuit_items c.args.circuit.now)) ≤ 1048576
     → c.follow.new.self.step ≤ stop_of c.args.span (length (unroll (circuit_items c.args.circuit.now))) c.follow.new.self.step c.args.self.now.checkpoints.items c.in_ok-end.end
-    → (c.follow.new.self.applied + (c.follow.new.self.framed + (c.place_of-place.result - c.follow.new.self.step))) + c.in_ok-replay.replay.step
+    → (c.follow.new.self.applied + (c.follow.new.self.by_frame + (c.place_of-place.result - c.follow.new.self.step))) + c.in_ok-replay.replay.step
     ≡ stop_of c.args.span (length (unroll (circuit_items c.args.circuit.now))) c.follow.new.self.step c.args.self.now.checkpoints.items c.in_ok-end.end
-followed g c few order = omega (arith, c.in_ok-end.ensures.counted, stop_is g c few, order)
+followed g c few order = omega (arith, c.in_ok-end.ensures.costs.counted, stop_is g c few, order)
 
 pub place_of-place-requires : goal.place_of-place-requires
 place_of-place-requires g c =
     let at = goal.at.place_of-place-requires g c in
     let begins = begun g at.In_ok-replay (few g at.After-as_slice) (first g at.After-count_before-before) in
-    let ended = end_of g at.In_ok-end c.requires.follows (few g at.After-as_slice) (first g at.After-count_before-before) begins (behind g at.After-as_slice-3) in
-    record { in_range = ended.copy }
+    let ended = end_of g at.In_ok-end c.requires.follows (few g at.After-as_slice) (first g at.After-count_before-before) begins (following g at.After-as_slice-3) in
+    record { in_range = ended.checkpoint }
 
 pub overflow_sub-followed : goal.overflow_sub-followed
 overflow_sub-followed g c =
     let at = goal.at.overflow_sub-followed g c in
     let begins = begun g at.In_ok-replay (few g at.After-as_slice) (first g at.After-count_before-before) in
-    let ended = end_of g at.In_ok-end c.requires.follows (few g at.After-as_slice) (first g at.After-count_before-before) begins (behind g at.After-as_slice-3) in
+    let ended = end_of g at.In_ok-end c.requires.follows (few g at.After-as_slice) (first g at.After-count_before-before) begins (following g at.After-as_slice-3) in
     omega (arith, ended.order, stop_is g at.After-place_of-place (few g at.After-as_slice))
 
 pub overflow_add-span : goal.overflow_add-span
@@ -106,38 +106,56 @@ overflow_sub-before g c =
 pub resume-requires-clause-within : goal.resume-requires-clause-within
 resume-requires-clause-within g c =
     let at = goal.at.resume-requires-clause-within g c in
-    copy-within c.requires.follows (few g at.After-as_slice) (first g at.After-count_before-before)
+    checkpoint-within c.requires.follows (few g at.After-as_slice) (first g at.After-count_before-before)
 
 pub follow-requires-clause-begun : goal.follow-requires-clause-begun
 follow-requires-clause-begun g c =
     let at = goal.at.follow-requires-clause-begun g c in
     let begins = begun g at.In_ok-replay (few g at.After-as_slice) (first g at.After-count_before-before) in
-    begins.replay
+    record { replay = begins.replay; nothing_saved = begins.saved; nothing_applied = begins.applied; nothing_propagated = begins.by_frame }
 
-pub follow-requires-clause-nothing_laid : goal.follow-requires-clause-nothing_laid
-follow-requires-clause-nothing_laid g c =
-    let at = goal.at.follow-requires-clause-nothing_laid g c in
+pub follow-requires-clause-planned : goal.follow-requires-clause-planned
+follow-requires-clause-planned g c =
+    let at = goal.at.follow-requires-clause-planned g c in
     let begins = begun g at.In_ok-replay (few g at.After-as_slice) (first g at.After-count_before-before) in
-    begins.laid
+    record {
+      fits =
+          subst (λ n. All (StepFits n) c.in_ok-replay.replay.cursor.all) (sym begins.qubits)
+          (check-fits c.args.self.now.tableau.qubits (circuit_items c.args.circuit.now) c.in_ok-replay.replay.cursor.all c.requires.checked begins.all
+          (subst (All HasDistinctQubits) (sym begins.all) begins.distinct));
+      total = omega (arith, c.steps.ensures.value, few g at.After-as_slice, ap length begins.all);
+      few = omega (arith, c.steps.ensures.value, few g at.After-as_slice);
+      stride = c.requires.stride;
+    }
 
-pub follow-requires-clause-fits : goal.follow-requires-clause-fits
-follow-requires-clause-fits g c =
-    let at = goal.at.follow-requires-clause-fits g c in
+pub follow-requires-clause-circuit : goal.follow-requires-clause-circuit
+follow-requires-clause-circuit g c =
+    let at = goal.at.follow-requires-clause-circuit g c in
     let begins = begun g at.In_ok-replay (few g at.After-as_slice) (first g at.After-count_before-before) in
-    subst (λ n. All (StepFits n) c.in_ok-replay.replay.cursor.all) (sym begins.qubits)
-    (check-fits c.args.self.now.tableau.qubits (circuit_items c.args.circuit.now) c.in_ok-replay.replay.cursor.all c.requires.checked begins.all
-    (subst (All IsApart) (sym begins.all) begins.apart))
+    record { steps = sym begins.all; checked = check-whole c.args.self.now.tableau.qubits (circuit_items c.args.circuit.now) c.requires.checked }
 
-pub follow-requires-clause-total : goal.follow-requires-clause-total
-follow-requires-clause-total g c =
-    let at = goal.at.follow-requires-clause-total g c in
+pub follow-requires-clause-followed : goal.follow-requires-clause-followed
+follow-requires-clause-followed g c =
+    let at = goal.at.follow-requires-clause-followed g c in
     let begins = begun g at.In_ok-replay (few g at.After-as_slice) (first g at.After-count_before-before) in
-    omega (arith, c.steps.ensures.value, few g at.After-as_slice, ap length begins.all)
-
-pub follow-requires-clause-few : goal.follow-requires-clause-few
-follow-requires-clause-few g c =
-    let at = goal.at.follow-requires-clause-few g c in
-    omega (arith, c.steps.ensures.value, few g at.After-as_slice)
+    let plan = planned c.steps.result c.args.stride c.args.span c.max.result c.len.result c.args.self.now.window in
+    record {
+      run =
+          subst (λ cs. IsOldRun c.in_ok-replay.replay.tableau.qubits (g.C.Coins.sequence c.args.coins.now) plan c.in_ok-replay.replay.cursor.all cs (output_of c.args.self.now.outputs) c.args.self.now.strings)
+          (sym c.as_slice-3.ensures.value)
+          (old-run c.requires.follows (few g at.After-as_slice) (first g at.After-count_before-before) begins (following g at.After-as_slice-3) plan refl refl (omega (arith, c.steps.ensures.value, few g at.After-as_slice)) c.max.ensures refl);
+      next = omega (arith, (following g at.After-as_slice-3).within, (first g at.After-count_before-before).within, c.max.ensures, ap length c.as_slice-3.ensures.value);
+      ascending =
+          subst (λ cs. Ascending plan c.in_ok-replay.replay.step (drop c.max.result cs)) (sym c.as_slice-3.ensures.value)
+          (ascending-here c.requires.follows (few g at.After-as_slice) (first g at.After-count_before-before) begins (following g at.After-as_slice-3) plan refl refl (omega (arith, c.steps.ensures.value, few g at.After-as_slice)) c.max.ensures refl);
+      same_qubits = subst (All (λ d. d.tableau.qubits ≡ c.in_ok-replay.replay.tableau.qubits)) (sym c.as_slice-3.ensures.value) begins.checkpoints;
+      records = record {
+        base = omega (arith, c.len.ensures, c.in_ok-replay.replay.outputs.records.ok.0);
+        same =
+            subst (λ k. take k c.in_ok-replay.replay.outputs.records.items ≡ take k c.args.self.now.outputs.records.items)
+            (sym (c.len.ensures ∙ c.in_ok-replay.replay.outputs.records.ok.0)) begins.records;
+      };
+    }
 
 pub follow-requires-clause-few_tried : goal.follow-requires-clause-few_tried
 follow-requires-clause-few_tried g c =
@@ -150,62 +168,11 @@ returns-clause-tried g c =
     let order = c.requires.follows.span.new_order in
     omega (arith, c.in_ok-end.ensures.tried, c.requires.tried, c.steps.ensures.value, few g at.After-as_slice, order)
 
-pub follow-requires-clause-nothing_applied : goal.follow-requires-clause-nothing_applied
-follow-requires-clause-nothing_applied g c =
-    let at = goal.at.follow-requires-clause-nothing_applied g c in
-    let begins = begun g at.In_ok-replay (few g at.After-as_slice) (first g at.After-count_before-before) in
-    begins.applied
-
-pub follow-requires-clause-nothing_framed : goal.follow-requires-clause-nothing_framed
-follow-requires-clause-nothing_framed g c =
-    let at = goal.at.follow-requires-clause-nothing_framed g c in
-    let begins = begun g at.In_ok-replay (few g at.After-as_slice) (first g at.After-count_before-before) in
-    begins.framed
-
-pub follow-requires-clause-old : goal.follow-requires-clause-old
-follow-requires-clause-old g c =
-    let at = goal.at.follow-requires-clause-old g c in
-    let begins = begun g at.In_ok-replay (few g at.After-as_slice) (first g at.After-count_before-before) in
-    let plan = planned c.steps.result c.args.stride c.args.span c.max.result c.len.result c.args.self.now.window in
-    subst (λ cs. IsOldRun c.in_ok-replay.replay.tableau.qubits (g.C.Coins.sequence c.args.coins.now) plan c.in_ok-replay.replay.cursor.all cs (output_of c.args.self.now.outputs) c.args.self.now.strings)
-    (sym c.as_slice-3.ensures.value)
-    (old-run c.requires.follows (few g at.After-as_slice) (first g at.After-count_before-before) begins (behind g at.After-as_slice-3) plan refl refl
-    (omega (arith, c.steps.ensures.value, few g at.After-as_slice)) c.max.ensures refl)
-
-pub follow-requires-clause-same_circuit : goal.follow-requires-clause-same_circuit
-follow-requires-clause-same_circuit g c =
-    let at = goal.at.follow-requires-clause-same_circuit g c in
-    let begins = begun g at.In_ok-replay (few g at.After-as_slice) (first g at.After-count_before-before) in
-    sym begins.all
-
-pub follow-requires-clause-checked : goal.follow-requires-clause-checked
-follow-requires-clause-checked g c = check-whole c.args.self.now.tableau.qubits (circuit_items c.args.circuit.now) c.requires.checked
-
 pub follow-requires-clause-repeats : goal.follow-requires-clause-repeats
 follow-requires-clause-repeats g c =
     let at = goal.at.follow-requires-clause-repeats g c in
     let begins = begun g at.In_ok-replay (few g at.After-as_slice) (first g at.After-count_before-before) in
     subst (λ ys. AreRepeats 0 ys c.args.repeats.now) (sym begins.all) c.requires.repeats
-
-pub follow-requires-clause-ascending : goal.follow-requires-clause-ascending
-follow-requires-clause-ascending g c =
-    let at = goal.at.follow-requires-clause-ascending g c in
-    let begins = begun g at.In_ok-replay (few g at.After-as_slice) (first g at.After-count_before-before) in
-    subst (λ cs. Ascending (planned c.steps.result c.args.stride c.args.span c.max.result c.len.result c.args.self.now.window) c.in_ok-replay.replay.step (drop c.max.result cs)) (sym c.as_slice-3.ensures.value)
-    (ascending-here c.requires.follows (few g at.After-as_slice) (first g at.After-count_before-before) begins (behind g at.After-as_slice-3) (planned c.steps.result c.args.stride c.args.span c.max.result c.len.result c.args.self.now.window) refl refl (omega (arith, c.steps.ensures.value, few g at.After-as_slice)) c.max.ensures refl)
-
-pub follow-requires-clause-same_qubits : goal.follow-requires-clause-same_qubits
-follow-requires-clause-same_qubits g c =
-    let at = goal.at.follow-requires-clause-same_qubits g c in
-    let begins = begun g at.In_ok-replay (few g at.After-as_slice) (first g at.After-count_before-before) in
-    subst (All (λ d. d.tableau.qubits ≡ c.in_ok-replay.replay.tableau.qubits)) (sym c.as_slice-3.ensures.value) begins.copies
-
-pub follow-requires-clause-same_records : goal.follow-requires-clause-same_records
-follow-requires-clause-same_records g c =
-    let at = goal.at.follow-requires-clause-same_records g c in
-    let begins = begun g at.In_ok-replay (few g at.After-as_slice) (first g at.After-count_before-before) in
-    subst (λ k. take k c.in_ok-replay.replay.outputs.records.items ≡ take k c.args.self.now.outputs.records.items)
-    (sym (c.len.ensures ∙ c.in_ok-replay.replay.outputs.records.ok.0)) begins.records
 
 pub returns-in_err-end-clause-asked : goal.returns-in_err-end-clause-asked
 returns-in_err-end-clause-asked g c =
@@ -225,82 +192,82 @@ returns-clause-asked g c =
     let begins = begun g at.In_ok-replay (few g at.After-as_slice) (first g at.After-count_before-before) in
     asked g at.After-follow begins.all
 
-pub returns-in_err-end-clause-asked_behind : goal.returns-in_err-end-clause-asked_behind
-returns-in_err-end-clause-asked_behind g c =
-    let at = goal.at.returns-in_err-end-clause-asked_behind g c in
+pub returns-in_err-end-clause-asked_after : goal.returns-in_err-end-clause-asked_after
+returns-in_err-end-clause-asked_after g c =
+    let at = goal.at.returns-in_err-end-clause-asked_after g c in
     let begins = begun g at.In_ok-replay (few g at.After-as_slice) (first g at.After-count_before-before) in
-    asked-behind c.requires.follows (few g at.After-as_slice) (first g at.After-count_before-before) c.in_ok-replay.replay begins _ _ c.follow.ensures.asked
+    asked-following c.requires.follows (few g at.After-as_slice) (first g at.After-count_before-before) c.in_ok-replay.replay begins _ _ c.follow.ensures.asked
 
-pub returns-in_err-prepared-clause-asked_behind : goal.returns-in_err-prepared-clause-asked_behind
-returns-in_err-prepared-clause-asked_behind g c =
-    let at = goal.at.returns-in_err-prepared-clause-asked_behind g c in
+pub returns-in_err-prepared-clause-asked_after : goal.returns-in_err-prepared-clause-asked_after
+returns-in_err-prepared-clause-asked_after g c =
+    let at = goal.at.returns-in_err-prepared-clause-asked_after g c in
     let begins = begun g at.In_ok-replay (few g at.After-as_slice) (first g at.After-count_before-before) in
-    asked-behind c.requires.follows (few g at.After-as_slice) (first g at.After-count_before-before) c.in_ok-replay.replay begins _ _ c.follow.ensures.asked
+    asked-following c.requires.follows (few g at.After-as_slice) (first g at.After-count_before-before) c.in_ok-replay.replay begins _ _ c.follow.ensures.asked
 
-pub returns-clause-asked_behind : goal.returns-clause-asked_behind
-returns-clause-asked_behind g c =
-    let at = goal.at.returns-clause-asked_behind g c in
+pub returns-clause-asked_after : goal.returns-clause-asked_after
+returns-clause-asked_after g c =
+    let at = goal.at.returns-clause-asked_after g c in
     let begins = begun g at.In_ok-replay (few g at.After-as_slice) (first g at.After-count_before-before) in
-    asked-behind c.requires.follows (few g at.After-as_slice) (first g at.After-count_before-before) c.in_ok-replay.replay begins _ _ c.follow.ensures.asked
+    asked-following c.requires.follows (few g at.After-as_slice) (first g at.After-count_before-before) c.in_ok-replay.replay begins _ _ c.follow.ensures.asked
 
 pub prepare-requires : goal.prepare-requires
 prepare-requires g c =
     let at = goal.at.prepare-requires g c in
     let begins = begun g at.In_ok-replay (few g at.After-as_slice) (first g at.After-count_before-before) in
-    let ended = end_of g at.In_ok-end c.requires.follows (few g at.After-as_slice) (first g at.After-count_before-before) begins (behind g at.After-as_slice-3) in
-    record { in_range = ended.copy; same_length = ended.strings }
+    let ended = end_of g at.In_ok-end c.requires.follows (few g at.After-as_slice) (first g at.After-count_before-before) begins (following g at.After-as_slice-3) in
+    record { in_range = ended.checkpoint; same_length = ended.strings }
 
 pub returns-in_err-prepared-clause-unchanged : goal.returns-in_err-prepared-clause-unchanged
 returns-in_err-prepared-clause-unchanged g c =
     let at = goal.at.returns-in_err-prepared-clause-unchanged g c in
     on-err c.from_residual-in_err-prepared.result _ c.prepare.ensures.unchanged
 
-pub commit-requires-clause-behind : goal.commit-requires-clause-behind
-commit-requires-clause-behind g c =
-    let at = goal.at.commit-requires-clause-behind g c in
+pub commit-requires-clause-following : goal.commit-requires-clause-following
+commit-requires-clause-following g c =
+    let at = goal.at.commit-requires-clause-following g c in
     let begins = begun g at.In_ok-replay (few g at.After-as_slice) (first g at.After-count_before-before) in
-    let ended = end_of g at.In_ok-end c.requires.follows (few g at.After-as_slice) (first g at.After-count_before-before) begins (behind g at.After-as_slice-3) in
+    let ended = end_of g at.In_ok-end c.requires.follows (few g at.After-as_slice) (first g at.After-count_before-before) begins (following g at.After-as_slice-3) in
     let ready = ended.ready _ (record { tableau = refl; output = refl; observables = refl; strings = refl; window = refl; checkpoints = refl }) c.observables.result c.in_ok-prepared.prepared c.in_ok-prepared.ensures.prepared in
-    ready.behind c.prepare.new.self c.prepare.ensures.unchanged
+    ready.following c.prepare.new.self c.prepare.ensures.unchanged
 
 pub returns-clause-kept : goal.returns-clause-kept
 returns-clause-kept g c =
     let at = goal.at.returns-clause-kept g c in
     let begins = begun g at.In_ok-replay (few g at.After-as_slice) (first g at.After-count_before-before) in
-    let ended = end_of g at.In_ok-end c.requires.follows (few g at.After-as_slice) (first g at.After-count_before-before) begins (behind g at.After-as_slice-3) in
+    let ended = end_of g at.In_ok-end c.requires.follows (few g at.After-as_slice) (first g at.After-count_before-before) begins (following g at.After-as_slice-3) in
     let ready = ended.ready _ (record { tableau = refl; output = refl; observables = refl; strings = refl; window = refl; checkpoints = refl }) c.observables.result c.in_ok-prepared.prepared c.in_ok-prepared.ensures.prepared in
     subst (λ count. IsRecording c.args.self.now.tableau.qubits (g.C.Coins.sequence c.args.coins.now) c.args.stride (unroll (circuit_items c.args.circuit.now)) count c.commit.new.self)
     c.observables.ensures.value
-    (ready.kept c.prepare.new.self c.prepare.ensures.unchanged (fitting g at.After-as_slice begins.apart) c.commit.new.self c.commit.ensures.committed)
+    (ready.kept c.prepare.new.self c.prepare.ensures.unchanged (fitting g at.After-as_slice begins.distinct) c.commit.new.self c.commit.ensures.committed)
 
-pub returns-clause-apart : goal.returns-clause-apart
-returns-clause-apart g c =
-    let at = goal.at.returns-clause-apart g c in
+pub returns-clause-distinct : goal.returns-clause-distinct
+returns-clause-distinct g c =
+    let at = goal.at.returns-clause-distinct g c in
     let begins = begun g at.In_ok-replay (few g at.After-as_slice) (first g at.After-count_before-before) in
-    begins.apart
+    begins.distinct
 
 pub returns-clause-qubits : goal.returns-clause-qubits
 returns-clause-qubits g c =
     let at = goal.at.returns-clause-qubits g c in
     let begins = begun g at.In_ok-replay (few g at.After-as_slice) (first g at.After-count_before-before) in
-    let ended = end_of g at.In_ok-end c.requires.follows (few g at.After-as_slice) (first g at.After-count_before-before) begins (behind g at.After-as_slice-3) in
+    let ended = end_of g at.In_ok-end c.requires.follows (few g at.After-as_slice) (first g at.After-count_before-before) begins (following g at.After-as_slice-3) in
     let ready = ended.ready _ (record { tableau = refl; output = refl; observables = refl; strings = refl; window = refl; checkpoints = refl }) c.observables.result c.in_ok-prepared.prepared c.in_ok-prepared.ensures.prepared in
-    (ready.kept c.prepare.new.self c.prepare.ensures.unchanged (fitting g at.After-as_slice begins.apart) c.commit.new.self c.commit.ensures.committed).qubits
+    (ready.kept c.prepare.new.self c.prepare.ensures.unchanged (fitting g at.After-as_slice begins.distinct) c.commit.new.self c.commit.ensures.committed).qubits
 
 pub returns-clause-asks_free : goal.returns-clause-asks_free
 returns-clause-asks_free g c =
     let at = goal.at.returns-clause-asks_free g c in
     let begins = begun g at.In_ok-replay (few g at.After-as_slice) (first g at.After-count_before-before) in
-    let ended = end_of g at.In_ok-end c.requires.follows (few g at.After-as_slice) (first g at.After-count_before-before) begins (behind g at.After-as_slice-3) in
+    let ended = end_of g at.In_ok-end c.requires.follows (few g at.After-as_slice) (first g at.After-count_before-before) begins (following g at.After-as_slice-3) in
     let ready = ended.ready _ (record { tableau = refl; output = refl; observables = refl; strings = refl; window = refl; checkpoints = refl }) c.observables.result c.in_ok-prepared.prepared c.in_ok-prepared.ensures.prepared in
-    let asks = c.in_ok-end.ensures.asks_free in
+    let asks = c.in_ok-end.ensures.costs.asks_free in
     omega (arith, asks, ready.flags c.prepare.new.self c.prepare.ensures.unchanged c.commit.new.self c.commit.ensures.committed)
 
 pub returns-clause-applied : goal.returns-clause-applied
 returns-clause-applied g c =
     let at = goal.at.returns-clause-applied g c in
     let begins = begun g at.In_ok-replay (few g at.After-as_slice) (first g at.After-count_before-before) in
-    let ended = end_of g at.In_ok-end c.requires.follows (few g at.After-as_slice) (first g at.After-count_before-before) begins (behind g at.After-as_slice-3) in
+    let ended = end_of g at.In_ok-end c.requires.follows (few g at.After-as_slice) (first g at.After-count_before-before) begins (following g at.After-as_slice-3) in
     ended.applied _ (followed g at.After-place_of-place (few g at.After-as_slice) ended.order)
 
 pub returns-clause-few : goal.returns-clause-few
@@ -308,13 +275,13 @@ returns-clause-few g c =
     let at = goal.at.returns-clause-few g c in
     let begins = begun g at.In_ok-replay (few g at.After-as_slice) (first g at.After-count_before-before) in
     λ xs count far kept span agree.
-    let ended = end_of g at.In_ok-end (record { old = xs; count = count; kept = kept; span = span; differ = tt }) (few g at.After-as_slice) (first g at.After-count_before-before) begins (behind g at.After-as_slice-3) in
-    ended.few _ (followed g at.After-place_of-place (few g at.After-as_slice) ended.order) (seen-soon (g.C.Coins.sequence c.args.coins.now) (planned c.steps.result c.args.stride c.args.span c.max.result c.len.result c.args.self.now.window) c.follow.new.self.step begins.qubits begins.all c.as_slice-3.ensures.value refl c.in_ok-end.ensures.soon) far agree
+    let ended = end_of g at.In_ok-end (record { old = xs; count = count; kept = kept; span = span; differ = tt }) (few g at.After-as_slice) (first g at.After-count_before-before) begins (following g at.After-as_slice-3) in
+    ended.few _ (followed g at.After-place_of-place (few g at.After-as_slice) ended.order) (seen-soon (g.C.Coins.sequence c.args.coins.now) (planned c.steps.result c.args.stride c.args.span c.max.result c.len.result c.args.self.now.window) c.follow.new.self.step begins.qubits begins.all c.as_slice-3.ensures.value refl c.in_ok-end.ensures.ended.soon) far agree
 
 pub returns-clause-counted : goal.returns-clause-counted
 returns-clause-counted g c =
     let at = goal.at.returns-clause-counted g c in
     let begins = begun g at.In_ok-replay (few g at.After-as_slice) (first g at.After-count_before-before) in
     λ xs count kept span.
-    let ended = end_of g at.In_ok-end (record { old = xs; count = count; kept = kept; span = span; differ = tt }) (few g at.After-as_slice) (first g at.After-count_before-before) begins (behind g at.After-as_slice-3) in
-    ended.counted _ (followed g at.After-place_of-place (few g at.After-as_slice) ended.order) (seen-soon (g.C.Coins.sequence c.args.coins.now) (planned c.steps.result c.args.stride c.args.span c.max.result c.len.result c.args.self.now.window) c.follow.new.self.step begins.qubits begins.all c.as_slice-3.ensures.value refl c.in_ok-end.ensures.soon)
+    let ended = end_of g at.In_ok-end (record { old = xs; count = count; kept = kept; span = span; differ = tt }) (few g at.After-as_slice) (first g at.After-count_before-before) begins (following g at.After-as_slice-3) in
+    ended.counted _ (followed g at.After-place_of-place (few g at.After-as_slice) ended.order) (seen-soon (g.C.Coins.sequence c.args.coins.now) (planned c.steps.result c.args.stride c.args.span c.max.result c.len.result c.args.self.now.window) c.follow.new.self.step begins.qubits begins.all c.as_slice-3.ensures.value refl c.in_ok-end.ensures.ended.soon)

@@ -1,5 +1,5 @@
 use Rattle.stab_tableau.proofs.Names.{◌∙◌, sym, refl, subst, row_at, with_row, swapped_rows, Covers}
-use Rattle.stab_tableau.proofs.PairedRowsLemmas.{kept-paired, seen-few, seen-place, seen-apart, seen-exchanged}
+use Rattle.stab_tableau.proofs.PairedRowsLemmas.{kept-paired, seen-few, seen-place, seen-distinct, seen-exchanged}
 use Rattle.stab_tableau.proofs.SupportLemmas.{row-group}
 use Rattle.stab_tableau.proofs.table.Table.exchange.Goals as goal
 
@@ -17,9 +17,9 @@ pub swap-requires-clause-b_in_range : goal.swap-requires-clause-b_in_range
 swap-requires-clause-b_in_range c =
     seen-place c.self.inside.rows c.self.invariant.0 c.args.self.now c.self.view_is c.args.other c.args.other_qubit c.place-2.result c.requires.other_in_range c.place-2.ensures.value
 
-pub swap-requires-clause-apart : goal.swap-requires-clause-apart
-swap-requires-clause-apart c =
-    seen-apart c.self.inside.rows c.self.invariant.0 c.args.self.now c.self.view_is c.args.row c.args.other c.args.qubit c.args.other_qubit _ _ c.place.ensures.value c.place-2.ensures.value c.requires.apart
+pub swap-requires-clause-distinct : goal.swap-requires-clause-distinct
+swap-requires-clause-distinct c =
+    seen-distinct c.self.inside.rows c.self.invariant.0 c.args.self.now c.self.view_is c.args.row c.args.other c.args.qubit c.args.other_qubit _ _ c.place.ensures.value c.place-2.ensures.value c.requires.distinct
 
 pub returns : goal.returns
 returns c =

@@ -1,5 +1,5 @@
 use Rattle.stab_tableau.proofs.Names.{◌∙◌, sym, subst, anticommute, product, OthersStay}
-use Rattle.stab_tableau.proofs.PairedRowsLemmas.{kept-paired, seen-few, seen-place, seen-read, seen-written, seen-apart}
+use Rattle.stab_tableau.proofs.PairedRowsLemmas.{kept-paired, seen-few, seen-place, seen-read, seen-written, seen-distinct}
 use Rattle.stab_tableau.proofs.SupportLemmas.{row-group, made-others-stay}
 use Rattle.stab_tableau.proofs.table.Table.multiply.Goals as goal
 
@@ -17,9 +17,9 @@ pub multiply-requires-clause-b_in_range : goal.multiply-requires-clause-b_in_ran
 multiply-requires-clause-b_in_range c =
     seen-place c.self.inside.rows c.self.invariant.0 c.args.self.now c.self.view_is c.args.other c.args.other_qubit c.place-2.result c.requires.other_in_range c.place-2.ensures.value
 
-pub multiply-requires-clause-apart : goal.multiply-requires-clause-apart
-multiply-requires-clause-apart c =
-    seen-apart c.self.inside.rows c.self.invariant.0 c.args.self.now c.self.view_is c.args.row c.args.other c.args.qubit c.args.other_qubit _ _ c.place.ensures.value c.place-2.ensures.value c.requires.apart
+pub multiply-requires-clause-distinct : goal.multiply-requires-clause-distinct
+multiply-requires-clause-distinct c =
+    seen-distinct c.self.inside.rows c.self.invariant.0 c.args.self.now c.self.view_is c.args.row c.args.other c.args.qubit c.args.other_qubit _ _ c.place.ensures.value c.place-2.ensures.value c.requires.distinct
 
 pub multiply-requires-clause-commuting : goal.multiply-requires-clause-commuting
 multiply-requires-clause-commuting c =

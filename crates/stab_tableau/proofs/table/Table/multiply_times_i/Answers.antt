@@ -1,5 +1,5 @@
 use Rattle.stab_tableau.proofs.Names.{◌∙◌, sym, subst, anticommute, product_times_i, OthersStay}
-use Rattle.stab_tableau.proofs.PairedRowsLemmas.{kept-paired, seen-few, seen-place, seen-read, seen-written, seen-apart}
+use Rattle.stab_tableau.proofs.PairedRowsLemmas.{kept-paired, seen-few, seen-place, seen-read, seen-written, seen-distinct}
 use Rattle.stab_tableau.proofs.SupportLemmas.{row-group, made-others-stay}
 use Rattle.stab_tableau.proofs.table.Table.multiply_times_i.Goals as goal
 
@@ -17,9 +17,9 @@ pub multiply_times_i-requires-clause-b_in_range : goal.multiply_times_i-requires
 multiply_times_i-requires-clause-b_in_range c =
     seen-place c.self.inside.rows c.self.invariant.0 c.args.self.now c.self.view_is c.args.other c.args.other_qubit c.place-2.result c.requires.other_in_range c.place-2.ensures.value
 
-pub multiply_times_i-requires-clause-apart : goal.multiply_times_i-requires-clause-apart
-multiply_times_i-requires-clause-apart c =
-    seen-apart c.self.inside.rows c.self.invariant.0 c.args.self.now c.self.view_is c.args.row c.args.other c.args.qubit c.args.other_qubit _ _ c.place.ensures.value c.place-2.ensures.value c.requires.apart
+pub multiply_times_i-requires-clause-distinct : goal.multiply_times_i-requires-clause-distinct
+multiply_times_i-requires-clause-distinct c =
+    seen-distinct c.self.inside.rows c.self.invariant.0 c.args.self.now c.self.view_is c.args.row c.args.other c.args.qubit c.args.other_qubit _ _ c.place.ensures.value c.place-2.ensures.value c.requires.distinct
 
 pub multiply_times_i-requires-clause-anticommuting : goal.multiply_times_i-requires-clause-anticommuting
 multiply_times_i-requires-clause-anticommuting c =

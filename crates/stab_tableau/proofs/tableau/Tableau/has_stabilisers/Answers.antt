@@ -1,5 +1,5 @@
 use Rattle.stab_tableau.proofs.Names.{◌≡◌, ◌≤◌, ◌<◌, ◌∙◌, Some, false, refl, sym, ap, subst, length, arith, below_more, with_sign, stabilises, stabiliser_of, IsTableau}
-use Rattle.stab_tableau.proofs.SameStateLemmas.{tells-yes, tells-no}
+use Rattle.stab_tableau.proofs.SameStateLemmas.{determines-yes, determines-no}
 use Rattle.stab_tableau.proofs.tableau.Tableau.has_stabilisers.Goals as goal
 use Rattle.stab_tableau.proofs.tableau.Tableau.has_stabilisers.Goals.{After-sign_of}
 
@@ -19,7 +19,7 @@ returns-then-negative-clause-value c =
     let below : c.loop-k.k < length c.args.table.now = (let lt = c.loop-k-test.true in let e = c.len-k-end.ensures.value in omega arith) in (
       λ e. cc,
       λ same. absurd
-          (tells-no c.args.table.now _ c.requires.tableau c.args.self.now c.stabilises_a_group.ensures.law c.requires.same_length c.loop-k.k below
+          (determines-no c.args.table.now _ c.requires.tableau c.args.self.now c.stabilises_a_group.ensures.law c.requires.same_length c.loop-k.k below
           (λ e. let r : c.sign_of.result ≡ Some false = (c.sign_of.ensures.some false).1 (asked (goal.at.returns-then-negative-clause-value c).After-sign_of ∙ e) in
           let s = c.in-Some.is in let f = c.if-negative.true in cc)
           same),
@@ -30,7 +30,7 @@ returns-in-None-clause-value c =
     let below : c.loop-k.k < length c.args.table.now = (let lt = c.loop-k-test.true in let e = c.len-k-end.ensures.value in omega arith) in (
       λ e. cc,
       λ same. absurd
-          (tells-no c.args.table.now _ c.requires.tableau c.args.self.now c.stabilises_a_group.ensures.law c.requires.same_length c.loop-k.k below
+          (determines-no c.args.table.now _ c.requires.tableau c.args.self.now c.stabilises_a_group.ensures.law c.requires.same_length c.loop-k.k below
           (λ e. let r : c.sign_of.result ≡ Some false = (c.sign_of.ensures.some false).1 (asked (goal.at.returns-in-None-clause-value c).After-sign_of ∙ e) in
           let s = c.in-None.is in cc)
           same),
@@ -50,7 +50,7 @@ loop-k-preserved c =
 pub returns-clause-value : goal.returns-clause-value
 returns-clause-value c =
     let past : length c.args.table.now ≤ c.loop-k.k = (let le = c.loop-k-test.false in let e = c.len-k-end.ensures.value in omega arith) in (
-      λ _. tells-yes c.args.table.now _ c.requires.tableau c.args.self.now c.stabilises_a_group.ensures.law c.requires.same_length
+      λ _. determines-yes c.args.table.now _ c.requires.tableau c.args.self.now c.stabilises_a_group.ensures.law c.requires.same_length
           c.loop-k.k past c.loop-k.invariant.has,
       λ _. refl,
     )

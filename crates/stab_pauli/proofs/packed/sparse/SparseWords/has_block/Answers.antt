@@ -6,8 +6,8 @@ pub returns-then-place-ge8 : goal.returns-then-place-ge8
 returns-then-place-ge8 c =
     let mine = c.args.self.now in
     let place = c.args.place.now in
-    let blank = eight-blank mine.gaps.items mine.kept.items mine.behind place.next place.gap c.if-place-ge8.true in
+    let blank = eight-blank mine.gaps.items mine.kept.items mine.following place.next place.gap c.if-place-ge8.true in
     record {
       value = ((λ h. blank.0 ∙ sym (c.is_blank.ensures.value.0 h)), (λ e. c.is_blank.ensures.value.1 (sym e ∙ blank.0)));
-      behind = λ h. blank.1;
+      following = λ h. blank.1;
     }

@@ -1,5 +1,5 @@
 use Rattle.stab_pauli.proofs.Names.{arith, ◌≡◌, ◌∙◌, ◌*◌, sym, subst, ap, length, AreShort, blocks_of, SparseWords}
-use Rattle.stab_pauli.proofs.Lemmas.{short-spread, told_by, words_told, letters_told, same_number, no_false, seen_of, qubits_seen}
+use Rattle.stab_pauli.proofs.Lemmas.{short-spread, determined_by, words_determined, letters_determined, same_number, no_false, seen_of, qubits_seen}
 use Rattle.stab_pauli.proofs.rows.compact.CompactRows.same_letters.Goals as goal
 
 pub returns-then-self-rows : goal.returns-then-self-rows
@@ -23,7 +23,7 @@ are-requires-clause-size c =
     let number : length c.self.inside.powers.items ≡ length c.rows.inside.powers.items = omega arith in
     let blocks : c.self.inside.blocks ≡ c.rows.inside.blocks =
     c.self.invariant.lies.blocks.count ∙ ap blocks_of c.if-self-rows.false ∙ sym c.rows.invariant.blocks.count in
-    ap length c.as_slice-words.ensures.value ∙ c.rows.invariant.size ∙ sym (ap (λ w. length (told_by w)) c.as_ref-sparse.ensures ∙ c.self.invariant.lies.size ∙ (λ i. 8 * blocks i * number i))
+    ap length c.as_slice-words.ensures.value ∙ c.rows.invariant.size ∙ sym (ap (λ w. length (determined_by w)) c.as_ref-sparse.ensures ∙ c.self.invariant.lies.size ∙ (λ i. 8 * blocks i * number i))
 
 pub returns : goal.returns
 returns c =
@@ -32,16 +32,16 @@ returns c =
     let k = c.self.inside.powers.ok.0 in
     let k' = c.rows.inside.powers.ok.0 in
     let number : length c.self.inside.powers.items ≡ length c.rows.inside.powers.items = omega arith in
-    let same = ap told_by c.as_ref-sparse.ensures in
+    let same = ap determined_by c.as_ref-sparse.ensures in
     let kept = subst (AreShort 64) (c.as_slice.ensures.value ∙ ap (λ (w : SparseWords). w.kept.items) c.as_ref-sparse.ensures) c.are_short-2.ensures.law in
-    let short = short-spread c.self.inside.words.value.gaps.items c.self.inside.words.value.kept.items c.self.inside.words.value.behind kept in
+    let short = short-spread c.self.inside.words.value.gaps.items c.self.inside.words.value.kept.items c.self.inside.words.value.following kept in
     let shorts = subst (AreShort 64) c.as_slice-words.ensures.value c.are_short.ensures.law in
     record {
       value = (
         (λ h. (
           sym (qubits_seen mine) ∙ c.if-self-rows.false ∙ qubits_seen theirs,
-          letters_told mine theirs c.if-self-rows.false number (sym same ∙ c.are.ensures.value.0 h ∙ c.as_slice-words.ensures.value),
+          letters_determined mine theirs c.if-self-rows.false number (sym same ∙ c.are.ensures.value.0 h ∙ c.as_slice-words.ensures.value),
         )),
-        (λ both. c.are.ensures.value.1 (same ∙ words_told mine theirs short shorts both.0 both.1 ∙ sym c.as_slice-words.ensures.value)),
+        (λ both. c.are.ensures.value.1 (same ∙ words_determined mine theirs short shorts both.0 both.1 ∙ sym c.as_slice-words.ensures.value)),
       );
     }

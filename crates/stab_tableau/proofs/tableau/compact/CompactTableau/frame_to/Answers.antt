@@ -1,6 +1,6 @@
 use Rattle.stab_tableau.proofs.Names.{rules, ◌≡◌, ◌∙◌, sym, ap, length, Signed, TableauState, SameLetters}
 use Rattle.stab_tableau.proofs.SignFrameLemmas.{length-frame}
-use Rattle.stab_tableau.proofs.ConjugatedRowLemmas.{told-conjugated}
+use Rattle.stab_tableau.proofs.ConjugatedRowLemmas.{determined-conjugated}
 use Rattle.stab_tableau.proofs.tableau.compact.CompactTableau.frame_to.Goals as goal
 
 pub returns-clause-length : goal.returns-clause-length
@@ -12,5 +12,5 @@ returns-clause-length c =
 pub returns-clause-conjugated : goal.returns-clause-conjugated
 returns-clause-conjugated c _ =
     let same : SameLetters c.self.inside.table c.tableau.inside.table = c.same_letters.ensures.value.0 (search rules) in
-    told-conjugated c.self.inside.table c.tableau.inside.table same c.args.self.now c.args.tableau.now c.self.view_is c.tableau.view_is c.write_kept_frame.new.out.letters
+    determined-conjugated c.self.inside.table c.tableau.inside.table same c.args.self.now c.args.tableau.now c.self.view_is c.tableau.view_is c.write_kept_frame.new.out.letters
     (ap (λ (p : Signed). p.letters) c.write_kept_frame.ensures.value)

@@ -1,5 +1,0 @@
-use Rattle.stab_frames.proofs.AgainLemmas.{come-conjugated}
-use Rattle.stab_frames.proofs.step_laws.steps_come_framed.Goals as goal
-
-pub returns : goal.returns
-returns c = record { law = come-conjugated }

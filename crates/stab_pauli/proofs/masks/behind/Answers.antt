@@ -1,8 +1,0 @@
-use Rattle.stab_pauli.proofs.Lemmas.{behind-first, behind-others, byte-small}
-use Rattle.stab_pauli.proofs.masks.behind.Goals as goal
-
-pub returns-clause-first : goal.returns-clause-first
-returns-clause-first c = behind-first c.args.mask c.from.result c.args.chosen c.from.ensures
-
-pub returns-clause-others : goal.returns-clause-others
-returns-clause-others c = λ k. behind-others c.args.mask c.from.result k (byte-small c.from.result c.args.chosen c.from.ensures)

@@ -1,0 +1,186 @@
+//! What only a counted script asks for.
+ghost use Rattle.std.specs.Prelude.{◌≡◌, Some, IfOk, IfErr};
+ghost use Rattle.stab_io.specs.Refusals.{whole};
+ghost use Rattle.stab_io.specs.declared.refusal.Refusal.TheVariants.{OutOfMemory};
+ghost use Rattle.stab_script.specs.CountedRequests.{alone as alone_of, alone_with, item, counts, why, round_number_of, split_of, counted_split, changed_of, sign_of, bit_by as bit_by_letter, bit_of_word, counted_show as shown_by};
+ghost use Rattle.stab_script.specs.ScriptWords.{first_word as first_of, after_word, place_of};
+ghost use Rattle.stab_script.specs.Requests.{counted_asked, counted_if_any};
+
+use crate::place::{first_word, place_number, read_place};
+use stab_circuit::Path;
+use stab_io::Fault;
+use stab_texts::Bit;
+use std::alloc::Global;
+
+/// What only a counted script asks for.
+#[derive(Drop)]
+pub enum CountedRequest {
+    /// That changes are counted from now on.
+    Mark,
+    /// That a round, counted from 0, is split off the block at a place.
+    Split { place: Path, round: u64 },
+    /// The numbers of the circuit.
+    Numbers,
+    /// What changed of detectors and observables.
+    Changed,
+    /// What changed of records.
+    ChangedRecords,
+    /// The sign of the Pauli string of a word.
+    Sign(Vec<u8>),
+    /// The item at a place.
+    Item(Path),
+    /// Where that is in the unrolled circuit.
+    Place(Path),
+    /// The table of coins.
+    Coins,
+    /// The coins that decide a detector or an observable.
+    Why(Bit),
+}
+
+/// The request, if nothing is after its word.
+pub(crate) fn alone(rest: &[u8], request: CountedRequest) -> Option<CountedRequest>
+    ensures value { counted_if_any result ≡ alone_of rest.now (counted_asked request) }
+{
+    if rest.is_empty() { Some(request) } else { None }
+}
+
+/// The number of a round that a word stands for.
+pub fn read_round(word: &[u8]) -> Option<u64>
+    ensures value { result ≡ round_number_of word.now }
+{
+    match place_number(word) {
+        None => None,
+        Some(number) => Some(number as u64),
+    }
+}
+
+/// That a round is split off the block at a place, by what follows the place.
+fn read_split_at(place: Path, rest: &[u8]) -> Option<CountedRequest>
+    ensures value { counted_if_any result ≡ split_of (Some place) (round_number_of (first_of rest.now)) (after_word rest.now) }
+{
+    let (word, rest) = first_word(rest);
+    match read_round(word) {
+        None => None,
+        Some(round) => alone(rest, CountedRequest::Split { place, round }),
+    }
+}
+
+/// What the words after `split` ask for: a place and a round.
+pub(crate) fn read_split(rest: &[u8]) -> Option<CountedRequest>
+    ensures value { counted_if_any result ≡ counted_split rest.now }
+{
+    let (word, rest) = first_word(rest);
+    match read_place(word) {
+        None => None,
+        Some(place) => read_split_at(place, rest),
+    }
+}
+
+/// What the words after `show changed` ask for.
+fn read_changed(rest: &[u8]) -> Option<CountedRequest>
+    ensures value { counted_if_any result ≡ changed_of rest.now }
+{
+    if rest == b"records".as_slice() {
+        Some(CountedRequest::ChangedRecords)
+    } else {
+        alone(rest, CountedRequest::Changed)
+    }
+}
+
+/// The sign of the string of a word.
+fn read_sign(alloc: Global, word: &[u8], rest: &[u8]) -> Result<Option<CountedRequest>, Fault>
+    ensures gives { IfOk result (λ r. counted_if_any r ≡ sign_of word.now rest.now) }
+    ensures err { IfErr result (λ f. f ≡ whole OutOfMemory) }
+{
+    if word.is_empty() {
+        return Ok(None);
+    }
+    let word = Vec::from_slice(alloc, word)?;
+    Ok(alone(rest, CountedRequest::Sign(word)))
+}
+
+/// The item at a place.
+fn read_item_at(rest: &[u8]) -> Option<CountedRequest>
+    ensures value { counted_if_any result ≡ alone_with item (place_of (first_of rest.now)) (after_word rest.now) }
+{
+    let (word, rest) = first_word(rest);
+    match read_place(word) {
+        None => None,
+        Some(place) => alone(rest, CountedRequest::Item(place)),
+    }
+}
+
+/// Where the item at a place is in the unrolled circuit.
+fn read_counts_at(rest: &[u8]) -> Option<CountedRequest>
+    ensures value { counted_if_any result ≡ alone_with counts (place_of (first_of rest.now)) (after_word rest.now) }
+{
+    let (word, rest) = first_word(rest);
+    match read_place(word) {
+        None => None,
+        Some(place) => alone(rest, CountedRequest::Place(place)),
+    }
+}
+
+/// The detector or observable that a letter and a number name.
+fn bit_by(letter: u8, number: usize) -> Option<Bit>
+    ensures value { result ≡ bit_by_letter letter (Some number) }
+{
+    match letter {
+        b'D' => Some(Bit::Detector(number)),
+        b'L' => Some(Bit::Observable(number)),
+        _ => None,
+    }
+}
+
+/// The detector or observable that a word names.
+fn read_bit(word: &[u8]) -> Option<Bit>
+    ensures value { result ≡ bit_of_word word.now }
+{
+    if word.is_empty() {
+        return None;
+    }
+    match place_number(&word[1..]) {
+        None => None,
+        Some(number) => bit_by(word[0], number),
+    }
+}
+
+/// The coins that decide a detector or an observable.
+fn read_why(rest: &[u8]) -> Option<CountedRequest>
+    ensures value { counted_if_any result ≡ alone_with why (bit_of_word (first_of rest.now)) (after_word rest.now) }
+{
+    let (word, rest) = first_word(rest);
+    match read_bit(word) {
+        None => None,
+        Some(bit) => alone(rest, CountedRequest::Why(bit)),
+    }
+}
+
+/// What the first word after `show`, and the rest after that, ask for; fault `OutOfMemory` alone.
+pub(crate) fn read_counted_show(
+    alloc: Global,
+    word: &[u8],
+    rest: &[u8],
+) -> Result<Option<CountedRequest>, Fault>
+    ensures gives { IfOk result (λ r. counted_if_any r ≡ shown_by word.now rest.now) }
+    ensures err { IfErr result (λ f. f ≡ whole OutOfMemory) }
+{
+    if word == b"numbers".as_slice() {
+        Ok(alone(rest, CountedRequest::Numbers))
+    } else if word == b"changed".as_slice() {
+        Ok(read_changed(rest))
+    } else if word == b"sign".as_slice() {
+        let (word, rest) = first_word(rest);
+        read_sign(alloc, word, rest)
+    } else if word == b"item".as_slice() {
+        Ok(read_item_at(rest))
+    } else if word == b"place".as_slice() {
+        Ok(read_counts_at(rest))
+    } else if word == b"coins".as_slice() {
+        Ok(alone(rest, CountedRequest::Coins))
+    } else if word == b"why".as_slice() {
+        Ok(read_why(rest))
+    } else {
+        Ok(None)
+    }
+}
