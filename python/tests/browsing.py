@@ -27,8 +27,8 @@ else:
     from selenium.webdriver.common.keys import Keys
     from selenium.webdriver.support.ui import WebDriverWait
 
-# The longest, in seconds, that anything is waited for.
-LONGEST = 60
+# The longest, in seconds, that anything is waited for: on a machine that does much else a page of many edits takes a minute to settle.
+LONGEST = 180
 
 # The size of the window.
 USUAL = (1280, 900)
@@ -238,4 +238,6 @@ def open_browser():
     options.binary_location = CHROMIUM
     for word in ("--headless=new", "--no-sandbox", "--disable-gpu", "--window-size={},{}".format(*USUAL)):
         options.add_argument(word)
-    return webdriver.Chrome(options=options, service=Service(DRIVER))
+    driver = webdriver.Chrome(options=options, service=Service(DRIVER))
+    driver.set_script_timeout(LONGEST)
+    return driver

@@ -8,9 +8,8 @@ import numpy as np
 import pytest
 import stabsim
 from stabsim import codes
+from stabsim.collecting import matching
 from stabsim.noise.decomposing import Table, parts_of, ways_of_each
-
-import matching
 
 NOISE = codes.Noise.uniform(0.004)
 TEXTS = {

@@ -11,7 +11,7 @@ import stabsim
 from stabsim.diagrams import marks, shapes
 from stabsim.diagrams.elements import Glyph, Path
 from stabsim.diagrams.places import Places
-from stabsim.diagrams.shapes import table
+from stabsim.diagrams.shapes import GATES, table
 from stabsim.diagrams.slices import layer_elements
 from stabsim.diagrams.ticks import layers_of, placed
 from stabsim.text import names
@@ -23,8 +23,8 @@ SCRIPT = pathlib.Path(__file__).parent / "page_parts" / "drawn.mjs"
 # alone, its far shape, and a dot.
 PLACES = [[0, [101.317291, 103.713387]], [1, [178.529173, 92.871639]], [2, [133.117813, 171.923557]]]
 PITCHES = [97.31719, 50.11913, 37.71371, 25.91917, 13.11731, 4.31759]
-SINGLE = [name for name, gate in table()["gates"].items() if gate["marks"] == "single"]
-PAIRS = [name for name, gate in table()["gates"].items() if gate["marks"] == "pair"]
+SINGLE = [name for name, gate in GATES.items() if gate["marks"] == "single"]
+PAIRS = [name for name, gate in GATES.items() if gate["marks"] == "pair"]
 MOMENTS = {
     **{name: f"{name} 0 2" for name in SINGLE}, **{name: f"{name} 2 0" for name in PAIRS},
     **{f"{name} of a record": f"M 1\n{name} rec[-1] 0" for name in PAIRS if name != "SWAP"},
@@ -70,7 +70,7 @@ def kinds():
 
 
 def test_each_gate_of_the_program_is_drawn():
-    assert set(table()["gates"]) == {*names.ONE_QUBIT, *names.TWO_QUBITS, *names.RESETS, *names.MEASUREMENTS}
+    assert set(GATES) == {*names.ONE_QUBIT, *names.TWO_QUBITS, *names.RESETS, *names.MEASUREMENTS}
 
 
 def test_python_draws_each_kind_that_the_table_has():

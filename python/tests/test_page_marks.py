@@ -91,13 +91,15 @@ def test_two_marks_on_one_place_are_their_product_and_layers_are_apart(page):
 def test_marks_are_drawn_with_their_layer_and_cleared(page):
     take_layer(page, 7)
     mark(page, 3, 10, "z")
-    drawn = "page.views.layout.elements().filter(({ words, halo }) => words === '7' && halo === 'sheet').length"
-    page.wait(lambda: page.ask(drawn) == 1)
+    # The layer's number is by the mark, above on the right of its qubit, and by the letter that it has come to, below on its left. The
+    # latter comes once the program has propagated the mark.
+    numbers = "page.views.layout.elements().filter(({ words, weight }) => words === '7' && weight === 700).map(({ x, y }) => [x > words[0], y > words[1]])"
+    page.wait(lambda: page.ask(numbers, *page.spot(10)) == [[False, True], [True, False]])
     # At another moment its ring is broken.
     broken = "page.views.layout.elements().filter(({ stroke, dash }) => stroke === 'ink' && dash).length"
     assert page.ask(broken) == 0
     page.go_to(5)
-    assert page.ask(broken) == 1
+    page.wait(lambda: page.ask(broken) == 1)
     page.click("#about-marks [data-layer='7'] .link:last-of-type")
     page.wait(lambda: page.ask(MARKS) == [] and not page.find("about-marks").is_displayed())
 

@@ -20,7 +20,7 @@ if importlib.util.find_spec("aiohttp"):
 
 CODE = "R 0\nM 0\nDETECTOR rec[-1]\n"
 # The longest that anything is waited for.
-SECONDS = 20
+SECONDS = 120
 
 
 class Asking:

@@ -64,6 +64,27 @@ def test_in_a_small_window_the_picture_has_half_of_it_and_all_is_reached(open_pa
     assert [it["message"] for it in page.browser.get_log("browser")] == []
 
 
+# The tools that are not in sight, as their palette is first seen.
+HIDDEN_TOOLS = """(() => {
+  const {left, top, right, bottom} = document.getElementById('palette').getBoundingClientRect();
+  return [...document.querySelectorAll('#palette button')].filter((it) => {
+    const box = it.getBoundingClientRect();
+    return box.left < left || box.right > right || box.top < top || box.bottom > bottom;
+  }).map((it) => it.dataset.tool);
+})()"""
+TOOL_LETTERS = "[...document.querySelectorAll('#palette svg text')].map((it) => [it.textContent, Number(it.getAttribute('font-size'))])"
+
+
+@pytest.mark.parametrize("size", [(1280, 900), (1024, 768), (800, 600), (390, 844), (375, 667)])
+def test_all_tools_are_in_sight_with_letters_that_can_be_read(open_page, size):
+    page = open_page(CODE)
+    with settled_emulation(page.browser):
+        show(page, *size, 1)
+        assert page.ask(HIDDEN_TOOLS) == []
+        letters = dict(page.ask(TOOL_LETTERS))
+        assert {"H", "MX", "√Y", "M", "P"} <= letters.keys() and min(letters.values()) >= 12.5
+
+
 def test_words_are_large_enough_to_be_read_and_buttons_to_be_hit(open_page):
     page = open_page(CODE)
     page.choose_qubit(10)
@@ -228,3 +249,40 @@ def test_the_ring_of_what_is_chosen_is_tight_and_numbers_at_the_edges_lie_on_not
     assert side / 2 < radius <= side * 0.75
     spots = page.ask("page.views.layout.elements().filter(({words, size, align}) => words && size === 12.5 && align !== 'left').map(({x, y}) => [x, y])")
     assert spots and all(x < 32 or y < 22 for x, y in spots)
+
+
+@pytest.mark.parametrize("qubit", [10, 17])
+def test_the_ring_does_not_cross_the_number_of_its_qubit(open_page, qubit):
+    # At tick 3 a gate acts on qubit 10, and none on qubit 17.
+    page = open_page(CODE)
+    page.go_to(3)
+    page.choose_qubit(qubit)
+    page.settle()
+    x, y = page.spot(qubit)
+    [radius] = page.ask("page.views.layout.elements().filter(({stroke, path}) => stroke === 'accent' && path).map(({path}) => path[1][3])")
+    [number] = page.ask("page.views.layout.elements().filter((it) => it.words === words[0])", str(qubit))
+    # The upper left corner of the number is nearest to the middle of the ring, and digits are as high as three quarters of their size.
+    corner = (number["x"] - x, number["y"] - y - number["size"] * 0.375)
+    assert (corner[0] ** 2 + corner[1] ** 2) ** 0.5 > radius + 1.25
+
+
+def test_a_long_item_is_seen_whole_and_what_is_refused_of_it_is_in_sight(open_page):
+    page = open_page("R " + " ".join(map(str, range(28))) + "\nM 0\n")
+    page.choose("0")
+    page.settle()
+    sizes = "(({scrollWidth, clientWidth, scrollHeight, clientHeight}) => [scrollWidth - clientWidth, scrollHeight - clientHeight])(document.getElementById('words'))"
+    assert page.ask(sizes) == [0, 0]
+    page.find("words").send_keys(" BAD", Keys.ENTER)
+    page.wait(lambda: page.texts("#fault") and page.texts("#fault")[0].endswith("^^^"))
+    # Carets are at the end of what is shown.
+    assert page.ask("(({scrollLeft, scrollWidth, clientWidth}) => scrollLeft + clientWidth >= scrollWidth - 1 && scrollLeft > 0)(document.getElementById('fault'))")
+
+
+def test_the_circuit_as_one_text_is_wrapped_until_that_is_switched_off(open_page):
+    page = open_page("R " + " ".join(map(str, range(40))) + "\nM 0\n")
+    page.click("#as-text")
+    page.wait(lambda: page.focused() == "source-text")
+    across = "(({scrollWidth, clientWidth}) => scrollWidth - clientWidth)(document.getElementById('source-text'))"
+    assert page.ask(across) == 0
+    page.click("#wrap")
+    assert page.ask(across) > 0

@@ -84,3 +84,25 @@ def test_a_place_is_a_path_or_a_number_of_steps():
     for given in ({}, {"at": "0", "after": 0}):
         with pytest.raises(ValueError, match="one of both is wanted"):
             circuit.propagate("X0", **given)
+
+
+@pytest.mark.parametrize("seed", range(40))
+def test_the_string_at_a_tick_is_the_one_that_is_left_of_the_circuit_up_to_there(seed):
+    rnd = random.Random(seed)
+    qubits = rnd.randint(2, 4)
+    lines = [line for written in random_lines(rnd, qubits) for line in (written, *["TICK"] * rnd.choice((0, 1, 1, 2)))]
+    # All qubits are named by the last line, so it goes with each part of the circuit.
+    place = rnd.randrange(len(lines))
+    string = f"{rnd.choice('XYZ')}{rnd.randrange(qubits)}"
+    found = stabsim.Circuit("\n".join(lines)).propagate(string, at=str(place), every=True).turns
+    ends = [end for end, line in enumerate(lines) if line == "TICK" and end >= place]
+    left = [stabsim.Circuit("\n".join([*lines[:end], f"I {qubits - 1}"])).propagate(string, at=str(place)).left for end in ends]
+    assert [turn.pauli for turn in found][len(found) - len(ends):] == left
+    # A tick right in front of the place is at it.
+    assert all(line == "TICK" for line in lines[place - len(found) + len(ends):place])
+
+
+def test_ticks_of_rounds_are_written_and_a_block_without_steps_counts_once():
+    circuit = stabsim.Circuit("REPEAT 2 {\n    SWAP 0 1\n    TICK\n}\nREPEAT 1000000000000 {\n    TICK\n}")
+    ticks = circuit.propagate("X0", at="0", every=True).turns
+    assert [(turn.steps, turn.path, turn.pauli) for turn in ticks] == [(1, "0/0", "X1"), (2, "0/0", "X0"), (2, "0/0", "X0")]

@@ -7,12 +7,12 @@ from stabsim.text import names
 from stabsim.text.reading import Block, Instruction, Item, Parts
 from stabsim.text.rewriting import BY_SECOND, GATES, ON_TWO, products
 
-# Gates and their inverses; each other gate is its own.
+# Gates that the program does not read, and their inverses; each other gate is its own, or is read.
 PAIRS = (
-    ("S", "S_DAG"), ("SQRT_X", "SQRT_X_DAG"), ("SQRT_Y", "SQRT_Y_DAG"), ("C_XYZ", "C_ZYX"), ("C_NXYZ", "C_ZYNX"), ("C_XNYZ", "C_ZNYX"), ("C_XYNZ", "C_NZYX"),
-    ("CXSWAP", "SWAPCX"), ("ISWAP", "ISWAP_DAG"), ("SQRT_XX", "SQRT_XX_DAG"), ("SQRT_YY", "SQRT_YY_DAG"), ("SQRT_ZZ", "SQRT_ZZ_DAG"), ("SPP", "SPP_DAG"),
+    ("C_NXYZ", "C_ZYNX"), ("C_XNYZ", "C_ZNYX"), ("C_XYNZ", "C_NZYX"), ("CXSWAP", "SWAPCX"), ("ISWAP", "ISWAP_DAG"),
+    ("SQRT_XX", "SQRT_XX_DAG"), ("SQRT_YY", "SQRT_YY_DAG"), ("SQRT_ZZ", "SQRT_ZZ_DAG"), ("SPP", "SPP_DAG"),
 )
-INVERSES = {first: second for pair in PAIRS for first, second in (pair, pair[::-1])}
+INVERSES = names.INVERSES | {first: second for pair in PAIRS for first, second in (pair, pair[::-1])}
 ON_PAIRS = frozenset((*names.TWO_QUBITS, *ON_TWO, *BY_SECOND))
 ALL = frozenset((*names.ONE_QUBIT, *ON_PAIRS, *GATES))
 

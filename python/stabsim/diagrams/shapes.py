@@ -1,4 +1,4 @@
-"""The shapes of glyphs and the colours, which the page has too: its shapes.json and colours.css are read."""
+"""The shapes of glyphs, what draws a gate, and the colours, which the page has too: its files shapes.json, instructions.json and colours.css."""
 
 import functools
 import json
@@ -9,6 +9,7 @@ from dataclasses import dataclass
 from typing import Any
 
 from stabsim.diagrams.elements import Glyph, Path, Point, Words, box, circle, line, polygon
+from stabsim.text import names
 
 STATIC = pathlib.Path(__file__).resolve().parents[1] / "page" / "static"
 COLOUR = re.compile(r"--([\w-]+): (#[0-9a-f]{6})")
@@ -16,9 +17,13 @@ COLOUR = re.compile(r"--([\w-]+): (#[0-9a-f]{6})")
 
 @functools.cache
 def table() -> dict[str, Any]:
-    """The table of shapes, marks, gates by their names, and roles."""
+    """The table of shapes, marks and roles."""
     found: dict[str, Any] = json.loads((STATIC / "shapes.json").read_text(encoding="utf-8"))
     return found
+
+
+# The marks that draw each gate, with their values.
+GATES: dict[str, dict[str, str]] = {name: row["drawn"] for name, row in names.TABLE.items() if "drawn" in row}
 
 
 @functools.cache

@@ -6,7 +6,7 @@ from dataclasses import dataclass
 from stabsim.diagrams.elements import Element, Path, Point, Words, middle_of, outline
 from stabsim.diagrams.marks import Drawn, Values, marks_of
 from stabsim.diagrams.places import Places
-from stabsim.diagrams.shapes import table
+from stabsim.diagrams.shapes import GATES, table
 from stabsim.diagrams.targets import Action
 from stabsim.diagrams.ticks import Done
 
@@ -74,7 +74,7 @@ def look_of(done: Done, is_shared: bool, busy: Mapping[int, int]) -> tuple[str, 
     before = busy.get(action.qubits[0], 0)
     if before and action.is_pauli:
         return "error", {"shape": letter, "role": letter.lower(), "label": letter, "before": before - 1}
-    gate: Values = table()["gates"][action.name]
+    gate: Values = GATES[action.name]
     return gate["marks"], gate
 
 

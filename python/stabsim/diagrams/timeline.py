@@ -7,7 +7,7 @@ from dataclasses import dataclass, field
 from stabsim.diagrams.elements import Element, Glyph, Path, Words, box, line
 from stabsim.diagrams.marks import marks_of
 from stabsim.diagrams.numbering import Numbering
-from stabsim.diagrams.shapes import table
+from stabsim.diagrams.shapes import GATES
 from stabsim.diagrams.targets import Action, actions_of
 from stabsim.text import names
 from stabsim.text.reading import Block, Instruction, Item, without
@@ -145,7 +145,7 @@ class Timeline:
             self.over += [Glyph(letter, *at, SIDE, letter.lower(), letter) for letter, at in zip(letters, ends)]
             self.over += [Glyph("gate", *at, SIDE, "flip", CHANNELS[action.name]) for at in ends[len(letters):]]
         else:
-            gate = table()["gates"][action.name[-1] if action.record else action.name]
+            gate = GATES[action.name[-1] if action.record else action.name]
             self.over += marks_of(gate["marks"], {**gate, "label": "!" * action.is_inverted + gate.get("label", "")}, ends, SIDE).over
 
 

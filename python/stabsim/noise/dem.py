@@ -15,7 +15,7 @@ from stabsim.formats.table_lines import LINE_END, SPACE, begins_of, numbers_in
 from stabsim.noise.decomposing import Parts
 from stabsim.program import FILE_NAME
 from stabsim.text import names
-from stabsim.text.reading import ALIASES, Instruction, Line, block_of, content_of, instruction_of, is_number
+from stabsim.text.reading import Instruction, Line, block_of, content_of, instruction_of, is_number
 from stabsim.text.rewriting import GATES
 
 TARGET = re.compile(r"([DLdl])(\d{1,9})", re.ASCII)
@@ -32,7 +32,7 @@ MOST_DIGITS = 9
 MOST_OBSERVABLES = 2**20
 CHANCE = "an error has one chance, from 0 to 1"
 # What a circuit has and a model has not, and what is said of it.
-IN_CIRCUITS = names.READ | names.UNREAD_NOISE | set(names.MEASURING) | set(ALIASES) | GATES
+IN_CIRCUITS = names.READ | names.UNREAD_NOISE | set(names.MEASURING) | set(names.ALIASES) | GATES
 OF_CIRCUIT = ", but a circuit may have it: stabsim.error_model(text), or the command analyze_errors, makes the model of a circuit"
 
 Place = tuple[float, ...]

@@ -9,7 +9,7 @@ from dataclasses import dataclass
 
 from stabsim.text import names
 from stabsim.text.profile import Copy, profile_of
-from stabsim.text.reading import ALIASES, Instruction, Line, content_of, lines_of, parts_of
+from stabsim.text.reading import Instruction, Line, content_of, lines_of, parts_of
 
 # A line as a session writes it, which most are: a name in capitals, tag, arguments and targets, or what opens or closes a block.
 PLAIN = re.compile(r"[A-Z][A-Z0-9_]*(?:\[[^\]]*\])?(?:\([^(), ]+(?:, [^(), ]+)*\))?(?: [^ \ta-z]+| rec\[-\d+\])*(?: \{)?|\}")
@@ -158,7 +158,7 @@ def name_of(line: str) -> str:
 
 def plain(content: str) -> str:
     """A line without its comment as a session writes it."""
-    if PLAIN.fullmatch(content) and name_of(content) not in ALIASES:
+    if PLAIN.fullmatch(content) and name_of(content) not in names.ALIASES:
         return content
     parts = parts_of(content)
     if parts is None:

@@ -82,6 +82,8 @@ def nodes_of(text: str) -> list[Node]:
 
 
 def text_of(nodes: Sequence[Node]) -> str:
+    if Opened not in set(map(type, nodes)):
+        return "\n".join([*nodes, ""])  # type: ignore[list-item] # they are lines
     return "".join(f"{node}\n" if isinstance(node, str) else f"{node.head}\n{indented(text_of(node.nodes))}}}\n" for node in nodes)
 
 

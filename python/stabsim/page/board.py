@@ -75,6 +75,8 @@ class Board:
         self.deterministic: str | None = None
         # The circuit with its bits and coordinates, until the next edit: tabs ask for them when they open.
         self.kept: Message | None = None
+        # The circuit as the session writes it, from when it is first asked for to the next edit.
+        self.text_now: str | None = None
 
     def close(self) -> None:
         self.session.close()
@@ -83,7 +85,7 @@ class Board:
         """All that a tab has to know when it opens."""
         return {
             "event": "opened", "name": self.source.name, "notice": self.source.notice,
-            "notes": [*self.source.rewritten, *self.source.left_out], "written": shown_of(self.kept_text, self.session.circuit()), "deterministic": self.deterministic,
+            "notes": [*self.source.rewritten, *self.source.left_out], "written": shown_of(self.kept_text, self.text()), "deterministic": self.deterministic,
             "entries": [entry.message() for entry in self.entries],
             "marked": sorted(self.marked, key=place_of), "saves": self.save_to is not None, **self._now(), **self.whole(),
         }
@@ -91,7 +93,7 @@ class Board:
     def whole(self) -> Message:
         """The circuit with its bits and coordinates."""
         if self.kept is None:
-            circuit = self.session.circuit()
+            circuit = self.text()
             self.kept = {"circuit": circuit, **self._bits(circuit)}
         return self.kept
 
@@ -110,7 +112,7 @@ class Board:
 
     def edit_text(self, source: Opened) -> Message:
         """Makes the circuit another text, by the edits of the items that differ. ValueError if none does."""
-        edits = between(self.session.circuit(), source.text)
+        edits = between(self.text(), source.text)
         if not edits:
             raise ValueError("nothing is changed")
         return self._enter(f"edit the text: {name_of(edits)}", edits, text=source)
@@ -122,7 +124,7 @@ class Board:
     def open(self, source: Opened, is_saved: bool = True) -> Message:
         """Opens another circuit, as an entry that can be taken back. The same circuit again is no entry. is_saved: whether it is saved
         elsewhere, as what was never saved before is not."""
-        if source.text != self.session.circuit():
+        if source.text != self.text():
             self.edit([Edit("open", source.name, source.text, source=source)])
             self.saved_at = self.position if is_saved else -1
         return self.opened()
@@ -159,11 +161,13 @@ class Board:
 
     def text(self) -> str:
         """The circuit as it is now, in the program's words."""
-        return self.session.circuit()
+        if self.text_now is None:
+            self.text_now = self.session.circuit()
+        return self.text_now
 
     def written(self) -> str:
         """The circuit as it is now, with comments, and the lines that were given where their items are as they were."""
-        return self.kept_text.given.written(self.session.circuit())
+        return self.kept_text.given.written(self.text())
 
     def script(self) -> str:
         """An edit script that makes the edits made so far, of the circuit that was opened last."""
@@ -238,6 +242,7 @@ class Board:
             return self._carry_out("", edits)
         self.lost, self.split_off = (), ()
         self.session.mark()
+        self.text_now = None
         step, step_back = (self.session.redo, self.session.undo) if forward else (self.session.undo, self.session.redo)
         made = 0
         try:
@@ -261,7 +266,7 @@ class Board:
         refused, it is found by making them one by one."""
         bits = self.session.detectors(), self.session.observables()
         try:
-            text, undone = made_at_once(self.session.circuit(), edits)
+            text, undone = made_at_once(self.text(), edits)
             session = stabsim.Circuit(text).edit(seed=self.seed, qubits=self.session.numbers().qubits)
         except (stabsim.Refused, ValueError, IndexError):
             return False
@@ -273,7 +278,7 @@ class Board:
 
     def _followed(self, edits: list[Edit]) -> Iterator[Edit]:
         """The edits that make some so that lookbacks follow their records, of the circuit as it is once they are asked for."""
-        made = following(self.session, edits)
+        made = following(self.session, edits, self.text)
         self.lost, self.split_off = made.lost, made.split_off
         for edit in made.edits:
             yield dataclasses.replace(edit, block=self.session.item(edit.place)) if edit.kind == "split" else edit
@@ -286,28 +291,29 @@ class Board:
             if edit.kind in ("insert", "replace") and may_name(edit.item, room):
                 room = room_for(qubits_named(edit.item), room)
         if room > now:
-            self._take(stabsim.Circuit(self.session.circuit()).edit(seed=self.seed, qubits=room))
+            self._take(stabsim.Circuit(self.text()).edit(seed=self.seed, qubits=room))
 
     def _take(self, session: stabsim.Session) -> None:
         """Takes another session in the place of the one there is."""
         self.session.close()
         self.session = session
-        self.kept = None
+        self.kept = self.text_now = None
 
     def _make(self, edit: Edit) -> list[Edit]:
         """Makes one edit, and answers with those that take it back."""
         if edit.kind == "open":
-            before = Edit("open", self.source.name, self.session.circuit(), source=self.source)
+            before = Edit("open", self.source.name, self.text(), source=self.source)
             self._apply(edit)
             return [before]
         old = "" if edit.kind == "insert" else edit.block or self.session.item(edit.place)
         try:
             self._apply(edit)
         except stabsim.Refused as refused:
-            raise explained(refused, edit, self.session.circuit(), self.session.numbers().qubits) from None
+            raise explained(refused, edit, self.text(), self.session.numbers().qubits) from None
         return undoing(edit, old)
 
     def _apply(self, edit: Edit) -> None:
+        self.text_now = None
         if edit.kind in ("insert", "replace"):
             refuse_unread(edit.item)
         if edit.kind == "insert":
@@ -338,7 +344,7 @@ class Board:
             return self.opened()
         self.marked ^= set(made.changed)
         told = {"event": "edited", "edits": [edit.message() for edit in made.forth], "entries": [entry.message() for entry in entries]}
-        return told | self._now() | (self._bits(self.session.circuit()) if moves_bits else {})
+        return told | self._now() | (self._bits(self.text()) if moves_bits else {})
 
     def _now(self) -> Message:
         numbers = dataclasses.asdict(self.session.numbers())

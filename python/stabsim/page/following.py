@@ -1,6 +1,6 @@
 """Edits of the page that have lookbacks follow the records that they name."""
 
-from collections.abc import Sequence
+from collections.abc import Callable, Sequence
 from dataclasses import dataclass
 
 import stabsim
@@ -25,12 +25,12 @@ class Followed:
     split_off: tuple[str, ...] = ()
 
 
-def following(session: stabsim.Session, edits: Sequence[Edit]) -> Followed:
-    """What makes edits of a session's circuit so that each lookback goes on naming its record. Edits that bring, take and move no
-    records are as they are."""
+def following(session: stabsim.Session, edits: Sequence[Edit], text: Callable[[], str]) -> Followed:
+    """What makes edits of a session's circuit, which `text` answers, so that each lookback goes on naming its record. Edits that bring, take
+    and move no records are as they are."""
     if not any(changes_records(session, edit, len(edits) > 1) for edit in edits):
         return Followed(edits)
-    return followed(session.circuit(), edits)
+    return followed(text(), edits)
 
 
 def followed(circuit: str, edits: Sequence[Edit]) -> Followed:

@@ -14,9 +14,6 @@ from stabsim.text.reading import Block, Instruction, Item, items_of
 
 # How many lines a block may become that is taken apart.
 MOST_LINES = 5000
-# Gates that are not their own inverses.
-INVERSES = {"S": "S_DAG", "SQRT_X": "SQRT_X_DAG", "SQRT_Y": "SQRT_Y_DAG", "C_XYZ": "C_ZYX"}
-INVERSES |= {after: before for before, after in INVERSES.items()}
 
 
 @dataclass(frozen=True)
@@ -79,7 +76,7 @@ def inverse(item: Item) -> Item:
         raise ValueError(f"{item} can't be reversed: gates, ticks, and blocks of them can")
     size = 2 if item.name in names.TWO_QUBITS else 1
     groups = [item.targets[at:at + size] for at in range(0, len(item.targets), size)]
-    return Instruction(item.line, INVERSES.get(item.name, item.name), item.tag, item.arguments, tuple(target for group in reversed(groups) for target in group))
+    return Instruction(item.line, names.INVERSES.get(item.name, item.name), item.tag, item.arguments, tuple(target for group in reversed(groups) for target in group))
 
 
 def said_of(count: int) -> str:

@@ -10,15 +10,10 @@ import re
 from collections.abc import Iterable
 from dataclasses import dataclass, field
 
+from stabsim.text import names
 from stabsim.text.reading import Block, Instruction, Item, items_of, walk
 
 PAULIS = ("X", "Y", "Z")
-# What acts on qubits by targets of their own.
-ACTING = frozenset((
-    "I", *PAULIS, "H", "H_XZ", "S", "S_DAG", "SQRT_Z", "SQRT_Z_DAG", "SQRT_X", "SQRT_X_DAG", "SQRT_Y", "SQRT_Y_DAG", "C_XYZ", "C_ZYX",
-    "CX", "CNOT", "ZCX", "CY", "ZCY", "CZ", "ZCZ", "SWAP",
-    "M", "MZ", "MX", "MY", "MR", "MRZ", "MRX", "MRY", "R", "RZ", "RX", "RY", "MPP",
-))
 QUBIT = re.compile(r"\d+")
 
 
@@ -89,7 +84,7 @@ def body_of(items: Iterable[Item]) -> Body:
 
 def qubits_of(item: Instruction) -> list[int]:
     """The qubits on which an instruction acts, without records that control it."""
-    return qubits_in(item.targets) if item.name in ACTING else []
+    return qubits_in(item.targets) if item.name in names.ACTING else []
 
 
 # The same targets come again in each round, also where rounds are written out.
@@ -101,7 +96,7 @@ def qubits_in(targets: tuple[str, ...]) -> list[int]:
 @functools.lru_cache(maxsize=1)
 def cut_items(text: str) -> tuple[tuple[Item, ...], frozenset[int]]:
     """The items of a text that act or are TICKs, with their blocks, and the lines in front of which they are cut."""
-    items = items_of(text, ("TICK", *ACTING))
+    items = items_of(text, ("TICK", *names.spellings(names.ACTING)))
     return items, frozenset(body_of(items).cuts)
 
 

@@ -1,6 +1,8 @@
 """The part of a circuit in which lookbacks may name records that edits move: from the first item that they touch to the last one that looks back
 past them. In front of it stands one measurement with as many records as are looked back to."""
 
+import functools
+import itertools
 from collections.abc import Iterator, Sequence
 from dataclasses import dataclass
 
@@ -35,18 +37,42 @@ class Nearby:
 
 def nearby(circuit: str, edits: Sequence[Edit]) -> Nearby:
     """The part of a circuit that edits may touch. IndexError if they are past its end."""
-    lines = circuit.removesuffix("\n").split("\n")
-    begins = [*item_begins(lines), len(lines)]
+    outline = outline_of(circuit)
+    lines, begins = outline.lines, outline.begins
     touched = [int(edit.place.split("/")[0]) for edit in edits]
     # After those that are deleted each place is one of a later item.
     first, end = min(touched), min(max(touched) + len(edits), len(begins) - 1)
-    reach = max([reach_of("\n".join(lines[begins[first] :])), *(reach_of(edit.item) for edit in edits)])
+    reach = max([outline.reaches[first], *(reach_of(edit.item) for edit in edits)])
     above, records = counts_of(lines[: begins[first]]), 0
     while end < len(begins) - 1 and records < reach:
         records += counts_of(lines[begins[end] : begins[end + 1]]).records
         end += 1
     measured = " ".join(["M", *["0"] * min(above.records, reach)])
     return Nearby("\n".join([measured, *lines[begins[first] : begins[end]], ""]), first, above.detectors)
+
+
+@dataclass(frozen=True)
+class Outline:
+    """The lines of a circuit.
+
+    begins: at which of them each item of its outermost list begins, and the end; reaches: how far the lookbacks go of each item and those after it.
+    """
+
+    lines: list[str]
+    begins: list[int]
+    reaches: list[int]
+
+
+@functools.lru_cache(maxsize=1)
+def outline_of(circuit: str) -> Outline:
+    """The outline of a circuit, kept until that of another is asked for."""
+    lines = circuit.removesuffix("\n").split("\n")
+    begins = [*item_begins(lines), len(lines)]
+    reaches = list(map(reach_of, ["\n".join(lines[first:end]) for first, end in itertools.pairwise(begins)]))
+    furthest = [0]
+    for reach in reversed(reaches):
+        furthest.append(max(furthest[-1], reach))
+    return Outline(lines, begins, furthest[::-1])
 
 
 def item_begins(lines: Sequence[str]) -> Iterator[int]:

@@ -20,7 +20,9 @@ from stabsim.page.edits import Edit
 from stabsim.page.files import file_response, guard, page_response
 from stabsim.page.known import NOT_YET, QUESTIONS, Known
 from stabsim.page.lines import repeated, reversed_, taken_out
+from stabsim.page.nearby import outline_of
 from stabsim.page.opening import Opened, opened
+from stabsim.page.rates import RateCount
 from stabsim.page.tabs import Tab
 from stabsim.page.ways import detector_of, mark_of, ways_of
 
@@ -51,6 +53,7 @@ class Server:
         self.background = concurrent.futures.ThreadPoolExecutor(1)
         self.known = Known()
         self.distances = DistanceSearch(self.tell, self.start)
+        self.rates = RateCount(self.tell, self.start)
         # All tabs hear of what happens in the order in which it happens, and one that opens misses nothing.
         self.telling = asyncio.Lock()
         self.port = 0
@@ -107,6 +110,8 @@ class Server:
         async with self.telling:
             tab.tell(await self.call(self.board.opened))
             tab.tell(self.distances.told)
+            if self.rates.has_said:
+                tab.tell(self.rates.told)
             self.tabs.add(tab)
         self.later()
 
@@ -197,6 +202,10 @@ class Server:
             await self.distances.ask(self.call, self.board)
         elif asked == "end distance":
             self.distances.end()
+        elif asked == "rate":
+            await self.rates.ask(self.call, self.board, str(question["model"]), float(question["chance"]))
+        elif asked == "end rate":
+            self.rates.end()
         elif asked == "script":
             return {"text": await self.call(self.board.script)}
         elif asked == "save":
@@ -252,6 +261,7 @@ class Server:
             self.known.why = NOT_YET
             self.tell(event)
             self.distances.changed(self.board.age)
+            self.rates.changed(self.board.age)
         self.later()
         return {"split_off": split_off, **({"said": said_of_lost(lost)} if lost else {})}
 
@@ -278,6 +288,8 @@ class Server:
             return
         try:
             text, kept = await self.call(lambda: (self.board.text(), self.board.kept_text))
+            # The next edit that brings or takes records asks for it.
+            await self.in_background(outline_of, text)
             if kept.rewritten:
                 await self.found_written(age, await self.in_background(shown_of, kept, text))
             if self.board.deterministic is None:

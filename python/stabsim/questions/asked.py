@@ -288,12 +288,13 @@ class Asked:
         rows = detector_coordinates(self.asked) if lines else np.zeros((0, 0))
         return [bit_of(line, rows) for line in lines]
 
-    def propagate(self, pauli: str, *, at: str | None = None, after: int | None = None) -> Way:
+    def propagate(self, pauli: str, *, at: str | None = None, after: int | None = None, every: bool = False) -> Way:
         """What a Pauli string becomes that is put into the circuit, and what it flips.
 
         pauli: a product as X3*Z4, or a letter for each qubit. It is put in front of the item at a path, such as 3/0/2, in the first round of
         each block around it, or after this many steps; the number of items as a path is the end. A measurement that anticommutes
-        with the string is flipped, also if its outcome is random: then the run is one with that coin exchanged.
+        with the string is flipped, also if its outcome is random: then the run is one with that coin exchanged. With every the turns are the
+        ticks (TICK) from the place on, also where the string is as it was, each with the path of the last item with a step before it.
 
         >>> import stabsim
         >>> way = stabsim.Circuit("H 0\\nCX 0 1\\nM 0 1").propagate("Z0", at="0")
@@ -306,7 +307,7 @@ class Asked:
         self.numbers()
         # A sign changes nothing, and would be taken for an option.
         string = checking.of_kind("pauli", pauli, str, "give a product as X3*Z4").removeprefix("-")
-        return way_of(program.run(["propagate", "--at", place, string], self.asked).decode())
+        return way_of(program.run(["propagate", "--at", place, *["--every"] * every, string], self.asked).decode())
 
     def distance(self, *, everywhere: bool = False, letters: Letters = "all", most: int | None = None, graphlike: bool = False,
                  sure_only: bool = False, count: bool = False) -> Distance:

@@ -8,10 +8,10 @@ NONE = "1"
 
 @dataclass(frozen=True)
 class Turn:
-    """An item after which a string that was put in is another one.
+    """An item after which a string that was put in is another one, or a tick.
 
-    steps: int, how many steps are before its end once blocks are written out; path: str, of the item; pauli: str, the string there, as X3*Z4,
-    or 1 if it is gone.
+    steps: int, how many steps are before its end once blocks are written out; path: str, of the item, or of the last one with a step before the
+    tick; pauli: str, the string there, as X3*Z4, or 1 if it is gone.
 
     >>> import stabsim
     >>> [turn] = stabsim.Circuit("REPEAT 2 {\\n    M 0\\n}\\nR 0").propagate("X0", at="0").turns

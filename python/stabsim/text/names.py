@@ -1,18 +1,44 @@
 """The names of instructions, as they are printed, by what their targets are."""
 
-# What the program reads.
-ONE_QUBIT = ("I", "X", "Y", "Z", "H", "S", "S_DAG", "SQRT_X", "SQRT_X_DAG", "SQRT_Y", "SQRT_Y_DAG", "C_XYZ", "C_ZYX")
-CONTROLLED = ("CX", "CY", "CZ")
-TWO_QUBITS = (*CONTROLLED, "SWAP")
-# Whose pairs may have a record, with those of Stim's that the program does not read.
+import json
+from collections.abc import Iterable
+from pathlib import Path
+from typing import Any
+
+# What the program reads, a row each; the page's instructions.js has the same file.
+TABLE: dict[str, dict[str, Any]] = json.loads(
+    (Path(__file__).resolve().parents[1] / "page" / "static" / "instructions.json").read_text(encoding="utf-8"))["instructions"]
+
+
+def of_kinds(*kinds: str) -> tuple[str, ...]:
+    """The instructions of these kinds, in the order of the table."""
+    return tuple(name for name, row in TABLE.items() if row["kind"] in kinds)
+
+
+def spellings(names: Iterable[str]) -> Iterable[str]:
+    """These names, each with its other ones."""
+    return (word for name in names for word in (name, *TABLE[name].get("aliases", ())))
+
+
+ONE_QUBIT = of_kinds("gate")
+CONTROLLED = of_kinds("controlled gate")
+TWO_QUBITS = of_kinds("controlled gate", "pair gate")
+MEASUREMENTS = of_kinds("measurement", "measurement and reset", "product measurement")
+RESETS = of_kinds("reset")
+DECLARATIONS = of_kinds("declaration")
+ANNOTATIONS = of_kinds("declaration", "annotation")
+# What acts on qubits by targets of its own.
+ACTING = (*ONE_QUBIT, *TWO_QUBITS, *MEASUREMENTS, *RESETS)
+READ = frozenset((*ACTING, *ANNOTATIONS))
+# Gates that are not their own inverses.
+INVERSES: dict[str, str] = {name: row["inverse"] for name, row in TABLE.items() if "inverse" in row}
+# Other names of instructions, with those by which they are printed.
+ALIASES = {alias: name for name in TABLE for alias in spellings([name]) if alias != name} | {"CORRELATED_ERROR": "E"}
+
+# With those of Stim's that the program does not read: what pairs may have a record, and whose arguments are the chance of a wrong record.
 FED_BACK = (*CONTROLLED, "XCZ", "YCZ")
-MEASUREMENTS = ("M", "MX", "MY", "MR", "MRX", "MRY", "MPP")
-# With those of Stim's that the program does not read, whose arguments are also the chance of a wrong record.
 PAIRS = ("MXX", "MYY", "MZZ")
 MEASURING = (*MEASUREMENTS, *PAIRS, "MPAD")
-RESETS = ("R", "RX", "RY")
-ANNOTATIONS = ("DETECTOR", "OBSERVABLE_INCLUDE", "TICK", "QUBIT_COORDS", "SHIFT_COORDS")
-READ = frozenset((*ONE_QUBIT, *TWO_QUBITS, *MEASUREMENTS, *RESETS, *ANNOTATIONS))
 
 # Noise, which it does not read.
 FLIPS = {"X_ERROR": "X", "Y_ERROR": "Y", "Z_ERROR": "Z"}

@@ -10,6 +10,7 @@ from dataclasses import dataclass, replace
 from typing import NamedTuple
 
 from stabsim.errors import Refused
+from stabsim.text.names import ALIASES
 
 SPACING = " \t\r"
 # How many digits the count of a block may have, and how deep blocks may be nested.
@@ -23,12 +24,6 @@ WORD = re.compile(r"[^ \t\r]+")
 NUMBER = re.compile(r"[+-]?(\d+\.?\d*|\.\d+)([eE][+-]?\d+)?", re.ASCII)
 # Lines that may open or close a block.
 BRACED = re.compile(r"^[^{}\n]*[{}].*", re.MULTILINE)
-
-# Other names of instructions, with those by which they are printed.
-ALIASES = {
-    "H_XZ": "H", "SQRT_Z": "S", "SQRT_Z_DAG": "S_DAG", "CNOT": "CX", "ZCX": "CX", "ZCY": "CY", "ZCZ": "CZ", "MZ": "M", "MRZ": "MR",
-    "RZ": "R", "CORRELATED_ERROR": "E",
-}
 
 
 class Parts(NamedTuple):

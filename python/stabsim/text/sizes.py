@@ -74,7 +74,7 @@ def ticks_in(text: str) -> int:
 def steps_of(item: Instruction) -> int:
     """How many steps an instruction has: one for each target or pair, and one if it declares a detector or observable."""
     if item.name in names.ANNOTATIONS:
-        return int(item.name in ("DETECTOR", "OBSERVABLE_INCLUDE"))
+        return int(item.name in names.DECLARATIONS)
     return len(item.targets) // (2 if item.name in names.TWO_QUBITS else 1)
 
 

@@ -16,10 +16,11 @@ export class Asking {
     dialog.addEventListener("close", () => this.#end(""));
   }
 
-  // Asks in some words for a number from `least` on, with one that is offered; answers it, or null if none is given.
-  number(words, offered, least = 0) {
+  // Asks in some words for a number from `least` on, in steps, with one that is offered; answers it, or null if none is given.
+  number(words, offered, least = 0, step = "1") {
     by("asking-said").textContent = words;
     fieldBy("asked").min = String(least);
+    fieldBy("asked").step = step;
     fieldBy("asked").value = String(offered);
     this.#dialog.showModal();
     fieldBy("asked").select();

@@ -7,17 +7,11 @@
 
 import { before, firstReaching, recount, recountPart } from "./counts.js";
 import { cutList } from "./cuts.js";
-import { isPair, isRecorded, qubitsOf, resets } from "./instructions.js";
+import { isRecorded, printed, qubitsOf, resets, stepsOf } from "./instructions.js";
 
 const HEAD = /^([A-Za-z][A-Za-z0-9_]*)(?:\[[^\]]*\])?(?:\(([^)]*)\))?\s*(.*)$/;
-const NAMES = {
-  CNOT: "CX", ZCX: "CX", ZCY: "CY", ZCZ: "CZ", H_XZ: "H", SQRT_Z: "S", SQRT_Z_DAG: "S_DAG", SWAPCX: "SWAPCX",
-  MZ: "M", MRZ: "MR", RZ: "R",
-};
-const DECLARING = new Set(["DETECTOR", "OBSERVABLE_INCLUDE"]);
 // How many edits are counted one by one.
 const MOST_SINGLE = 8;
-const WITHOUT_STEPS = new Set(["TICK", "QUBIT_COORDS", "SHIFT_COORDS"]);
 
 // The items of a circuit's text.
 /** @param {string} text @returns {import("./types.js").Item[]} */
@@ -69,8 +63,7 @@ function lineKnown(line, known) {
 
 function lineOf(line) {
   const [, written, , rest] = HEAD.exec(line);
-  const upper = written.toUpperCase();
-  const name = NAMES[upper] ?? upper;
+  const name = printed(written.toUpperCase());
   const targets = rest ? wordsOf(rest) : [];
   return {
     text: line,
@@ -87,13 +80,6 @@ function lineOf(line) {
 
 // Words between single spaces, as the session writes them, are cut in half the time.
 const wordsOf = (text) => (text.includes("  ") || text.includes("\t") || text.includes("\r") ? text.split(/\s+/) : text.split(" "));
-
-// A step is a target, a pair, or what declares a detector or adds to an observable.
-function stepsOf(name, targets) {
-  if (WITHOUT_STEPS.has(name)) return 0;
-  if (DECLARING.has(name)) return 1;
-  return isPair(name) ? targets / 2 : targets;
-}
 
 // The item that one line, or one block with its lines, makes.
 export function itemOf(text) {

@@ -15,6 +15,8 @@ import { coinElements, errorElements, faceElements, letterElements, markElements
 const MARGIN = 2;
 // How large the ring of what is chosen is, in sides of a glyph: its corners touch it.
 const RING = 0.74;
+// How wide the ring's line is on both sides, with some room, in pixels.
+const RIM = 4;
 
 export const drawingOf = (scene, view) => layersOf(scene, view, new Kept()).flat();
 
@@ -143,10 +145,15 @@ function idleElements(sheet, busy) {
 }
 
 function numberElements(sheet, busy) {
-  const { scene: { places }, at, side, pitch } = sheet;
+  const { scene: { places, chosen }, at, side, pitch } = sheet;
   if (pitch < table.levels.numbers) return [];
-  return [...places.keys()].filter((qubit) => isSeen(sheet, at(qubit)))
-    .flatMap((qubit) => marksOf(busy.has(qubit) ? "number beside" : "number", { number: String(qubit) }, [at(qubit)], side).over);
+  // The number of a chosen qubit is beside its ring.
+  const away = (radiusOf(side) + RIM) * Math.SQRT1_2;
+  const beside = ([x, y]) => (words) => ({ ...words, x: x + away, y: y + away + words.size / 2 });
+  return [...places.keys()].filter((qubit) => isSeen(sheet, at(qubit))).flatMap((qubit) => {
+    const { over } = marksOf(busy.has(qubit) ? "number beside" : "number", { number: String(qubit) }, [at(qubit)], side);
+    return chosen.includes(qubit) ? over.map(beside(at(qubit))) : over;
+  });
 }
 
 // A dark disc below on the left of each qubit on which several items act in the tick, with how many do if there is room for that.
@@ -161,9 +168,11 @@ function oftenElements(sheet) {
   });
 }
 
+const radiusOf = (side) => Math.max(8, side * RING);
+
 // A ring tight at the glyph of what is chosen; and what the next click would do.
 function choiceElements({ at, side, scene: { chosen, pending = [], spots = [], frame } }) {
-  const radius = Math.max(8, side * RING);
+  const radius = radiusOf(side);
   const elements = [];
   for (const qubit of chosen) {
     const place = at(qubit);

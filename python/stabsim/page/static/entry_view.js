@@ -86,8 +86,15 @@ export class EntryView {
     this.#form.classList.add("bad");
     this.#find("#refusal").textContent = refused;
     this.#find("#fault").textContent = shown;
+    this.#showCarets(this.#find("#fault"));
     this.#find("#why").textContent = why;
     return why;
+  }
+
+  // Scrolls what is shown of a long item so far that the word at fault, which has carets below it, is in the middle.
+  #showCarets(fault) {
+    const carets = fault.textContent.split("\n").at(-1);
+    fault.scrollLeft = (fault.scrollWidth * (carets.trimStart().length / 2 + carets.search(/\S|$/))) / Math.max(1, carets.length) - fault.clientWidth / 2;
   }
 
   #say() {

@@ -8,7 +8,8 @@
 import table from "./shapes.json" with { type: "json" };
 
 export { table };
-export const { gates, hatch } = table;
+export const { hatch } = table;
+export { drawn as gates } from "./instructions.js";
 export const PITCH = table.glyph_of_pitch;
 
 const WHOLE = 2 * Math.PI;

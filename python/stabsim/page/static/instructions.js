@@ -1,15 +1,28 @@
 // @ts-check
-// Instructions, as far as the picture of a moment says them apart, and the qubits on which they act.
+// Instructions by the table that the package has too, and the qubits on which they act.
+
+import table from "./instructions.json" with { type: "json" };
 
 export const PAULIS = ["X", "Y", "Z"];
 
-const GATES = new Set(["I", "X", "Y", "Z", "H", "S", "S_DAG", "SQRT_X", "SQRT_X_DAG", "SQRT_Y", "SQRT_Y_DAG", "C_XYZ", "C_ZYX"]);
-const PAIRS = new Set(["CX", "CY", "CZ", "SWAP"]);
-const RESETS = new Set(["MR", "MRX", "MRY", "R", "RX", "RY"]);
-const RECORDED = new Set(["M", "MX", "MY", "MR", "MRX", "MRY", "MPP"]);
+/** @type {[string, {kind: string, aliases?: string[], drawn?: any}][]} */
+const ROWS = Object.entries(table.instructions);
+const ofKinds = (...kinds) => new Set(ROWS.filter(([, { kind }]) => kinds.includes(kind)).map(([name]) => name));
+const GATES = ofKinds("gate");
+const PAIRS = ofKinds("controlled gate", "pair gate");
+const RESETS = ofKinds("reset", "measurement and reset");
+const RECORDED = ofKinds("measurement", "measurement and reset", "product measurement");
+const DECLARATIONS = ofKinds("declaration");
+const ANNOTATIONS = ofKinds("annotation");
+const PRINTED = new Map(ROWS.flatMap(([name, { aliases = [] }]) => aliases.map((alias) => [alias, name])));
 
 // All names that the program reads, for completion.
-export const NAMES = [...GATES, ...PAIRS, ...RECORDED, "R", "RX", "RY", "TICK", "DETECTOR", "OBSERVABLE_INCLUDE", "QUBIT_COORDS", "SHIFT_COORDS", "REPEAT"];
+export const NAMES = ROWS.map(([name]) => name);
+// The marks that draw each gate, with their values.
+export const drawn = Object.fromEntries(ROWS.map(([name, row]) => [name, row.drawn]));
+
+// The name by which one is printed.
+export const printed = (name) => PRINTED.get(name) ?? name;
 
 // Whether a name is that of an error that is put in, or of what marks errors.
 export const isErrorOrMark = (name) => name === "I" || PAULIS.includes(name);
@@ -60,6 +73,13 @@ function productOf(factors) {
     qubits: factors.map(({ qubit }) => qubit),
     factors: factors.map(({ letter, isInverted }) => ({ label: `${isInverted ? "!" : ""}${letter}`, role: letter.toLowerCase() })),
   };
+}
+
+// A step is a target, a pair, or what declares a detector or adds to an observable.
+export function stepsOf(name, targets) {
+  if (ANNOTATIONS.has(name)) return 0;
+  if (DECLARATIONS.has(name)) return 1;
+  return isPair(name) ? targets / 2 : targets;
 }
 
 // The groups of targets of which one can't be taken out without the others, each with its words and its qubits.

@@ -29,6 +29,7 @@ import { PageFaults } from "./page_faults.js";
 import { Palette } from "./palette.js";
 import { Panes } from "./panes.js";
 import { saidOfRefusal } from "./refusals.js";
+import { RateView } from "./rate_view.js";
 import { RoundsSwitch } from "./rounds_switch.js";
 import { nextWith } from "./search.js";
 import { Shown } from "./shown.js";
@@ -84,6 +85,7 @@ const views = {
   distance: new DistanceView(by("about-distance"), {
     ask: () => ask({ ask: "distance" }), end: () => ask({ ask: "end distance" }), show: (set) => shown.state && shown.showSet(set), goTo,
   }),
+  rate: new RateView(by("about-rate"), { ask, menu: (...words) => menu.open(...words), number: (...words) => asking.number(...words) }),
   history: new HistoryView(by("edits"), (position) => ask({ ask: "go", position })),
   palette: new Palette(by("palette"), (name, isAdded) => editor.take(name, isAdded)),
   rounds: new RoundsSwitch(by("rounds-of-edits")),
@@ -122,7 +124,7 @@ function hear(event) {
   else if (state && event.event === "saved") state.savedAt = event.position;
   else {
     if (event.event === "faults" && event.age === state?.age) shown.known();
-    if (event.event === "distance" && event.age === state?.age) views.distance.take(event, state.items);
+    if ((event.event === "distance" || event.event === "rate") && event.age === state?.age) views[event.event].take(event, state.items);
     return;
   }
   shown.take(event.event);
@@ -156,6 +158,7 @@ function open(event) {
   by("left-out").textContent = by("left-out").title = event.notice;
   by("left-out").onclick = () => menu.open(by("left-out"), by("left-out").getBoundingClientRect(), event.notes.slice(0, MOST_NOTES).map((note) => [note, () => {}]));
   by("name").textContent = event.name;
+  views.rate.take(null);
   if (isFirst) openAddress();
   else forgetLink();
   isFirst = false;
@@ -328,10 +331,7 @@ function search(direction) {
   else say("nothing is found", true);
 }
 
-function closeSearch() {
-  by("search-words").hidden = true;
-  views.text.focus();
-}
+const closeSearch = () => { by("search-words").hidden = true; views.text.focus(); };
 
 by("search-words").addEventListener("keydown", (event) => {
   event.stopPropagation();

@@ -4,6 +4,13 @@
 import { gates } from "./glyphs.js";
 import { iconOf } from "./svg_pen.js";
 
+// The sides of glyphs, so that their letters have 12.5 pixels: two in a box, and one in a smaller disc; and of those without letters.
+const SIDE = 24.1;
+const INNER = 25.6;
+const ICON = 20;
+// How far glyphs with letters reach from their middle, in sides.
+const REACH = 0.6;
+
 // Each [name, key, title, icon], whose icon is a shape if it is not the gate's own; null draws a line.
 const TOOLS = [
   ["pick", "Escape", "choose qubits"], ["qubit", "q", "put qubits on the grid", "data"],
@@ -62,9 +69,9 @@ export class Palette {
 function drawn(name, icon) {
   if (name === "pick") return '<svg width="22" height="22" aria-hidden="true"><path d="M6 4v13l3.6-3.2 2.3 5 2-1-2.3-4.9 4.8-.4z" fill="var(--ink)"/></svg>';
   if (name === "TICK") return '<svg width="22" height="22" aria-hidden="true"><path d="M7 4v14M15 4v14" stroke="var(--quiet)" stroke-width="1.5"/><path d="M11 3v16" stroke="var(--accent)" stroke-width="2.5"/></svg>';
-  if (name === "MPP") return iconOf("factor", 18, "wire", "P");
+  if (name === "MPP") return iconOf("factor", SIDE, "wire", "P", REACH);
   if (name === "DETECTOR") return iconOf("bit1", 15, "one");
-  if (icon) return iconOf(icon, 18, icon === "data" ? "qubit" : "wire");
-  const { shape, label, small, role } = gates[name];
-  return iconOf(shape, 18, role, label, small);
+  if (icon) return iconOf(icon, ICON, icon === "data" ? "qubit" : "wire");
+  const { shape, label, role } = gates[name];
+  return iconOf(shape === "cycle" ? "gate" : shape, shape === "mreset" ? INNER : SIDE, role, label, REACH);
 }

@@ -15,10 +15,10 @@ export function svgOf(elements, { width, height, colour, ground = null }) {
     + `${patterns && `<defs>${patterns}</defs>`}${paper}${bodyOf(elements, colour)}</svg>\n`;
 }
 
-// A glyph alone, which follows the theme of its page.
-export function iconOf(glyph, side, role, label = "", small = "") {
-  const middle = side * 0.68;
-  const body = bodyOf([{ glyph, x: middle, y: middle, side, role, label, small }], (name) => `var(--${name})`);
+// A glyph alone, which follows the theme of its page, with room as far as it reaches from its middle, in sides.
+export function iconOf(glyph, side, role, label = "", reach = 0.68) {
+  const middle = side * reach;
+  const body = bodyOf([{ glyph, x: middle, y: middle, side, role, label }], (name) => `var(--${name})`);
   return `<svg width="${number(2 * middle)}" height="${number(2 * middle)}" aria-hidden="true">${body}</svg>`;
 }
 

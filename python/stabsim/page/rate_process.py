@@ -1,0 +1,55 @@
+"""The process that counts logical errors for the page: it reads a question, as a line of JSON with the circuit after it, and writes a line,
+as JSON, whenever more shots are counted (rates.py)."""
+
+import json
+import signal
+import sys
+from collections.abc import Callable, Iterator
+
+import stabsim
+from stabsim import program
+from stabsim.collecting import matching
+from stabsim.page.board import Message
+
+# The models of the literature, each by its name.
+MODELS: dict[str, Callable[[float], stabsim.NoiseModel]] = {
+    "uniform": stabsim.NoiseModel.uniform, "SD6": stabsim.NoiseModel.sd6, "SI1000": stabsim.NoiseModel.si1000, "EM3": stabsim.NoiseModel.em3,
+    "code capacity": stabsim.NoiseModel.code_capacity, "phenomenological": stabsim.NoiseModel.phenomenological,
+}
+# It is counted until there are this many shots or errors, by parts of a size.
+MOST_SHOTS, ENOUGH_ERRORS, PART = 1_000_000, 500, 1024
+
+
+def main() -> None:
+    """Answers one question. Ctrl-C ends the server, and by that this."""
+    signal.signal(signal.SIGINT, signal.SIG_IGN)
+    question = json.loads(sys.stdin.buffer.readline())
+    text = program.text_of(sys.stdin.buffer.read(question["bytes"]))
+    try:
+        for said in counted(text, str(question["model"]), float(question["chance"])):
+            tell(said)
+    except ModuleNotFoundError as missing:
+        tell({"refused": f"the decoder by matching needs {missing.name}"})
+    except (stabsim.StabsimError, ValueError) as fault:
+        tell({"refused": str(fault)})
+
+
+def counted(text: str, name: str, chance: float) -> Iterator[Message]:
+    """What is counted so far of a circuit without noise with that of a model of the literature."""
+    if name not in MODELS:
+        raise ValueError(f"there is no model {name}")
+    noisy = MODELS[name](chance).on(text)
+    model = stabsim.error_model(noisy, decompose=True, ignore_decomposition_failures=True, approximate_disjoint_errors=True)
+    if not model.num_observables:
+        raise ValueError("the circuit has no observable")
+    for sums in stabsim.collect({name: model}, ("matching", matching.decoder), shots=MOST_SHOTS, errors=ENOUGH_ERRORS, seed=0, part_shots=PART):
+        yield {"shots": sums.shots, "errors": sums.errors, "rate": list(sums.rate())}
+
+
+def tell(said: Message) -> None:
+    sys.stdout.write(json.dumps(said) + "\n")
+    sys.stdout.flush()
+
+
+if __name__ == "__main__":
+    main()
