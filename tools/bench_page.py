@@ -69,7 +69,7 @@ const step = (now) => {
 requestAnimationFrame(step);
 """
 
-STEPS = ("program and server", "laid out", "painted", "in all")
+STEPS = ("program and server", "layout", "painted", "in all")
 # Surface codes by distance and rounds, and how many edits and frames there are.
 SIZES = ((13, 13), (21, 100))
 EDITS = 9

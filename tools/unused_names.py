@@ -13,8 +13,6 @@ from program import TOP
 
 # Programs and tests call what is there for others: what only they have is no matter of this list.
 CALLERS = ("bench", "rows", "stabsim", "tests_library", "tests_program", "tests_refusals", "tests_ways", "tour")
-# What is there for those who read or call, apart from the laws, which are calls of a file whose name ends in `laws.rt`.
-FOR_USERS = {"most_blocks"}
 WORD = re.compile(r"[^\s(){}\[\],;.:=→λ|&!*<>/?\"']+(?:'[^\s(){}\[\],;.:=→λ|&!*<>/?\"']*)*")
 ITEM = re.compile(r"\b(?:fn|struct|enum|trait|const|type)\s+(\w+)")
 SIGNED = re.compile(r"\s*(?:(?:abbrev|opaque|pub|record|data)\s+)*([^\s(){}\[\],;:=→λ]+)(?:\s+[({][^)}]*[)}])*\s*:(?!:)")
@@ -66,7 +64,7 @@ def unused() -> list[tuple[Path, str]]:
         used.update(words)
         if file.name not in ("Answers.antt", "Invariants.antt"):
             made += [(file, name) for name in names]
-    return [(file, name) for file, name in made if used[name] <= 0 and name not in FOR_USERS]
+    return [(file, name) for file, name in made if used[name] <= 0]
 
 
 def main() -> int:

@@ -1,4 +1,4 @@
-"""A driver of `edit` that waits for each reply before it sends the next line, and framed sessions."""
+"""A driver of `edit` that waits for each reply before it sends the next line, and counted sessions."""
 
 import subprocess
 import sys

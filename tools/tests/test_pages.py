@@ -120,6 +120,11 @@ def test_links_lead_to_files_and_headings() -> None:
     expect_none((name_of(page), link) for page, link in links if not is_there(page, link))
 
 
+def test_the_tour_names_each_crate() -> None:
+    tour = quoted(text_of(DOCS / "build" / "architecture.md"))
+    expect_none({line.partition(":")[0] for line in text_of(TOP / "crates.txt").splitlines()} - set(tour))
+
+
 def test_the_index_leads_to_each_page() -> None:
     index = DOCS / "README.md"
     linked = set(re.findall(r"\]\(([\w/-]+\.md)\)", text_of(index)))

@@ -9,7 +9,7 @@ from oracle import numbers
 from oracle.reading import NAMES, items_of
 from oracle.states import images, sent, string_of
 from running import run
-from stabsim.text.reading import ALIASES
+from stabsim.text.names import ALIASES
 
 ON_QUBITS = {**{f"{name} 0": it for name, it in ON_ONE.items()}, **{f"{name} 0 1": it for name, it in ON_TWO.items()}}
 IMAGES = {instruction: it.split() for instruction, it in ON_QUBITS.items() if instruction.split()[0] not in [*NAMES, *ALIASES]}

@@ -1,5 +1,5 @@
 """Help ends with an example, which can be run at the top of the repository; commands, options and named values of completions/ and man/
-are those of --help; and the names of instructions on the page and among the nearest ones are those of the tables of stab_lines."""
+are those of --help; and the names of instructions on the page, in the package and among the nearest ones are those of the tables of stab_lines."""
 
 import re
 import subprocess
@@ -9,6 +9,7 @@ from pages import quoted, rows_below, text_of
 from program import TOP
 from running import COMMANDS as COMMANDS_WITHOUT_WORDS
 from running import Ended, run
+from stabsim.text.names import TABLE
 
 COMMANDS = [*COMMANDS_WITHOUT_WORDS, "propagate"]
 OPTION = re.compile(r"--[a-z_]+")
@@ -109,8 +110,7 @@ def test_the_manual_has_all_options_and_the_lines_of_scripts() -> None:
 
 def test_a_checkpoint_has_one_name() -> None:
     assert STRIDE in help_of("edit", "--help") and STRIDE in MANUAL
-    page = text_of(TOP / "docs/use/editing.md")
-    assert "A checkpoint is a copy of the state" in page and "copies of" not in page
+    assert "A checkpoint is a state that is kept" in text_of(TOP / "docs/use/editing.md")
 
 
 def test_the_page_has_the_instructions_and_their_other_names() -> None:
@@ -119,6 +119,11 @@ def test_the_page_has_the_instructions_and_their_other_names() -> None:
     assert ROWS and printed == {"REPEAT", *(row[0] for row in ROWS)}
     others = [[name for cell in row for name in quoted(cell)] for row in rows_below(PAGE, "| Printed name | Other names |")]
     assert others == [row for row in ROWS if row[1:]]
+
+
+def test_the_package_and_the_page_have_the_instructions_and_their_other_names() -> None:
+    table = {name: row.get("aliases", []) for name, row in TABLE.items() if name != "REPEAT"}
+    assert table == {row[0]: row[1:] for row in ROWS}
 
 
 def test_the_nearest_name_is_one_that_is_read() -> None:

@@ -1,0 +1,83 @@
+"""No name, comment or text of the crates, and no page, has a word that docs/build/glossary.md says not to use, and its files are there."""
+
+import re
+from collections.abc import Iterator
+
+from pages import DOCS, PAGES, files_of_git, name_of, prose, quoted, rows_below, text_of
+from program import TOP
+
+GLOSSARY = DOCS / "build" / "glossary.md"
+NOT_USED = [word for cells in rows_below(text_of(GLOSSARY), "| Not | But |") for word in quoted(cells[0])]
+FILES = [name for name in files_of_git("-co", "--exclude-standard", "crates") if re.match(r"crates/\w+/(?:src|specs|proofs)/.*\.(?:rt|antt)$", name)]
+PART = re.compile(r"[A-Z]?[a-z]+|[A-Z]+(?![a-z])")
+# Names of the standard library.
+OF_LIBRARY = re.compile(r"\b(?:leb|eqb)_tells\b")
+# Words that are still where they are not to be used: no line is added here.
+STANDING = {
+    # The option keeps its name.
+    ("framed", "crates/stab_args/"),
+    ("framed", "crates/stab_cli/"),
+    ("framed", "crates/stab_jobs/"),
+    ("framed", "crates/tests_program/src/"),
+    ("framed", "crates/stab_frames/specs/PropagatedTableaus.antt"),
+    ("apart", "crates/stab_edits/src/walk.rt"),
+    ("apart", "crates/stab_run/src/laws.rt"),
+    ("apart", "crates/stab_ways/proofs/FrontLemmas.antt"),
+    ("turned", "crates/stab_edits/proofs/StepPathLemmas.antt"),
+    ("copies of the state", "crates/stab_circuit/specs/Limits.antt"),
+    ("copy of the state", "crates/stab_frames/src/run_laws.rt"),
+    # The columns of a row say what is reported by this word.
+    ("tells", "crates/rows/src/format.rt"),
+}
+
+
+# What a text with such a word has somewhere, in names too.
+MAYBE = re.compile("|".join(word.replace(" ", "[^a-z]") for word in NOT_USED), re.IGNORECASE)
+
+
+def used_in(text: str) -> dict[str, int]:
+    """The words of a text that are not to be used, of names in parts, each with the number of a line that has it."""
+    found: dict[str, int] = {}
+    for number, line in enumerate(text.split("\n"), 1):
+        if MAYBE.search(line):
+            around = f" {' '.join(PART.findall(line)).lower()} "
+            found |= {word: number for word in NOT_USED if f" {word} " in around}
+    return found
+
+
+def in_crates() -> Iterator[tuple[str, str, int]]:
+    for name in FILES:
+        text = OF_LIBRARY.sub("", text_of(TOP / name))
+        yield from ((name, word, line) for word, line in used_in(text).items())
+
+
+def is_standing(name: str, word: str) -> bool:
+    return any(word == it and name.startswith(path) for it, path in STANDING)
+
+
+def test_words_that_are_not_used_are_found() -> None:
+    assert {"framed", "told", "copy of the state"} <= set(NOT_USED)
+    assert used_in("a\nisFramedAt TOLD_b untold\nno copy of\na copy of the state") == {"framed": 2, "told": 2, "copy of the state": 4}
+
+
+def test_no_name_or_comment_of_the_crates_has_a_word_that_is_not_used() -> None:
+    found = [f"{name}:{line}: {word}" for name, word, line in in_crates() if not is_standing(name, word)]
+    assert not found, "\n".join(found)
+
+
+def test_each_word_that_still_stands_is_there() -> None:
+    found = [(name, word) for name, word, _ in in_crates()]
+    gone = [it for it in STANDING if not any(word == it[0] and name.startswith(it[1]) for name, word in found)]
+    assert not gone
+
+
+def test_no_page_has_a_word_that_is_not_used() -> None:
+    texts = {name_of(page): re.sub(r"`[^`\n]*`", "`", prose(page)) for page in PAGES}
+    found = [f"{name}: {word}" for name, text in texts.items() for word in used_in(re.sub(r"\(#[\w-]+\)", "", text.replace("--framed", "")))]
+    assert not found, "\n".join(found)
+
+
+def test_files_of_the_glossary_are_there() -> None:
+    files = [it for it in quoted(text_of(GLOSSARY)) if it.startswith("stab_")]
+    assert len(files) > 30
+    assert [it for it in files if not (TOP / "crates" / it).is_file()] == []
