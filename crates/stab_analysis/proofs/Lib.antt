@@ -4,6 +4,7 @@ pub mod DistanceLaws
 pub mod EndingLaws
 pub mod EachLaws
 pub mod CountedLaws
+pub mod PartLaws
 pub mod CheckLaws
 pub mod CountLaws
 pub mod LineLaws

@@ -1,5 +1,5 @@
 //! The command that finds the least number of errors that flip an observable and no detector.
-ghost use Rattle.std.specs.Prelude.{◌≡◌, ℕ, ◌++◌, codes, false, None, IfOk, IfErr};
+ghost use Rattle.std.specs.Prelude.{◌≡◌, ℕ, ◌<◌, ◌++◌, length, codes, false, All, None, IfOk, IfErr};
 ghost use Rattle.stab_io.specs.Devices.{WritesAll};
 ghost use Rattle.stab_io.specs.declared.refusal.Refusal.TheVariants.{OutOfMemory};
 ghost use Rattle.stab_circuit.specs.Items.{Items};
@@ -10,7 +10,7 @@ ghost use Rattle.stab_errors.specs.ErrorTables.{IsErrorTable, StepsInside};
 ghost use Rattle.stab_errors.specs.Unseen.{IsDistance, IsSetCount, ReportsUnseen};
 ghost use Rattle.stab_texts.specs.FaultTables.{GoesOn, fault_of, random_of};
 ghost use Rattle.stab_texts.specs.MissingObservables.{WarnsOf};
-ghost use Rattle.stab_texts.specs.Distances.{EndsDistance, HearsDistance, IsDistanceOf, IsDistanceText, IsRefusedFor, ReportsDistance, answer_text, distance_line, if_graphlike, line_end, none_line, of_errors, up_to};
+ghost use Rattle.stab_texts.specs.Distances.{EndsDistance, HearsDistance, IsDistanceOf, IsDistanceText, IsRefusedFor, ReportsDistance, answer_text, distance_line, if_graphlike, line_end, none_line, of_errors, set_text, up_to};
 ghost use Rattle.stab_analysis.specs.inner.Faults.{SendsAtOnce};
 
 use crate::deterministic::kinds_of;
@@ -171,7 +171,7 @@ fn write_none_within<O: Output>(out: &mut O, most: Option<usize>) -> Result<(), 
 }
 
 /// Writes the line that says so.
-fn write_none<O: Output>(
+pub(crate) fn write_none<O: Output>(
     out: &mut O,
     most: Option<usize>,
     options: DistanceOptions,
@@ -180,6 +180,25 @@ fn write_none<O: Output>(
 {
     write_none_within(out, most)?;
     write_end(out, if_graphlike(options.graphlike), options.observable)
+}
+
+/// Writes a set of errors: how many they are, and a line for each.
+pub(crate) fn write_set<O: Output>(
+    out: &mut O,
+    circuit: &Circuit,
+    options: DistanceOptions,
+    errors: &ErrorTable,
+    numbers: &[usize],
+) -> Result<(), Refusal>
+    requires checked { check_of (circuit_items circuit.now) ≡ None }
+    requires table { IsErrorTable (qubits_of (circuit_items circuit.now)) (circuit_items circuit.now) errors.now }
+    requires steps { StepsInside (circuit_items circuit.now) errors.now.errors }
+    requires inside { All (λ k. k < length errors.now.errors) numbers.now }
+    ensures writes { WritesAll (O.seen out.old) (O.seen out.new) (set_text options (circuit_items circuit.now) errors.now numbers.now) result }
+{
+    let kinds = kinds_of(circuit, errors.deterministic().len());
+    write_count(out, numbers.len(), options)?;
+    write_errors(out, circuit, kinds, errors, numbers)
 }
 
 /// Writes an answer: `distance W of all marked errors` and a line for each of the errors, such as
@@ -197,11 +216,7 @@ pub(crate) fn write_answer<O: Output>(
     ensures writes { WritesAll (O.seen out.old) (O.seen out.new) (answer_text options (circuit_items circuit.now) errors.now answer.now) result }
 {
     match answer {
-        Answer::Least(numbers) => {
-            let kinds = kinds_of(circuit, errors.deterministic().len());
-            write_count(out, numbers.len(), options)?;
-            write_errors(out, circuit, kinds, errors, numbers.as_slice())
-        }
+        Answer::Least(numbers) => write_set(out, circuit, options, errors, numbers.as_slice()),
         Answer::NoneWithin => write_none(out, options.most, options),
         Answer::NoneAtAll => write_none(out, None, options),
     }

@@ -13,7 +13,9 @@
 //! - `searched`: the errors that a distance is searched among, and the command that writes them.
 //! - `distance`: the command that finds the least number of errors that flip an observable and no detector.
 //! - `counted_distance`: the command that finds it of all errors, and how many least sets there are.
+//! - `part_distance`: the command that writes what one part of the search for it finds.
 //! - `each_distance`: the command that finds this number for each observable in turn.
+//! - `question`: the command that does any of these.
 //! - `coins`: the command that writes which bits of a run each coin decides.
 //! - `reasons`: the command that names the coins which decide those that are not the same for all coins.
 //! - `laws`: reduced rows determine their group; `check` counts what runs give; circuits have tables of coins, in which no coin
@@ -56,6 +58,8 @@ mod doubts;
 mod each_distance;
 mod faults;
 pub mod laws;
+mod part_distance;
+mod question;
 mod reasons;
 mod searched;
 
@@ -67,6 +71,8 @@ pub use deterministic::run_deterministic;
 pub use distance::{Distance, find_distance, run_distance, write_distance};
 pub use each_distance::run_each_distance;
 pub use faults::run_faults;
+pub use part_distance::run_part_distance;
+pub use question::run_question;
 pub use reasons::{has_bit, run_explain, write_why};
 pub use searched::run_searched_errors;
 pub use stab_errors::{Progress, Unwatched};

@@ -1,6 +1,6 @@
 -- Asked: the job that the words of a command line ask for, and when they ask for none.
 -- Source: Stim's command line, for the options of `sample` and `detect`. All else is this project's own.
-use Rattle.std.specs.Prelude.{◌≡◌, ◌≢◌, ◌+◌, ◌<◌, ◌⊎◌, ⊤, ℕ, Bool, true, false, ◌&&◌, ◌||◌, is_some, List, [], Option, Some, None, IfSome, option_map, Result, Ok, Err, codes, string_bytes}
+use Rattle.std.specs.Prelude.{◌≡◌, ◌≢◌, ◌+◌, ◌<◌, ◌≤◌, ◌⊎◌, ⊤, ℕ, Bool, true, false, ◌&&◌, ◌||◌, is_some, decimal, List, [], ◌++◌, Option, Some, None, IfSome, option_map, Result, Ok, Err, codes, string_bytes}
 use Rattle.std.specs.Str.Parse.{digits_value, without_leading_plus}
 use Rattle.stab_results.specs.declared.format.Format.{Format}
 use Rattle.stab_results.specs.declared.format.Format.TheVariants.{F01, B8, R8, Hits, Dets}
@@ -11,6 +11,7 @@ use Rattle.clap.specs.declared.error.kind.ErrorKind.{ErrorKind}
 use Rattle.clap.specs.declared.error.kind.ErrorKind.TheVariants.{DisplayHelp, DisplayVersion}
 use Rattle.stab_gates.specs.Limits.{most_qubits}
 use Rattle.stab_circuit.specs.Limits.{most_stride}
+use Rattle.stab_distance.specs.PartNumbers.{PartNumbers, most_parts}
 use Rattle.stab_jobs.specs.Limits.{ShotRange, last_shot, most_shots, shots_of_seed}
 use Rattle.stab_args.specs.Coins.{coin_text}
 use Rattle.stab_args.specs.Options.{KeptNames, format_names, last_observable, letter_names, most_errors, most_seed, stabsim}
@@ -18,7 +19,9 @@ use Rattle.stab_args.specs.declared.words.Usage.{Usage}
 use Rattle.stab_args.specs.declared.words.Usage.TheVariants.{Help, Fault, Memory}
 use Rattle.stab_jobs.specs.declared.job.Job.{Job}
 use Rattle.stab_jobs.specs.declared.job.Command.{Command}
-use Rattle.stab_jobs.specs.declared.job.Command.TheVariants.{Sample, Detect, Stabilisers, Check, Deterministic, Explain, Faults, Coins, Distance, CountedDistance, EachDistance, SearchedErrors, Edit, Propagate}
+use Rattle.stab_jobs.specs.declared.job.Command.TheVariants.{Sample, Detect, Stabilisers, Check, Deterministic, Explain, Faults, Coins, Distance, Edit, Propagate}
+use Rattle.stab_jobs.specs.declared.job.Question.{Question}
+use Rattle.stab_jobs.specs.declared.job.Question.TheVariants.{Least, Counted, Each, Part, Errors}
 use Rattle.stab_jobs.specs.declared.job.DistanceOptions.{DistanceOptions}
 use Rattle.stab_jobs.specs.declared.job.SearchedLayout.TheVariants.{Table, Wcnf}
 use Rattle.stab_jobs.specs.declared.job.ErrorLetters.{ErrorLetters}
@@ -118,12 +121,34 @@ is_beside_each table asked = table || (is_some asked.observable || asked.progres
 abbrev pub is_beside_count : (wcnf table each : Bool) → DistanceOptions → Bool
 is_beside_count wcnf table each asked = wcnf || (table || (each || asked.graphlike))
 
--- the options of a distance ask for the errors themselves, for each observable, or for the number of least sets
-pub record AsksFor (options : List Row) (w t e c : Bool) : Type 0 where
+-- the word of a part, K/N in decimal digits: the first part is part 1
+abbrev pub part_word : PartNumbers → Text
+part_word p = decimal (p.index + 1) ++ (codes "/" ++ decimal p.count)
+
+-- there is such a part
+abbrev pub IsPart : PartNumbers → Type 0
+IsPart p = (p.index < p.count) × (p.count ≤ most_parts)
+
+-- whether something is asked beside a part of a search: the errors themselves, each observable, the number of least sets, only some errors, one observable, or progress
+abbrev pub is_beside_part : (wcnf table each count : Bool) → DistanceOptions → Bool
+is_beside_part wcnf table each count asked = wcnf || (table || (each || (count || (asked.graphlike || (is_some asked.observable || asked.progress)))))
+
+-- the options of a distance ask for a part of a search, the errors themselves, each observable, or the number of least sets
+pub record AsksFor (options : List Row) (p : Option Text) (w t e c : Bool) : Type 0 where
+  pub part : first_of (codes "part") options ≡ p
   pub wcnf : IsSet (one_of (codes "wcnf") options) w
   pub table : IsSet (one_of (codes "table") options) t
   pub each : IsSet (one_of (codes "each") options) e
   pub count : IsSet (one_of (codes "count") options) c
+
+-- the question that the options ask, and nothing that is not asked beside it
+abbrev pub IsQuestion : List Row → DistanceOptions → Question → Type 0
+IsQuestion options asked Least = AsksFor options None false false false false
+IsQuestion options asked (Part part) = AsksFor options (Some (part_word part)) false false false false × (is_beside_part false false false false asked ≡ false)
+IsQuestion options asked Counted = AsksFor options None false false false true × (is_beside_count false false false asked ≡ false)
+IsQuestion options asked Each = AsksFor options None false false true false × (is_beside_each false asked ≡ false)
+IsQuestion options asked (Errors Wcnf) = AsksFor options None true false false false × (is_beside_problem false false asked ≡ false)
+IsQuestion options asked (Errors Table) = AsksFor options None false true false false × (is_about_search asked ≡ false)
 
 -- the command of a name, with what its options say
 abbrev pub IsCommand : Text → List Row → Command → Type 0
@@ -137,15 +162,7 @@ IsCommand name options (Faults layout everywhere deterministic_only) =
     (name ≡ codes "faults") × IsLayout (first_of (codes "out_format") options) layout
     × IsSet (one_of (codes "everywhere") options) everywhere × IsSet (one_of (codes "deterministic_only") options) deterministic_only
 IsCommand name options (Coins layout) = (name ≡ codes "coins") × IsLayout (first_of (codes "out_format") options) layout
-IsCommand name options (Distance asked) = (name ≡ codes "distance") × AsksFor options false false false false × IsAskedDistance options asked
-IsCommand name options (CountedDistance asked) =
-    (name ≡ codes "distance") × AsksFor options false false false true × IsAskedDistance options asked × (is_beside_count false false false asked ≡ false)
-IsCommand name options (EachDistance asked) =
-    (name ≡ codes "distance") × AsksFor options false false true false × IsAskedDistance options asked × (is_beside_each false asked ≡ false)
-IsCommand name options (SearchedErrors Wcnf asked) =
-    (name ≡ codes "distance") × AsksFor options true false false false × IsAskedDistance options asked × (is_beside_problem false false asked ≡ false)
-IsCommand name options (SearchedErrors Table asked) =
-    (name ≡ codes "distance") × AsksFor options false true false false × IsAskedDistance options asked × (is_about_search asked ≡ false)
+IsCommand name options (Distance question asked) = (name ≡ codes "distance") × IsAskedDistance options asked × IsQuestion options asked question
 IsCommand name options (Edit framed qubits stride) =
     (name ≡ codes "edit") × IsSet (one_of (codes "framed") options) framed × IsWrittenIfGiven 0 most_qubits (one_of (codes "qubits") options) qubits × IsWritten 1 most_stride (one_of (codes "stride") options) stride
 IsCommand name options (Propagate every) = (name ≡ codes "propagate") × IsSet (one_of (codes "every") options) every
@@ -220,6 +237,24 @@ IsProblemBeside options =
     × ((table each : Bool) × (asked : DistanceOptions) × IsSet (one_of (codes "table") options) table × IsSet (one_of (codes "each") options) each × IsAskedDistance options asked
     × (is_beside_problem table each asked ≡ true))
 
+-- the line for a word that is of no part
+abbrev pub part_fault : Text
+part_fault = codes "stabsim: --part is K/N, of which K is from 1 to N, and N at most 1000000\n"
+
+-- a part is asked for, and there is none of this word
+abbrev pub IsNoPart : List Row → Type 0
+IsNoPart options = (word : Text) × (first_of (codes "part") options ≡ Some word) × ((p : PartNumbers) → IsPart p → word ≡ part_word p → ⊥)
+
+-- the line for a part of a search beside what is not asked with it
+abbrev pub beside_part_fault : Text
+beside_part_fault = codes "stabsim: --part is of one search among all errors, and is not beside --wcnf, --table, --each, --count, --graphlike, --observable or --progress\n"
+
+-- it is asked for beside it
+abbrev pub IsBesidePart : List Row → Type 0
+IsBesidePart options =
+    (word : Text) × (wcnf table each count : Bool) × (asked : DistanceOptions) × AsksFor options (Some word) wcnf table each count × IsAskedDistance options asked
+    × (is_beside_part wcnf table each count asked ≡ true)
+
 -- the line for the number of least sets beside what is not asked with it
 abbrev pub count_fault : Text
 count_fault = codes "stabsim: --count is of one answer about all errors, and is not beside --wcnf, --table, --each or --graphlike\n"
@@ -227,14 +262,14 @@ count_fault = codes "stabsim: --count is of one answer about all errors, and is 
 -- it is asked for beside it
 abbrev pub IsCountBeside : List Row → Type 0
 IsCountBeside options =
-    (wcnf table each : Bool) × (asked : DistanceOptions) × AsksFor options wcnf table each true × IsAskedDistance options asked × (is_beside_count wcnf table each asked ≡ true)
+    (wcnf table each : Bool) × (asked : DistanceOptions) × AsksFor options None wcnf table each true × IsAskedDistance options asked × (is_beside_count wcnf table each asked ≡ true)
 
 -- a distance is refused for lack of memory, or by options that are beside others
 abbrev pub RefusesDistance : List Row → Usage → Type 0
 RefusesDistance options Memory = ⊤
 RefusesDistance options (Fault line) =
     ((string_bytes line ≡ table_fault) × IsTableBesideSearch options) ⊎ (((string_bytes line ≡ each_fault) × IsEachBeside options) ⊎ (((string_bytes line ≡ problem_fault) × IsProblemBeside options)
-    ⊎ ((string_bytes line ≡ count_fault) × IsCountBeside options)))
+    ⊎ (((string_bytes line ≡ count_fault) × IsCountBeside options) ⊎ (((string_bytes line ≡ part_fault) × IsNoPart options) ⊎ ((string_bytes line ≡ beside_part_fault) × IsBesidePart options)))))
 RefusesDistance options usage = ⊥
 
 -- a command is refused by its shots, or as a distance

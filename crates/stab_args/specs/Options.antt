@@ -118,7 +118,7 @@ coins formats = record (new_shape (codes "coins")) { rules = one_name (codes "ou
 abbrev pub distance : Kept → Shape
 distance letters = record (new_shape (codes "distance")) {
   rules = flag (codes "everywhere") ∷ named (codes "letters") letters (codes "all") ∷ ranged (codes "most") 0 most_errors ∷ flag (codes "graphlike")
-      ∷ ranged (codes "observable") 0 last_observable ∷ flag (codes "each") ∷ flag (codes "table") ∷ flag (codes "wcnf") ∷ flag (codes "count") ∷ deterministic_only ∷ flag (codes "progress") ∷ file_options;
+      ∷ ranged (codes "observable") 0 last_observable ∷ flag (codes "each") ∷ flag (codes "table") ∷ flag (codes "wcnf") ∷ flag (codes "count") ∷ valued (codes "part") ∷ deterministic_only ∷ flag (codes "progress") ∷ file_options;
 }
 
 -- an option whose value has to be given

@@ -1,6 +1,7 @@
 //! The words of stabsim's command line.
 //!
 //! - `coins`: coins that are written in a word or in a file.
+//! - `part_word`: the word of a part of a search.
 //! - `words`: what the words of a command line ask for.
 //!
 //! Sources: Stim's command line, for the options of `sample` and `detect`; `docs/use/stim.md` says where it differs. The
@@ -11,6 +12,7 @@
 #![tactic(auto)]
 
 mod coins;
+mod part_word;
 mod words;
 
 pub use coins::{CoinsFault, NO_COINS, read_coins};

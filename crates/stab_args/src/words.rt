@@ -3,6 +3,7 @@
 //! - `help`: what the help says.
 //! - `app`: the commands and their options, as the command line reader is given them.
 //! - `options`: what the words say to each option.
+//! - `questions`: what they ask about errors.
 ghost use Rattle.std.specs.Prelude.{◌≡◌, map};
 ghost use Rattle.clap.specs.Words.{kind_of};
 ghost use Rattle.stab_args.specs.Asked.{EndsReading, IsReported};
@@ -11,6 +12,7 @@ ghost use Rattle.stab_args.specs.declared.words.Usage.TheVariants.{Memory};
 mod app;
 mod help;
 mod options;
+mod questions;
 
 use app::{FORMATS, LETTERS, app};
 use clap::Error;

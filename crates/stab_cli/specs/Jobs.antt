@@ -12,9 +12,8 @@ use Rattle.stab_texts.specs.Deterministic.{EndsDeterministic}
 use Rattle.stab_texts.specs.FaultTables.{EndsFaults}
 use Rattle.stab_texts.specs.CoinTables.{EndsCoins}
 use Rattle.stab_texts.specs.Reasons.{EndsExplain}
-use Rattle.stab_texts.specs.Distances.{EndsCounted, EndsDistance, EndsEach, EndsSearched, ReportsDistance, ReportsErrors, of_all}
+use Rattle.stab_texts.specs.Questions.{EndsQuestion, ReportsQuestion, WarnsOfQuestion}
 use Rattle.stab_texts.specs.DoubtLines.{Warns}
-use Rattle.stab_texts.specs.MissingObservables.{WarnsOf}
 use Rattle.stab_distance.specs.Progress.{Heard}
 use Rattle.stab_propagation.specs.Endings.{EndsPropagate}
 use Rattle.stab_editor.specs.ScriptEndings.{EndsEdit}
@@ -23,7 +22,7 @@ use Rattle.stab_script.specs.Watchers.{Asked}
 use Rattle.stab_texts.specs.declared.random.Random.{Random}
 use Rattle.stab_jobs.specs.declared.job.Source.{Source}
 use Rattle.stab_jobs.specs.declared.job.Command.{Command}
-use Rattle.stab_jobs.specs.declared.job.Command.TheVariants.{Sample, Detect, Stabilisers, Check, Deterministic, Explain, Coins, Faults, Distance, CountedDistance, EachDistance, SearchedErrors, Edit, Propagate}
+use Rattle.stab_jobs.specs.declared.job.Command.TheVariants.{Sample, Detect, Stabilisers, Check, Deterministic, Explain, Coins, Faults, Distance, Edit, Propagate}
 use Rattle.stab_jobs.specs.declared.job.Job.{Job}
 
 -- a call that reads no script refuses no line of it
@@ -49,10 +48,7 @@ EndsCommand (Deterministic format) source at word i i' s s' o o' r random = Name
 EndsCommand Explain source at word i i' s s' o o' r random = NamesNone (EndsExplain i i' o o') r random
 EndsCommand (Coins layout) source at word i i' s s' o o' r random = NamesNone (EndsCoins layout i i' o o') r random
 EndsCommand (Faults layout everywhere deterministic_only) source at word i i' s s' o o' r random = RefusesNone (λ answer. EndsFaults layout everywhere deterministic_only i i' o o' answer random) r
-EndsCommand (SearchedErrors layout options) source at word i i' s s' o o' r random = RefusesNone (λ answer. EndsSearched layout options i i' o o' answer random) r
-EndsCommand (CountedDistance options) source at word i i' s s' o o' r random = RefusesNone (λ answer. EndsCounted options i i' o o' answer random) r
-EndsCommand (EachDistance options) source at word i i' s s' o o' r random = RefusesNone (λ answer. EndsEach options i i' o o' answer random) r
-EndsCommand (Distance options) source at word i i' s s' o o' r random = RefusesNone (λ answer. EndsDistance options i i' o o' answer random) r
+EndsCommand (Distance question options) source at word i i' s s' o o' r random = RefusesNone (λ answer. EndsQuestion question options i i' o o' answer random) r
 EndsCommand (Propagate every) source at word i i' s s' o o' r random = NamesNone (EndsPropagate every at word i i' o o') r random
 EndsCommand (Edit framed qubits stride) source at word i i' s s' o o' r random = (random ≡ None) × EndsEdit framed qubits source i i' s s' o o' r
 
@@ -61,13 +57,9 @@ abbrev pub CommandInTurn : Command → Source → InputView → InputView → In
 CommandInTurn (Edit framed qubits stride) source i i' s s' o o' log log' r = EditsInTurn framed qubits source i i' s s' o o' log log' r
 CommandInTurn command source i i' s s' o o' log log' r = log' ≡ log
 
--- what is heard of a call: how far the search of `distance` is, or how many errors it looks at for each observable or writes, and of any other
--- command nothing
+-- what is heard of a call: what `distance` reports, and of any other command nothing
 abbrev pub CommandReports : Command → InputView → InputView → Option (List Heard) → Option (List Heard) → Result Bool Fault → Type 0
-CommandReports (Distance options) i i' old new r = RefusesNone (ReportsDistance options i i' old new) r
-CommandReports (CountedDistance options) i i' old new r = RefusesNone (ReportsDistance (of_all options) i i' old new) r
-CommandReports (EachDistance options) i i' old new r = RefusesNone (ReportsErrors options i i' old new) r
-CommandReports (SearchedErrors layout options) i i' old new r = RefusesNone (ReportsErrors options i i' old new) r
+CommandReports (Distance question options) i i' old new r = RefusesNone (ReportsQuestion question options i i' old new) r
 CommandReports command i i' old new r = new ≡ old
 
 -- the status of a run: 0 without a fault, 3 if a line of the script was refused, 1 with a fault
@@ -76,15 +68,12 @@ status_of (Ok false) = 0
 status_of (Ok true) = 3
 status_of (Err f) = 1
 
--- what the call of a command leaves of the error output: `check`, `faults` and `distance` report marks that may be meant in another way,
--- after a call without a fault, and `distance` then an observable that the circuit lacks; else it is untouched
+-- what the call of a command leaves of the error output: `check` and `faults` report marks that may be meant in another way, after a call
+-- without a fault, and `distance` as its question has it; else it is untouched
 abbrev pub CommandWarns : Command → InputView → InputView → OutputView → OutputView → Result Bool Fault → Type 0
 CommandWarns Check i i' old new r = Warns false i i' old new r
 CommandWarns (Faults layout everywhere deterministic_only) i i' old new r = Warns everywhere i i' old new r
-CommandWarns (SearchedErrors layout options) i i' old new r = Warns options.everywhere i i' old new r
-CommandWarns (EachDistance options) i i' old new r = Warns options.everywhere i i' old new r
-CommandWarns (CountedDistance options) i i' old new r = WarnsOf options.everywhere options.observable i i' old new r
-CommandWarns (Distance options) i i' old new r = WarnsOf options.everywhere options.observable i i' old new r
+CommandWarns (Distance question options) i i' old new r = WarnsOfQuestion question options i i' old new r
 CommandWarns command i i' old new r = new ≡ old
 
 -- a run's fault is reported, with the bit that it names, if any; and without a fault the error output is as the call of the command leaves it

@@ -20,7 +20,8 @@ mod usage;
 
 pub use stab_analysis::{
     Progress, Unwatched, run_check, run_coins, run_counted_distance, run_deterministic,
-    run_distance, run_each_distance, run_explain, run_faults, run_searched_errors,
+    run_distance, run_each_distance, run_explain, run_faults, run_part_distance, run_question,
+    run_searched_errors,
 };
 pub use stab_args::{CoinsFault, NO_COINS, Usage, parse_words, read_coins};
 pub use stab_commands::{
@@ -28,7 +29,8 @@ pub use stab_commands::{
 };
 pub use stab_editor::{run_edit, run_edit_watched};
 pub use stab_jobs::{
-    Command, DistanceOptions, ErrorLetters, FaultLayout, Job, QubitCount, Shots, Source, Stride,
+    Command, DistanceOptions, ErrorLetters, FaultLayout, Job, QubitCount, Question, SearchPart,
+    SearchedLayout, Shots, Source, Stride,
 };
 pub use stab_propagation::run_propagate;
 pub use stab_script::{KeepsLog, LoggedInput, LoggedRead, NoWatcher, Watcher};

@@ -7,8 +7,8 @@ ghost use Rattle.stab_editor.specs.ScriptTurns.{EditsInTurn};
 ghost use Rattle.stab_cli.specs.Jobs.{CommandInTurn, CommandReports, CommandWarns, EndsCommand, EndsJob, JobInTurn, JobReports, reads_script, refusing_none};
 
 use stab_analysis::{
-    Progress, Unwatched, run_check, run_coins, run_counted_distance, run_deterministic,
-    run_distance, run_each_distance, run_explain, run_faults, run_searched_errors,
+    Progress, Unwatched, run_check, run_coins, run_deterministic, run_explain, run_faults,
+    run_question,
 };
 use stab_commands::{run_detect_shots, run_sample_shots, run_stabilisers};
 use stab_editor::run_edit_watched;
@@ -99,6 +99,8 @@ fn run_command<I: Input, S: Input, O: Output, E: Output, W: Watcher<S, O>, P: Pr
     ensures warns { CommandWarns job.now.command (I.seen input.old) (I.seen input.new) (E.seen err.old) (E.seen err.new) (fault_of result) }
 {
     let source = &job.source;
+    let at = job.at.as_bytes();
+    let string = job.string.as_bytes();
     match job.command {
         Command::Sample { format, shots } => {
             plain_answer(run_sample_shots(alloc, input, out, format, shots, source))
@@ -120,26 +122,12 @@ fn run_command<I: Input, S: Input, O: Output, E: Output, W: Watcher<S, O>, P: Pr
             everywhere,
             deterministic_only: only,
         } => refuses_none(run_faults(alloc, input, out, err, layout, everywhere, only)),
-        Command::SearchedErrors { layout, options } => {
-            refuses_none(run_searched_errors(alloc, input, out, err, layout, options, progress))
+        Command::Distance { question, options } => {
+            refuses_none(run_question(alloc, input, out, err, question, options, progress))
         }
-        Command::CountedDistance(options) => {
-            refuses_none(run_counted_distance(alloc, input, out, err, options, progress))
+        Command::Propagate { every } => {
+            plain_answer(run_propagate(alloc, input, out, every, at, string))
         }
-        Command::EachDistance(options) => {
-            refuses_none(run_each_distance(alloc, input, out, err, options, progress))
-        }
-        Command::Distance(options) => {
-            refuses_none(run_distance(alloc, input, out, err, options, progress))
-        }
-        Command::Propagate { every } => plain_answer(run_propagate(
-            alloc,
-            input,
-            out,
-            every,
-            job.at.as_bytes(),
-            job.string.as_bytes(),
-        )),
         Command::Edit {
             framed,
             qubits,

@@ -1,5 +1,5 @@
 -- Classes of detectors: a logical error's parts in one of the classes are a logical error of no more errors.
-use Rattle.stab_distance.proofs.Names.{◌≡◌, ◌≢◌, ℕ, zero, suc, ◌+◌, ◌≤◌, ◌<◌, ◌⊎◌, inl, inr, refl, sym, ◌∙◌, ap, subst, arith, Bool, true, false, List, [], ◌∷◌, ◌++◌, length, map, get_or, slice_index, drop, drop-cons, cases_eq, false≢true, length-append, if◌then◌else◌, ◌==◌, eqb-true, eqb-false, eq-eqb, ne_eqb, ◌⊕◌, parity-assoc, parity-comm, parity-false, parity-twice, AscendsFrom, IsAscending, ErrorTable, odd, row, flips, IsLogicalError, Each, class_of, AreOfClass, HaveClasses, Counts, AreParts, Splits}
+use Rattle.stab_distance.proofs.Names.{◌≡◌, ◌≢◌, ℕ, zero, suc, ◌+◌, ◌≤◌, ◌<◌, ◌⊎◌, inl, inr, refl, sym, ◌∙◌, ap, subst, arith, Bool, true, false, List, [], ◌∷◌, ◌++◌, length, map, get_or, slice_index, drop, drop-cons, cases_eq, false≢true, length-append, if◌then◌else◌, ◌==◌, eqb-true, eqb-false, eq-eqb, ne_eqb, ◌⊕◌, parity-assoc, parity-comm, parity-false, AscendsFrom, ErrorTable, odd, row, flips, IsLogicalError, Each, class_of, AreOfClass, HaveClasses, Counts, Splits}
 use Rattle.stab_distance.proofs.Totals.{has-odd}
 use Rattle.stab_distance.proofs.ListLemmas.{by-bit, all-each, each-all, has-at}
 

@@ -1,8 +1,7 @@
 -- Errors that are enough: what holds of their logical errors holds of the table's.
-use Rattle.stab_distance.proofs.Names.{◌≡◌, ℕ, ◌≤◌, ◌<◌, refl, sym, ◌∙◌, ap, subst, arith, List, [], ◌∷◌, length, map, slice_index, ◌⊕◌, ErrorTable, odd, row, flips, IsLogicalError, IsLeast, HasNone, HasSome, HasNoneWithin, Each, AreRowsOf, HasRow, IsShortest, IsGathered, HaveClasses, Splits, AreEnough, StandFor, length-map}
+use Rattle.stab_distance.proofs.Names.{◌≡◌, ℕ, ◌≤◌, ◌<◌, refl, sym, ◌∙◌, ap, subst, arith, List, [], ◌∷◌, length, map, slice_index, ◌⊕◌, ErrorTable, odd, row, flips, IsLogicalError, IsLeast, HasNone, HasSome, HasNoneWithin, Each, AreRowsOf, IsShortest, IsLogicalWithin, IsLogicalSet, IsGathered, HaveClasses, Splits, AreEnough, StandFor, length-map}
 use Rattle.stab_distance.proofs.ListLemmas.{each-all, all-each}
 use Rattle.stab_distance.proofs.ClassLemmas.{enough-classes}
-use Rattle.stab_distance.proofs.DistinctLemmas.{distinct-enough}
 
 module _ (rows chosen : List (List ℕ)) (numbers : List ℕ) (are : AreRowsOf rows chosen numbers) where
   numbers-inside : (xs : List ℕ) → Each (λ k. k < length chosen) xs → Each (λ r. r < length rows) (map (slice_index numbers) xs)
@@ -49,9 +48,9 @@ module _ (t fewer : ErrorTable) (numbers : List ℕ) (is : StandFor t fewer numb
   pub some-enough : HasSome fewer → HasSome t
   some-enough (errors, e) = (map (slice_index numbers) errors, is.logical errors e)
 
-  -- the set of the table's errors that a shortest one is
-  pub least-enough : (most : ℕ) (found set : List ℕ) → IsShortest fewer most found → IsGathered (map (slice_index numbers) found) set → IsLeast t most set
-  least-enough most found set s g =
+  -- the set of the table's errors that a logical error is
+  pub set-enough : (most : ℕ) (found set : List ℕ) → IsLogicalWithin fewer most found → IsGathered (map (slice_index numbers) found) set → IsLogicalSet t most set
+  set-enough most found set s g =
       let logical = is.logical found s.logical in
       let same = length-map found (slice_index numbers) in
       let shorter = g.fewer in
@@ -64,17 +63,24 @@ module _ (t fewer : ErrorTable) (numbers : List ℕ) (is : StandFor t fewer numb
           observed = let o = logical.observed.0 in (o, logical.observed.1, g.flips t.rows o ∙ logical.observed.2);
         };
         within = omega arith;
+      }
+
+  -- and that of a shortest one
+  pub least-enough : (most : ℕ) (found set : List ℕ) → IsShortest fewer most found → IsGathered (map (slice_index numbers) found) set → IsLeast t most set
+  least-enough most found set s g =
+      let whole = set-enough most found set (record { logical = s.logical; within = s.within }) g in
+      let same = length-map found (slice_index numbers) in
+      let shorter = g.fewer in
+      record {
+        ascending = whole.ascending;
+        logical = whole.logical;
+        within = whole.within;
         least = λ others e.
             let other = is.enough others e in
             let short = s.least other.0 other.1.0 in
             let few = other.1.1 in
             omega arith;
       }
-
--- distinct rows do
-pub distinct-stand : (t part : ErrorTable) (detectors : ℕ) (chosen : List (List ℕ)) → part ≡ record { detectors = detectors; rows = chosen } → detectors ≡ t.detectors
-    → ((r : ℕ) → r < length t.rows → HasRow chosen (row t.rows r)) → (numbers : List ℕ) → AreRowsOf t.rows chosen numbers → StandFor t part numbers
-distinct-stand t part detectors chosen is same all numbers are = enough-stand t part numbers (distinct-enough t part detectors chosen is same all numbers are)
 
 -- of errors that are enough, those of one class each are
 pub fewer-enough : (t fewer : ErrorTable) (numbers : List ℕ) → AreEnough t fewer numbers

@@ -1,8 +1,7 @@
 -- The first error of a set, after which a search looks for the others.
-use Rattle.stab_distance.proofs.Names.{◌≡◌, ℕ, ◌+◌, ◌≤◌, ◌<◌, ◌⊎◌, inl, inr, sym, ◌∙◌, ap, subst, arith, Bool, true, false, ◌||◌, List, [], ◌∷◌, length, cases_lt, false≢true, ne_eqb, ◌⊕◌, parity-comm, parity-twice, parity-false, AscendsFrom, IsAscending, ErrorTable, odd, row, flips, IsLogicalError, HasNoneWithin, Each, has, Vec, Ends, NoEnds, HasBefore, BeginsBefore, ArePairs}
+use Rattle.stab_distance.proofs.Names.{◌≡◌, ℕ, ◌+◌, ◌≤◌, ◌<◌, sym, ◌∙◌, ap, subst, arith, Bool, true, false, ◌||◌, List, [], ◌∷◌, length, false≢true, ne_eqb, ◌⊕◌, parity-comm, parity-twice, parity-false, AscendsFrom, IsAscending, ErrorTable, odd, row, flips, IsLogicalError, Each, has, Vec, Ends, HasBefore}
 use Rattle.stab_distance.proofs.ListLemmas.{each-map, each-all, each-above, each-has, has-here, has-there}
-use Rattle.stab_distance.proofs.ShortestLemmas.{gathering, gathered-logical}
-use Rattle.stab_distance.proofs.PairLemmas.{Unpaired, among, before-gathering, last-set}
+use Rattle.stab_distance.proofs.PairLemmas.{Unpaired, among}
 
 -- bits that add up to nothing are the same
 parity-even : (a b : Bool) → a ⊕ b ≡ false → b ≡ a
@@ -12,7 +11,7 @@ ascends-lower : (m k : ℕ) (xs : List ℕ) → m ≤ k → AscendsFrom k xs →
 ascends-lower m k [] le a = tt
 ascends-lower m k (x ∷ xs) le a = (let h = a.0 in omega arith, a.1)
 
-first-ends : (t : ErrorTable) (pairs : List (Vec ℕ)) (f : ℕ) (rest : List ℕ) → IsAscending (f ∷ rest) → IsLogicalError t (f ∷ rest)
+pub first-ends : (t : ErrorTable) (pairs : List (Vec ℕ)) (f : ℕ) (rest : List ℕ) → IsAscending (f ∷ rest) → IsLogicalError t (f ∷ rest)
     → Unpaired pairs (f ∷ rest) (f ∷ rest) → Ends t pairs f (f ∷ []) (row t.rows f) rest
 first-ends t pairs f rest a e unpaired = record {
   completes = record {
@@ -34,31 +33,8 @@ first-ends t pairs f rest a e unpaired = record {
     after = each-map (λ y. f + 1 ≤ y) (λ r. f < r) (λ y h. omega arith) rest (each-above (f + 1) rest a.1)
 
 -- an error that can be first, and the others after it
-begins-first : (firsts f : ℕ) (rest : List ℕ) → IsAscending (f ∷ rest) → HasBefore firsts (f ∷ rest) → f < firsts
+pub begins-first : (firsts f : ℕ) (rest : List ℕ) → IsAscending (f ∷ rest) → HasBefore firsts (f ∷ rest) → f < firsts
 begins-first firsts f rest a (g, (lt, there)) =
     among g f rest there
     (λ same. subst (λ k. k < firsts) (sym same) lt)
     (λ later. let after : f + 1 ≤ g = each-has (λ y. f + 1 ≤ y) g rest (each-above (f + 1) rest a.1) later in omega (arith, lt, after))
-
-module _ (t : ErrorTable) (pairs : List (Vec ℕ)) (firsts : ℕ) (are : ArePairs t.rows firsts pairs) (left : ℕ) (begun : BeginsBefore t firsts)
-    (none : HasNoneWithin t left) (tried : (f : ℕ) → f < firsts → NoEnds t pairs f (f ∷ []) (row t.rows f) left) where
-  no_set : (set : List ℕ) → IsAscending set → IsLogicalError t set → length set ≡ left + 1 → HasBefore firsts set → Unpaired pairs set set → ⊥
-  no_set [] a e count first unpaired = absurd (omega arith)
-  no_set (f ∷ rest) a e count first unpaired = tried f (begins-first firsts f rest a first) rest (first-ends t pairs f rest a e unpaired) (omega arith)
-
-  -- none is within one more error if none begins with one that can be first
-  pub none-more : HasNoneWithin t (left + 1)
-  none-more errors logical = by_length (cases_lt (left + 1) (length errors))
-    where
-      by_length : (left + 1 < length errors) ⊎ (length errors ≤ left + 1) → left + 1 < length errors
-      by_length (inl lt) = lt
-      by_length (inr le) =
-          let other = begun.begins errors logical in
-          let set = gathering other.0 in
-          let is = gathered-logical t other.0 set.0 set.1 other.1.0 in
-          let more = none set.0 is in
-          let fewer = set.1.fewer in
-          let few = other.1.1.0 in
-          let first = before-gathering firsts other.0 (omega arith) other.1.1.1 in
-          let last = last-set t pairs firsts are left none set.0 set.1.ascending is (omega arith) first in
-          absurd (no_set last.set last.ascending last.logical last.count last.begun last.unpaired)

@@ -21,6 +21,7 @@ pub mod ShortestLemmas
 pub mod StepLemmas
 pub mod PairLemmas
 pub mod FirstLemmas
+pub mod SearchPartLemmas
 pub mod ScanLemmas
 pub mod PairListLemmas
 pub mod EqualLemmas

@@ -1,13 +1,9 @@
 -- Pairs that are left out: of the least sets that are logical errors one has none of them, the last in the order of their errors.
-use Rattle.stab_distance.proofs.Names.{◌≡◌, ◌≢◌, ℕ, zero, suc, ◌+◌, ◌-◌, ◌^◌, ◌≤◌, ◌<◌, ◌⊎◌, inl, inr, sym, ◌∙◌, ap, subst, arith, true, false, ◌||◌, List, [], ◌∷◌, ◌++◌, length, false≢true, ◌==◌, eqb-true, ◌⊕◌, parity-assoc, IsAscending, ErrorTable, odd, row, flips, IsLogicalError, HasNoneWithin, Each, has, toggle, listed, Vec, HasBefore, KeepFirst, IsLeftOut, by_one, by_two, ArePairs, pow-le-pow_right, pow-succ'}
+use Rattle.stab_distance.proofs.Names.{◌≡◌, ◌≢◌, ℕ, suc, ◌+◌, ◌-◌, ◌^◌, ◌≤◌, ◌<◌, ◌⊎◌, inl, inr, sym, ◌∙◌, ap, subst, arith, true, false, ◌||◌, List, [], ◌∷◌, ◌++◌, length, false≢true, ◌==◌, eqb-true, ◌⊕◌, parity-assoc, IsAscending, ErrorTable, odd, row, flips, IsLogicalError, HasNoneWithin, Each, has, toggle, listed, Vec, HasBefore, KeepFirst, IsLeftOut, by_one, by_two, ArePairs, pow-le-pow_right, pow-succ'}
+use Rattle.stab_distance.specs.SearchParts.{weight, IsLastSet}
 use Rattle.stab_distance.proofs.FlipLemmas.{flips-without}
 use Rattle.stab_distance.proofs.ListLemmas.{by-bit, by-place, each-all, all-each, each-without, length-without, length-toggle, has-without, without, without-here, without-there, has-here, has-there, toggle-here, toggle-out, toggle-there}
 use Rattle.stab_distance.proofs.ShortestLemmas.{gathering, gathered-logical}
-
--- The weight of a set of n errors: its errors as the ones of a binary number, the first error the most significant.
-abbrev pub weight : ℕ → List ℕ → ℕ
-weight n [] = 0
-weight n (r ∷ rs) = 2 ^ (n - r) + weight n rs
 
 weight-without : (n g : ℕ) (xs : List ℕ) → has g xs ≡ true → weight n xs ≡ 2 ^ (n - g) + weight n (without g xs)
 weight-without n g [] e = absurd (false≢true e)
@@ -215,15 +211,6 @@ paired pairs (x ∷ xs) ys = on (pairs-with pairs x ys) (paired pairs xs ys)
     on (inl none) (inr p) = inr (record { a = p.a; g = p.g; in_xs = has-there p.a x xs p.in_xs; in_ys = p.in_ys; pair = p.pair })
     on (inl none) (inl rest) = inl (λ a g e. among a x xs e (λ same. subst (λ k. has g ys ≡ true → has g (listed pairs k) ≡ false) same (none g)) (λ there. rest a g there))
 
--- a least set without a pair that is left out
-pub record Last (t : ErrorTable) (pairs : List (Vec ℕ)) (firsts left : ℕ) : Type 0 where
-  pub set : List ℕ
-  pub begun : HasBefore firsts set
-  pub ascending : IsAscending set
-  pub logical : IsLogicalError t set
-  pub count : length set ≡ left + 1
-  pub unpaired : Unpaired pairs set set
-
 module _ (t : ErrorTable) (pairs : List (Vec ℕ)) (firsts : ℕ) (are : ArePairs t.rows firsts pairs) (left : ℕ) (none : HasNoneWithin t left) where
   after : (set : List ℕ) → IsLogicalError t set → length set ≡ left + 1 → HasBefore firsts set → Paired pairs set set → Later t firsts left set
   after set e count first p = by_order (are.left_out p.a p.g p.pair)
@@ -232,18 +219,13 @@ module _ (t : ErrorTable) (pairs : List (Vec ℕ)) (firsts : ℕ) (are : ArePair
       by_order (inl out) = later t firsts left set p.a p.g none e count first p.in_xs p.in_ys (are.differ p.a p.g p.pair) out
       by_order (inr out) = later t firsts left set p.g p.a none e count first p.in_ys p.in_xs (λ same. are.differ p.a p.g p.pair (sym same)) out
 
-  last-within : (most : ℕ) (set : List ℕ) → weight (length t.rows) set ≤ most → IsAscending set → IsLogicalError t set → length set ≡ left + 1 → HasBefore firsts set
-      → Last t pairs firsts left
-  last-within zero set le a e count first =
+  -- the last of the least sets has no pair that is left out
+  pub last-unpaired : (set : List ℕ) → IsLastSet (record { table = t; firsts = firsts }) (left + 1) set → Unpaired pairs set set
+  last-unpaired set l =
       elim (paired pairs set set) [
-        | inl unpaired ↦ record { set = set; begun = first; ascending = a; logical = e; count = count; unpaired = unpaired }
-        | inr p ↦ absurd (let less = (after set e count first p).less in omega arith)
+        | inl unpaired ↦ unpaired
+        | inr p ↦
+            let next = after set l.is.logical l.is.count l.is.begun p in
+            let later = l.last next.next (record { ascending = next.ascending; logical = next.logical; count = next.count; begun = next.begun }) in
+            absurd (omega (arith, next.less, later))
       ]
-  last-within (suc most) set le a e count first =
-      elim (paired pairs set set) [
-        | inl unpaired ↦ record { set = set; begun = first; ascending = a; logical = e; count = count; unpaired = unpaired }
-        | inr p ↦ let l = after set e count first p in let less = l.less in last-within most l.next (omega arith) l.ascending l.logical l.count l.begun
-      ]
-
-  pub last-set : (set : List ℕ) → IsAscending set → IsLogicalError t set → length set ≡ left + 1 → HasBefore firsts set → Last t pairs firsts left
-  last-set set a e count first = last-within (weight (length t.rows) set) set (omega arith) a e count first

@@ -1,4 +1,4 @@
--- Tellings: what is heard of one part of a search after another.
+-- Reports: what is heard of one step of a search after another.
 use Rattle.stab_distance.proofs.Names.{◌≡◌, ℕ, suc, ◌+◌, sym, ◌∙◌, ap, subst, arith, inl, inr, List, [], ◌∷◌, ◌++◌, append_assoc, Option, Some, Result, Ok, Err, IfOk, IsErrAnd, Heard, begins, none_within, Hears, up_to, IsExcludedBy, ReportsSearch, HearsOn, ReportsSizes, ReportsAnswer, Answer, Least, NoneWithin, Vec, None, ◌<◌, ◌≤◌, ◌⊎◌, length, min, cases_lt, ErrorTable, IsLogicalError, HasNoneWithin, HasSome}
 use Rattle.stab_distance.proofs.ShortestLemmas.{none-up_to}
 
@@ -98,23 +98,3 @@ reported-failed E F P t from end most old new r failed reports is = record {
 pub reported-table : (E F : Type 0) (t part : ErrorTable) (from most : ℕ) (old new : Option (List Heard)) (r : Result Answer E) (answer : Result Answer F)
     → ((k : ℕ) → HasNoneWithin part k → HasNoneWithin t k) → (reports : ReportsAnswer part from most old new r) → IfOk answer (λ a. IsExcludedBy most a reports.last) → ReportsAnswer t from most old new answer
 reported-table E F t part from most old new r answer none reports all = record { last = reports.last; none = none reports.last reports.none; heard = reports.heard; all = all }
-
--- a search that goes on after the first sizes
-pub reported-after : (E F : Type 0) (t part : ErrorTable) (first most : ℕ) (old now new : Option (List Heard)) (r : Result Answer F) → ReportsSizes {E = E} part 0 first old now (Ok None)
-    → ReportsAnswer t first most now new r → ReportsAnswer t 0 most old new r
-reported-after E F t part first most old now new r before after = record {
-  last = after.last;
-  none = after.none;
-  heard = λ f said had. after.heard f said (subst (λ k. Hears f now (said ++ up_to k)) before.all (before.heard f said had));
-  all = after.all;
-}
-
--- and one that ends with them
-pub reported-early : (E F : Type 0) (P : F → Type 0) (t part : ErrorTable) (first most : ℕ) (old now : Option (List Heard)) (sizes : Result (Option (Vec ℕ)) E) (r : Result Answer F)
-    → ((k : ℕ) → HasNoneWithin part k → HasNoneWithin t k) → ReportsSizes part 0 first old now sizes → IsErrAnd r P → ReportsAnswer t 0 most old now r
-reported-early E F P t part first most old now sizes r none reports is = record {
-  last = reports.last;
-  none = none reports.last reports.none;
-  heard = reports.heard;
-  all = ok-of_err Answer F P (λ a. IsExcludedBy most a reports.last) r is;
-}

@@ -86,7 +86,7 @@ shortest t most left found lt none is = record {
 
 -- how many errors a set has
 
-bounded : (m n : ℕ) (set : List ℕ) → m ≤ n → AscendsFrom m set → Each (λ r. r < n) set → m + length set ≤ n
+pub bounded : (m n : ℕ) (set : List ℕ) → m ≤ n → AscendsFrom m set → Each (λ r. r < n) set → m + length set ≤ n
 bounded m n [] le a i = omega arith
 bounded m n (x ∷ xs) le a i =
     let here = a.0 in

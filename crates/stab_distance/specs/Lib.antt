@@ -4,4 +4,7 @@ pub mod LogicalErrors
 pub mod Counts
 pub mod Graphlike
 pub mod Progress
+pub mod PartNumbers
 pub mod inner
+pub mod SearchParts
+pub mod PartSets

@@ -22,7 +22,7 @@ pub fn has_bound(alloc: Global, graph: &Graph, bound: usize) -> Result<bool, All
     Ok(true)
 }
 
-/// Whether they show that for those that flip an observable.
+/// Whether labels show that each logical error that flips observable `o` has at least this many rows.
 fn has_bound_for(alloc: Global, graph: &Graph, o: usize, bound: usize) -> Result<bool, AllocError>
     ensures yes { IfOk result (λ b. b ≡ true → HasAtLeast graph.now.table o bound) }
 {
@@ -52,7 +52,7 @@ fn are_far(
     Ok(true)
 }
 
-/// Whether labels from this node do, if it is a source.
+/// Whether labels from this node show that an odd cycle through it has at least this many edges; true if it is no source.
 fn is_far(
     alloc: Global,
     graph: &Graph,

@@ -7,13 +7,12 @@ ghost use Rattle.stab_distance.specs.inner.Indexes.{listed};
 ghost use Rattle.stab_distance.specs.inner.Lists.{Each, has};
 ghost use Rattle.stab_distance.specs.Tables.{odd, row};
 
+use crate::covers::{covering, is_covering, seldom, set_zero, take_covering};
 use crate::errors::Errors;
 use std::alloc::{AllocError, Global};
 
-/// The number of candidates for which memory is had at once.
-const USUAL_SIZE: usize = 32;
-
-/// With how many errors left all that flip one detector are taken: their keys say which of them one more completes, in less time than a cover.
+/// With this many errors left, all that flip one detector are taken: to look up by keys which of them one more error completes takes less
+/// time than to count what each flips.
 const PLAIN: usize = 2;
 
 /// Errors of which each set of `left` errors has one that completes those chosen. `cover` is scratch, 0 between calls.
@@ -45,10 +44,10 @@ pub fn candidates(
     }
     count(errors, first, detectors, cover);
     leave_out(errors, path, cover);
-    let rarest = errors.flipping(rarest(errors, first, detectors, cover));
-    let by_rarest = live(alloc, rarest, first, cover)?;
+    let rarest = errors.flipping(rarest(errors, detectors, cover));
+    let by_rarest = live(alloc, rarest, cover)?;
     let least = (detectors.len() - 1) / left + 1;
-    let by_cover = covering(alloc, errors, first, detectors, least, cover)?;
+    let by_cover = covering(alloc, errors, detectors, least, cover)?;
     if by_rarest.len() < by_cover.len() {
         Ok(by_rarest)
     } else {
@@ -110,65 +109,31 @@ fn clear(rows: &[usize], cover: &mut [usize])
     }
 }
 
-fn set_zero(r: usize, cover: &mut [usize])
-    ensures others { (e : ℕ) → r ≢ e → slice_index cover.new e ≡ slice_index cover.old e }
-    ensures length { length cover.new ≡ length cover.old }
-{
-    if r < cover.len() {
-        cover[r] = 0;
-    }
-}
-
-/// The detector that the fewest errors flip.
-fn seldom(errors: &Errors, detectors: &[u32]) -> u32
-    requires some { 0 < length detectors.now }
-    ensures among { has result detectors.now ≡ true }
-{
-    let mut best = detectors[0];
-    let mut fewest = usize::MAX;
-    for d in detectors {
-        let count = errors.flipping(*d).len();
-        if count < fewest {
-            best = *d;
-            fewest = count;
-        }
-    }
-    best
-}
-
 /// The detector that the fewest errors flip that may be tried.
-fn rarest(errors: &Errors, first: usize, detectors: &[u32], cover: &[usize]) -> u32
+fn rarest(errors: &Errors, detectors: &[u32], cover: &[usize]) -> u32
     requires some { 0 < length detectors.now }
     ensures among { has result detectors.now ≡ true }
 {
     let mut best = detectors[0];
     let mut fewest = usize::MAX;
     for d in detectors {
-        let count = live_count(errors.flipping(*d), first, cover, fewest);
+        let count = live_count(errors.flipping(*d), cover, fewest);
         if count < fewest {
             best = *d;
             fewest = count;
         }
     }
     best
-}
-
-/// Whether error r may be tried, and flips at least this many of the detectors.
-fn is_live(r: usize, first: usize, least: usize, cover: &[usize]) -> bool
-    ensures live { first < r → r < length cover.now → least ≤ slice_index cover.now r → result ≡ true }
-    ensures inside { result ≡ true → r < length cover.now }
-{
-    r > first && r < cover.len() && cover[r] >= least
 }
 
 /// How many of these errors may be tried, if that is fewer than `end`.
-fn live_count(rows: &[usize], first: usize, cover: &[usize], end: usize) -> usize {
+fn live_count(rows: &[usize], cover: &[usize], end: usize) -> usize {
     let mut count: usize = 0;
     for r in rows {
         if count >= end {
             break;
         }
-        if is_live(*r, first, 1, cover) {
+        if is_covering(*r, 1, cover) {
             count = count.saturating_add(1);
         }
     }
@@ -176,77 +141,13 @@ fn live_count(rows: &[usize], first: usize, cover: &[usize], end: usize) -> usiz
 }
 
 /// Those of these errors that may be tried.
-fn live(
-    alloc: Global,
-    rows: &[usize],
-    first: usize,
-    cover: &[usize],
-) -> Result<Vec<usize>, AllocError>
+fn live(alloc: Global, rows: &[usize], cover: &[usize]) -> Result<Vec<usize>, AllocError>
     ensures inside { IfOk result (λ v. Each (λ r. r < length cover.now) v.items) }
-    ensures all { IfOk result (λ v. (e : ℕ) → has e rows.now ≡ true → first < e → e < length cover.now → 1 ≤ slice_index cover.now e → has e v.items ≡ true) }
+    ensures all { IfOk result (λ v. (e : ℕ) → has e rows.now ≡ true → e < length cover.now → 1 ≤ slice_index cover.now e → has e v.items ≡ true) }
 {
     let mut found = Vec::with_capacity(alloc, rows.len())?;
     for r in rows {
-        take_live(*r, first, 1, cover, &mut found)?;
+        take_covering(*r, 1, cover, &mut found)?;
     }
     Ok(found)
-}
-
-/// The errors that may be tried and flip at least this many of the detectors. `cover` is 0 then.
-fn covering(
-    alloc: Global,
-    errors: &Errors,
-    first: usize,
-    detectors: &[u32],
-    least: usize,
-    cover: &mut [usize],
-) -> Result<Vec<usize>, AllocError>
-    ensures inside { IfOk result (λ v. Each (λ r. r < length cover.old) v.items) }
-    ensures all { IfOk result (λ v. (e d : ℕ) → e < length cover.old → first < e → least ≤ slice_index cover.old e → has d detectors.now ≡ true → e < length errors.now.table.rows → odd d (row errors.now.table.rows e) ≡ true → has e v.items ≡ true) }
-    ensures length { length cover.new ≡ length cover.old }
-{
-    let mut found = Vec::with_capacity(alloc, USUAL_SIZE)?;
-    for d in detectors {
-        take(errors.flipping(*d), first, least, cover, &mut found)?;
-    }
-    Ok(found)
-}
-
-/// Takes those of these errors that may be tried and flip at least this many of the detectors, and sets all of them to 0.
-fn take(
-    rows: &[usize],
-    first: usize,
-    least: usize,
-    cover: &mut [usize],
-    found: &mut Vec<usize>,
-) -> Result<(), AllocError>
-    ensures inside { OnOk result ((n : ℕ) → length cover.old ≤ n → Each (λ r. r < n) found.old.items → Each (λ r. r < n) found.new.items) }
-    ensures kept { OnOk result ((e : ℕ) → has e found.old.items ≡ true → has e found.new.items ≡ true) }
-    ensures taken { OnOk result ((e : ℕ) → e < length cover.old → first < e → least ≤ slice_index cover.old e → has e rows.now ≡ true → has e found.new.items ≡ true) }
-    ensures others { OnOk result ((e : ℕ) → has e rows.now ≡ false → slice_index cover.new e ≡ slice_index cover.old e) }
-    ensures length { length cover.new ≡ length cover.old }
-{
-    for r in rows {
-        take_live(*r, first, least, cover, found)?;
-        set_zero(*r, cover);
-    }
-    Ok(())
-}
-
-/// Takes error r if it may be tried and flips at least this many of the detectors.
-fn take_live(
-    r: usize,
-    first: usize,
-    least: usize,
-    cover: &[usize],
-    found: &mut Vec<usize>,
-) -> Result<(), AllocError>
-    ensures inside { OnOk result ((n : ℕ) → length cover.now ≤ n → Each (λ r. r < n) found.old.items → Each (λ r. r < n) found.new.items) }
-    ensures kept { OnOk result ((e : ℕ) → has e found.old.items ≡ true → has e found.new.items ≡ true) }
-    ensures taken { OnOk result (first < r → r < length cover.now → least ≤ slice_index cover.now r → has r found.new.items ≡ true) }
-{
-    if is_live(r, first, least, cover) {
-        found.push(r)?;
-    }
-    Ok(())
 }

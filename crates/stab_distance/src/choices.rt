@@ -1,4 +1,4 @@
-//! Errors of which each set that completes those chosen has one, if only errors with a weight are in it: few are tried where few are enough.
+//! Errors of which each set of errors with weights that completes those chosen has one: few are tried where few are enough.
 
 ghost use Rattle.std.specs.Prelude.{◌≡◌, ◌≢◌, ℕ, ◌+◌, ◌-◌, ◌<◌, ◌≤◌, true, false, length, slice_index, IfOk, OnOk, ◌^◌};
 ghost use Rattle.stab_distance.specs.Ascending.{IsAscending};
@@ -8,15 +8,13 @@ ghost use Rattle.stab_distance.specs.inner.Errors.{key_of};
 ghost use Rattle.stab_distance.specs.inner.Lists.{Each, has};
 ghost use Rattle.stab_distance.specs.inner.Ways.{MeetsEach};
 
+use crate::covers::{covering, seldom};
 use crate::errors::Errors;
 use std::alloc::{AllocError, Global};
 
-/// The number of choices for which memory is had at once.
-const USUAL_SIZE: usize = 32;
-
-/// Errors of which each set of `left` errors with weights has one that completes those chosen. `cover` is scratch, 0 between calls.
+/// Errors of which each set of `left` errors with weights that completes those chosen has one. `cover` is scratch, 0 between calls.
 ///
-/// They are all with the key of what is flipped, if one is left; all that flip one detector; or all that flip many: of `left` errors that
+/// They are all that have the key of what is flipped, if one is left; all that flip one detector; or all that flip many: of `left` errors that
 /// flip N detectors back, one flips N / `left` of them.
 pub fn choices(
     alloc: Global,
@@ -43,7 +41,7 @@ pub fn choices(
         return Ok(last);
     }
     let detectors = errors.detectors_of(flipped);
-    let rarest = errors.flipping(rarest(errors, detectors));
+    let rarest = errors.flipping(seldom(errors, detectors));
     let by_rarest = live(alloc, rarest, weights)?;
     if left == 2 {
         return Ok(by_rarest);
@@ -100,23 +98,6 @@ fn is_live(r: usize, weights: &[u64]) -> bool
     r < weights.len() && weights[r] > 0
 }
 
-/// The detector that the fewest errors flip.
-fn rarest(errors: &Errors, detectors: &[u32]) -> u32
-    requires some { 0 < length detectors.now }
-    ensures among { has result detectors.now ≡ true }
-{
-    let mut best = detectors[0];
-    let mut fewest = usize::MAX;
-    for d in detectors {
-        let count = errors.flipping(*d).len();
-        if count < fewest {
-            best = *d;
-            fewest = count;
-        }
-    }
-    best
-}
-
 /// Those of these errors that have a weight.
 fn live(alloc: Global, rows: &[usize], weights: &[u64]) -> Result<Vec<usize>, AllocError>
     ensures inside { IfOk result (λ v. Each (λ r. r < length weights.now) v.items) }
@@ -139,77 +120,4 @@ fn take_live(r: usize, weights: &[u64], found: &mut Vec<usize>) -> Result<(), Al
         found.push(r)?;
     }
     Ok(())
-}
-
-/// The errors that flip at least this many of the detectors. `cover` is 0 then.
-fn covering(
-    alloc: Global,
-    errors: &Errors,
-    detectors: &[u32],
-    least: usize,
-    cover: &mut [usize],
-) -> Result<Vec<usize>, AllocError>
-    ensures inside { IfOk result (λ v. Each (λ r. r < length cover.old) v.items) }
-    ensures all { IfOk result (λ v. (e d : ℕ) → e < length cover.old → least ≤ slice_index cover.old e → has d detectors.now ≡ true → e < length errors.now.table.rows → odd d (row errors.now.table.rows e) ≡ true → has e v.items ≡ true) }
-    ensures length { length cover.new ≡ length cover.old }
-{
-    let mut found = Vec::with_capacity(alloc, USUAL_SIZE)?;
-    for d in detectors {
-        take(errors.flipping(*d), least, cover, &mut found)?;
-    }
-    Ok(found)
-}
-
-/// Takes those of these errors that flip at least this many of the detectors, and sets all of them to 0.
-fn take(
-    rows: &[usize],
-    least: usize,
-    cover: &mut [usize],
-    found: &mut Vec<usize>,
-) -> Result<(), AllocError>
-    ensures inside { OnOk result ((n : ℕ) → length cover.old ≤ n → Each (λ r. r < n) found.old.items → Each (λ r. r < n) found.new.items) }
-    ensures kept { OnOk result ((e : ℕ) → has e found.old.items ≡ true → has e found.new.items ≡ true) }
-    ensures taken { OnOk result ((e : ℕ) → e < length cover.old → least ≤ slice_index cover.old e → has e rows.now ≡ true → has e found.new.items ≡ true) }
-    ensures others { OnOk result ((e : ℕ) → has e rows.now ≡ false → slice_index cover.new e ≡ slice_index cover.old e) }
-    ensures length { length cover.new ≡ length cover.old }
-{
-    for r in rows {
-        take_covering(*r, least, cover, found)?;
-        set_zero(*r, cover);
-    }
-    Ok(())
-}
-
-/// Takes error r if it flips at least this many of the detectors.
-fn take_covering(
-    r: usize,
-    least: usize,
-    cover: &[usize],
-    found: &mut Vec<usize>,
-) -> Result<(), AllocError>
-    ensures inside { OnOk result ((n : ℕ) → length cover.now ≤ n → Each (λ r. r < n) found.old.items → Each (λ r. r < n) found.new.items) }
-    ensures kept { OnOk result ((e : ℕ) → has e found.old.items ≡ true → has e found.new.items ≡ true) }
-    ensures taken { OnOk result (r < length cover.now → least ≤ slice_index cover.now r → has r found.new.items ≡ true) }
-{
-    if is_covering(r, least, cover) {
-        found.push(r)?;
-    }
-    Ok(())
-}
-
-/// Whether error r flips at least this many of the detectors.
-fn is_covering(r: usize, least: usize, cover: &[usize]) -> bool
-    ensures yes { r < length cover.now → least ≤ slice_index cover.now r → result ≡ true }
-    ensures inside { result ≡ true → r < length cover.now }
-{
-    r < cover.len() && cover[r] >= least
-}
-
-fn set_zero(r: usize, cover: &mut [usize])
-    ensures others { (e : ℕ) → r ≢ e → slice_index cover.new e ≡ slice_index cover.old e }
-    ensures length { length cover.new ≡ length cover.old }
-{
-    if r < cover.len() {
-        cover[r] = 0;
-    }
 }

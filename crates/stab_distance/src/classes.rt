@@ -8,7 +8,8 @@ use std::alloc::{AllocError, Global};
 
 /// The class of each detector. Those of class 0 can be ignored, as no error of them alone flips an observable.
 ///
-/// They are those that chains of errors connect, if errors are left out that flip together what two others do.
+/// Two detectors have one class if a chain of errors connects them, each error with a detector of the next. Errors whose detectors are those
+/// of two others do not count.
 pub(crate) fn classes_of(alloc: Global, errors: &Errors) -> Result<Vec<usize>, AllocError> {
     let joined = joined_by(alloc, errors)?;
     let observed = observed_by(alloc, errors, &joined)?;
@@ -53,7 +54,7 @@ pub(crate) fn class_at(classes: &[usize], d: u32) -> usize
     if d < classes.len() { classes[d] } else { 0 }
 }
 
-/// The errors that flip the parts of each class of what an error flips, in the order of the classes; as far as keys say.
+/// For each class the error that flips what an error flips of that class, in the order of the classes. They are found by keys alone.
 pub(crate) fn parts_of(
     alloc: Global,
     errors: &Errors,

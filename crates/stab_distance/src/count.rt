@@ -14,8 +14,8 @@ use std::alloc::{AllocError, Global};
 
 /// How many sets of `size` errors are a logical error, if no logical error has fewer; `None` if the number takes more than 64 bits.
 ///
-/// Errors that flip the same are tried once. The time grows with the sets of different rows, and no pair is left out, as a search for one
-/// set does.
+/// Errors that flip the same are tried once. The time grows with the number of sets of different rows: unlike a search for one set, it leaves
+/// out no pair.
 ///
 /// The only refusal is `OutOfMemory`.
 pub fn count_least(alloc: Global, table: &Table, size: usize) -> Result<Option<u64>, Refusal>

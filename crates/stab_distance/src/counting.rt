@@ -50,7 +50,7 @@ pub fn ways(
     Ok(sum)
 }
 
-/// The ways with one of these errors and `rest` others. The weights of these errors are 0 then.
+/// The ways with one of these errors and `rest` others. It leaves the weights of these errors at 0.
 #[cycle(ways)]
 pub fn try_each(
     alloc: Global,
@@ -86,7 +86,7 @@ pub fn try_each(
     Ok(sum)
 }
 
-/// The ways with error g and `rest` others. Its weight is 0 then. What is flipped after it is written to `next`.
+/// The ways with error g and `rest` others. It leaves the weight of g at 0. What is flipped after g is written to `next`.
 #[cycle(ways)]
 fn try_error(
     alloc: Global,

@@ -102,7 +102,7 @@ fn sorted(alloc: Global, rows: &[Row]) -> Result<Vec<usize>, AllocError> {
     Ok(order)
 }
 
-/// The first numbers of a row, each one more than it is.
+/// The first four numbers of a row, each one more than it is, and 0 for those that it lacks.
 fn start_of(numbers: &[u32]) -> [u32; 4] {
     let mut start = [0; 4];
     for k in 0..4 {

@@ -19,7 +19,7 @@ pub struct Echelon {
     end: usize,
 }
 
-/// A row after pivots before it were added, and its number before that.
+/// What is left of a row once earlier pivots were added to it, and the row's number.
 #[derive(Drop)]
 struct Pivot {
     words: Vec<u64>,

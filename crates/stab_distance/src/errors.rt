@@ -42,7 +42,7 @@ impl Model for Errors {
 
     ghost Value = { Keyed };
 
-    ghost view = { λ e. record { table = record { detectors = e.detectors; rows = e.rows.items }; numbers = e.numbers.items; pairs = e.pairs.items } };
+    ghost view = { λ e. record { table = record { detectors = e.detectors; rows = e.rows.items }; firsts = e.firsts; numbers = e.numbers.items; pairs = e.pairs.items } };
 
     ghost invariant = { λ e. IsReady e.detectors e.rows.items e.numbers.items e.keys e.index.items e.pairs.items e.firsts };
 }
@@ -178,6 +178,7 @@ impl Errors {
     /// Finds pairs of errors that need not be tried together. It takes memory for each two errors that flip a common detector.
     pub fn leave_out_pairs(&mut self, alloc: Global) -> Result<(), AllocError>
         ensures table { self.new.table ≡ self.old.table }
+        ensures firsts { self.new.firsts ≡ self.old.firsts }
         ensures numbers { self.new.numbers ≡ self.old.numbers }
     {
         self.pairs = pairs_of(
@@ -190,8 +191,9 @@ impl Errors {
         Ok(())
     }
 
-    /// How many errors can be the first of a set: a shortest logical error, if there is one, is one that has one of these.
+    /// How many errors can be the first of a set: if there is a logical error, some shortest one has one of these.
     pub fn firsts(&self) -> usize
+        ensures value { result ≡ self.now.firsts }
         ensures within { result ≤ length self.now.table.rows }
         ensures begun { BeginsBefore self.now.table result }
         ensures pairs { ArePairs self.now.table.rows result self.now.pairs }
@@ -199,7 +201,8 @@ impl Errors {
         self.firsts
     }
 
-    /// Lets only the errors before this number be first, if all others move down by a step. Pairs that were left out are forgotten.
+    /// Lets only the errors before this number be first, if a step moves down each of the others (`steps`). Forgets which pairs were left
+    /// out.
     pub fn begin_before(&mut self, firsts: usize, step: usize)
         ensures table { self.new.table ≡ self.old.table }
         ensures numbers { self.new.numbers ≡ self.old.numbers }

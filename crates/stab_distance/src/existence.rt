@@ -10,8 +10,8 @@ use crate::row::{Row, end_of_rows};
 use crate::sizes::shortest;
 use std::alloc::{AllocError, Global};
 
-/// Whether there is a logical error, of any size. Elimination says; what it finds is checked, and if the check failed, all sizes would be
-/// searched.
+/// Whether there is a logical error, of any size. Elimination finds one, or shows that there is none. What it finds is checked; if a check
+/// failed, all sizes would be searched.
 pub fn has_logical_error(alloc: Global, errors: &Errors) -> Result<bool, AllocError>
     ensures decides { IfOk result (Decides errors.now.table) }
 {

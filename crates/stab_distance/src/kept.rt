@@ -1,17 +1,21 @@
-//! Errors that are enough: if the part of each error in each class of detectors is an error, those of one class each are.
-ghost use Rattle.std.specs.Prelude.{◌≡◌, ◌≢◌, ℕ, ◌<◌, true, false, List, length, map, slice_index, IfOk, OnOk};
+//! Errors that are enough: if for each error and each class of detectors another error flips just what it flips of that class, those errors
+//! are enough that flip detectors of one class.
+ghost use Rattle.std.specs.Prelude.{◌≡◌, ◌≢◌, ℕ, ◌<◌, true, false, List, length, map, slice_index, IfOk, IfErr, OnOk};
+ghost use Rattle.stab_io.specs.declared.refusal.Refusal.TheVariants.{OutOfMemory};
 ghost use Rattle.stab_distance.specs.Ascending.{IsAscending};
 ghost use Rattle.stab_distance.specs.Tables.{ErrorTable, odd, row};
 ghost use Rattle.stab_distance.specs.inner.Classes.{class_of, AreOfClass, HaveClasses, Counts, AreParts, Splits, AreEnough, StandFor};
 ghost use Rattle.stab_distance.specs.inner.Errors.{AreRowsOf};
 
 use crate::classes::{class_at, classes_of, parts_of};
-use crate::distinct::{Distinct, rows_in_order};
+use crate::distinct::{Distinct, distinct_rows, rows_in_order};
 use crate::errors::Errors;
 use crate::logical::flipped_by;
 use crate::merging::merge_into;
 use crate::renumbering::number_anew;
 use crate::steps::{find_step, order_by};
+use crate::table::Table;
+use stab_io::Refusal;
 use std::alloc::{AllocError, Global};
 
 /// Errors that are enough, and their numbers in a table.
@@ -21,8 +25,20 @@ pub struct Kept {
     pub numbers: Vec<usize>,
 }
 
+/// The errors of a table that are enough.
+///
+/// The only refusal is `OutOfMemory`.
+pub fn enough_of(alloc: Global, table: &Table) -> Result<Kept, Refusal>
+    ensures stand { IfOk result (λ k. StandFor table.now k.errors.table k.numbers.items) }
+    ensures refusal { IfErr result (λ e. e ≡ OutOfMemory) }
+{
+    let distinct = distinct_rows(alloc, table)?;
+    let errors = Errors::new(alloc, table.detectors(), distinct.rows)?;
+    Ok(keep_enough(alloc, errors, distinct.numbers)?)
+}
+
 /// Errors that are enough, in an order in which few can be first.
-pub fn keep_enough(alloc: Global, errors: Errors, numbers: Vec<usize>) -> Result<Kept, AllocError>
+fn keep_enough(alloc: Global, errors: Errors, numbers: Vec<usize>) -> Result<Kept, AllocError>
     ensures stand { IfOk result (λ k. (t : ErrorTable) → AreEnough t errors.table numbers.items → StandFor t k.errors.table k.numbers.items) }
 {
     let kept = keep_one_class(alloc, errors, numbers)?;
@@ -189,7 +205,7 @@ fn all_split(
     Ok(true)
 }
 
-/// Whether these errors flip together what counts of these numbers, and have different classes.
+/// Whether these errors flip together the observables among these numbers and the detectors that are not ignored, and have different classes.
 fn are_parts(
     alloc: Global,
     kept: &Errors,

@@ -84,7 +84,7 @@ impl Keys {
     }
 }
 
-/// The least number of places for each row, if there are not many.
+/// How many places there are at least for each row, if there are few rows.
 const PLACES: u64 = 4;
 
 /// With more places than this there is one for each row, as each takes memory.

@@ -1,28 +1,23 @@
-ghost use Rattle.std.specs.Prelude.{◌≡◌, ◌≤◌, length, IfOk, IfErr};
+ghost use Rattle.std.specs.Prelude.{◌≡◌, length, IfOk, IfErr};
 ghost use Rattle.stab_io.specs.declared.refusal.Refusal.TheVariants.{OutOfMemory};
 ghost use Rattle.stab_distance.specs.LogicalErrors.{IsAnswer, HasNoneWithin};
 ghost use Rattle.stab_distance.specs.Progress.{ReportsSearch};
-ghost use Rattle.stab_distance.specs.inner.Classes.{StandFor};
 ghost use Rattle.stab_distance.specs.inner.Shortest.{IsFound};
 ghost use Rattle.stab_distance.specs.inner.ReportedProgress.{ReportsAnswer};
 
 use crate::answer::{Answer, Progress};
-use crate::distinct::distinct_rows;
 use crate::errors::Errors;
 use crate::existence::has_logical_error;
-use crate::kept::{Kept, keep_enough};
+use crate::kept::enough_of;
 use crate::sets::set_of;
 use crate::sizes::{shortest, shortest_without_pairs};
 use crate::table::Table;
 use stab_io::Refusal;
 use std::alloc::{AllocError, Global};
 
-/// The sizes that are searched of all errors, before those are kept that are enough.
-const FIRST_SIZES: usize = 2;
-
-/// The sizes that are searched before elimination shows whether there is a logical error at all, and pairs are left out: these take less
-/// time and memory.
-const PLAIN_SIZES: usize = 3;
+/// Up to how many errors are searched for before elimination shows whether there is a logical error at all, and before pairs are left out:
+/// so few take less time and memory than these two do.
+pub(crate) const PLAIN_SIZES: usize = 3;
 
 /// The least logical error of a table, if it has at most `most` errors.
 ///
@@ -46,7 +41,7 @@ pub fn least_logical_error<P: Progress>(
     least_of(alloc, table, most, progress)
 }
 
-/// The same, after `progress` heard of the number of errors.
+/// What `least_logical_error` answers, once `progress` has heard of the number of errors.
 pub fn least_of<P: Progress>(
     alloc: Global,
     table: &Table,
@@ -57,38 +52,9 @@ pub fn least_of<P: Progress>(
     ensures refusal { IfErr result (λ e. e ≡ OutOfMemory) }
     ensures reported { ReportsAnswer table.now 0 most (P.heard progress.old) (P.heard progress.new) result }
 {
-    let distinct = distinct_rows(alloc, table)?;
-    let errors = Errors::new(alloc, table.detectors(), distinct.rows)?;
-    let first = most.min(FIRST_SIZES);
-    match shortest(alloc, &errors, 0, first, progress)? {
-        Some(found) => {
-            let set = set_of(alloc, found.as_slice(), distinct.numbers.as_slice())?;
-            return Ok(Answer::Least(set));
-        }
-        None => {}
-    }
-    let kept = keep_enough(alloc, errors, distinct.numbers)?;
-    least_of_kept(alloc, table, kept, first, most, progress)
-}
-
-/// The same of errors that are enough, if none has up to `from`.
-fn least_of_kept<P: Progress>(
-    alloc: Global,
-    table: &Table,
-    kept: Kept,
-    from: usize,
-    most: usize,
-    progress: &mut P,
-) -> Result<Answer, Refusal>
-    requires order { from ≤ most }
-    requires stand { StandFor table.now kept.errors.table kept.numbers.items }
-    requires none { HasNoneWithin table.now from }
-    ensures answer { IfOk result (IsAnswer table.now most) }
-    ensures refusal { IfErr result (λ e. e ≡ OutOfMemory) }
-    ensures reported { ReportsAnswer table.now from most (P.heard progress.old) (P.heard progress.new) result }
-{
+    let kept = enough_of(alloc, table)?;
     let mut errors = kept.errors;
-    match find(alloc, &mut errors, from, most, progress)? {
+    match find(alloc, &mut errors, most, progress)? {
         Answer::Least(found) => {
             let set = set_of(alloc, found.as_slice(), kept.numbers.as_slice())?;
             Ok(Answer::Least(set))
@@ -98,22 +64,19 @@ fn least_of_kept<P: Progress>(
     }
 }
 
-/// The same of errors that are enough, by their own numbers, in any order. None has up to `from`.
+/// The answer for these errors alone, by their own numbers and in any order.
 fn find<P: Progress>(
     alloc: Global,
     errors: &mut Errors,
-    from: usize,
     most: usize,
     progress: &mut P,
 ) -> Result<Answer, AllocError>
-    requires order { from ≤ most }
-    requires none { HasNoneWithin errors.old.table from }
     ensures found { IfOk result (IsFound errors.old.table most) }
-    ensures reported { ReportsAnswer errors.old.table from most (P.heard progress.old) (P.heard progress.new) result }
+    ensures reported { ReportsAnswer errors.old.table 0 most (P.heard progress.old) (P.heard progress.new) result }
 {
-    let end = from.max(most.min(errors.len()));
-    let first = from.max(end.min(PLAIN_SIZES));
-    match shortest(alloc, errors, from, first, progress)? {
+    let end = most.min(errors.len());
+    let first = end.min(PLAIN_SIZES);
+    match shortest(alloc, errors, 0, first, progress)? {
         Some(found) => return Ok(Answer::Least(found)),
         None => {}
     }

@@ -4,8 +4,8 @@
 //! - `least`: the call. `distinct`: errors that flip the same count once. `kept`: errors that are enough, of one of the `classes` of detectors
 //!   each. `renumbering`: these by other numbers of detectors. `sets`: what is found, in order.
 //! - `sizes`: one error is tried, then two, and so on. `searching`: the search itself. `merging`: what errors flip together.
-//! - `steps`: which errors can be the first of a set. `errors`: the errors ready for a search. `index`, `keys`: which errors to try. `candidates`: of which each set has one. `pairs`: which are never
-//!   tried together.
+//! - `errors`: the errors ready for a search. `steps`: which of them can be the first of a set. `index`, `keys`: which errors to try.
+//!   `candidates`: of which each set has one. `covers`: which flip many detectors. `pairs`: which are never tried together.
 //! - `existence`: whether there is a logical error at all. `elimination` finds one, or a `certificate` that there is none; `logical`:
 //!   the check of what was found.
 //! - `graphlike`: the call for only those errors that flip at most two detectors. `parts`: these errors of a table.
@@ -13,14 +13,16 @@
 //!   prove.
 //! - `count`: the call for how many least logical errors there are. `groups`: rows with the number of errors that have each. `counting`: the
 //!   search that counts. `choices`: which errors it tries.
-//! - `laws`: each table has an answer.
+//! - `part_search`: the call for what one part of a search finds. `search_part`: parts, and their answers. `digest`: of what is searched.
+//! - `laws`: each table has an answer; all parts of a search are the whole search.
 //!
 //! Source: C. Gidney, Stim: a fast stabilizer circuit simulator (2021), for detectors, observables and tables of
 //! errors.
 //!
 //! Proved: the answer is as `specs/LogicalErrors.antt` says: a shortest logical error, or that each one has more
 //! errors than asked for, or that none exists; and the same of errors that flip at most two detectors
-//! (`specs/Graphlike.antt`). The count is that of `specs/Counts.antt`.
+//! (`specs/Graphlike.antt`). The count is that of `specs/Counts.antt`. If all parts find nothing, there is nothing
+//! (`specs/SearchParts.antt`).
 #![tactic(auto)]
 
 mod answer;
@@ -31,7 +33,9 @@ mod choices;
 mod classes;
 mod count;
 mod counting;
+mod covers;
 mod cycles;
+mod digest;
 mod distinct;
 mod edges;
 mod elimination;
@@ -49,9 +53,11 @@ mod least;
 mod logical;
 mod merging;
 mod pairs;
+mod part_search;
 mod parts;
 mod renumbering;
 mod row;
+mod search_part;
 mod searching;
 mod sets;
 mod sizes;
@@ -65,4 +71,6 @@ pub use edges::is_graphlike;
 pub use graphlike::least_graphlike_error;
 pub use least::least_logical_error;
 pub use merging::merge_into;
+pub use part_search::least_in_part;
+pub use search_part::{PartAnswer, SearchPart};
 pub use table::Table;

@@ -94,7 +94,7 @@ fn are_inverse(detectors: usize, places: &[u32], olds: &[u32]) -> bool
         && undoes(olds, places)
 }
 
-/// Whether each place of the first list is found again by what it has, in the second.
+/// Whether each number of the first list is a place of the second, which has the number's own place there.
 fn undoes(first: &[u32], second: &[u32]) -> bool
     ensures yes { result ≡ true → Undoes first.now second.now }
 {

@@ -9,7 +9,8 @@ use crate::errors::Errors;
 use crate::merging::merge_into;
 use std::alloc::{AllocError, Global};
 
-/// Errors after the first one, at most `left`, that end the search from what is flipped. `path` has those chosen, and `cover` is scratch.
+/// At most `left` errors that complete those chosen, which flip `flipped` together, to a logical error. `first` is the first of those chosen,
+/// and `path` has all of them; `cover` is scratch.
 #[cycle(search)]
 pub fn search(
     alloc: Global,
@@ -23,10 +24,9 @@ pub fn search(
 ) -> Result<Option<Vec<usize>>, AllocError>
     requires ascending { IsAscending flipped.now }
     requires key { key ≡ key_of errors.now.numbers flipped.now }
-    requires none { HasNoneWithin errors.now.table left }
     requires cover { length cover.old ≡ length errors.now.table.rows }
     ensures some { IfOk result (λ a. IfSome a (λ v. EndsWithin errors.now.table flipped.now left v.items)) }
-    ensures none { IfOk result (λ a. IfNone a (NoEnds errors.now.table errors.now.pairs first path.old.items flipped.now left)) }
+    ensures none { HasNoneWithin errors.now.table left → IfOk result (λ a. IfNone a (NoEnds errors.now.table errors.now.pairs first path.old.items flipped.now left)) }
     ensures path { IfOk result (λ a. IfNone a (path.new.items ≡ path.old.items)) }
     ensures cover { length cover.new ≡ length cover.old }
 {
@@ -80,11 +80,10 @@ fn try_error(
 ) -> Result<Option<Vec<usize>>, AllocError>
     requires ascending { IsAscending flipped.now }
     requires key { key ≡ key_of errors.now.numbers flipped.now }
-    requires none { HasNoneWithin errors.now.table left }
     requires inside { g < length errors.now.table.rows }
     requires cover { length cover.old ≡ length errors.now.table.rows }
     ensures some { IfOk result (λ a. IfSome a (λ v. EndsWithin errors.now.table flipped.now (left + 1) v.items)) }
-    ensures none { IfOk result (λ a. IfNone a (NoEndsBy errors.now.table errors.now.pairs first path.old.items flipped.now (left + 1) g)) }
+    ensures none { HasNoneWithin errors.now.table left → IfOk result (λ a. IfNone a (NoEndsBy errors.now.table errors.now.pairs first path.old.items flipped.now (left + 1) g)) }
     ensures path { IfOk result (λ a. IfNone a (path.new.items ≡ path.old.items)) }
     ensures cover { length cover.new ≡ length cover.old }
 {
@@ -115,7 +114,7 @@ fn try_error(
     }
 }
 
-/// The error that ends the search alone.
+/// An error after the first one that completes those chosen alone.
 fn last_error(
     alloc: Global,
     errors: &Errors,
@@ -140,7 +139,7 @@ fn last_error(
     Ok(None)
 }
 
-/// Whether error g ends the search alone.
+/// Whether error g is after the first one and completes those chosen alone.
 fn ends_by(
     alloc: Global,
     errors: &Errors,

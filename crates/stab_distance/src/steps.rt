@@ -36,7 +36,7 @@ fn moved_of_some(errors: &Errors, step: usize) -> usize {
     moved
 }
 
-/// Errors in order, of which the first ones are moved down by no step.
+/// Errors in order: first, as many as `firsts`, those that a step does not move down.
 #[derive(Drop)]
 pub(crate) struct Order {
     pub(crate) errors: Vec<usize>,

@@ -1,5 +1,6 @@
 //! The commands with their options, and the job that the words of a command line ask for.
 use crate::numbers::{QubitCount, Shots, Stride};
+use stab_distance::SearchPart;
 use stab_results::Format;
 
 /// Where coins come from: the outcomes of measurements that no stabiliser decides.
@@ -48,6 +49,21 @@ pub enum SearchedLayout {
     Wcnf,
 }
 
+/// What is asked about the errors that `DistanceOptions` describe.
+#[derive(Clone, Copy, Debug, PartialEq, Eq)]
+pub enum Question {
+    /// A least set of them that flips an observable and no detector.
+    Least,
+    /// Such a set of all errors, and how many there are.
+    Counted,
+    /// Such a set for each observable in turn.
+    Each,
+    /// What one part of the search for such a set finds, of all errors.
+    Part(SearchPart),
+    /// The errors themselves, and what each flips.
+    Errors(SearchedLayout),
+}
+
 /// How a table of faults or coins is written.
 #[derive(Clone, Copy, Debug, PartialEq, Eq)]
 pub enum FaultLayout {
@@ -93,15 +109,9 @@ pub enum Command {
     Coins {
         layout: FaultLayout,
     },
-    /// Writes the least number of errors that flip an observable and no detector, and that many such errors.
-    Distance(DistanceOptions),
-    /// Writes what `Distance` does of all errors, and how many least sets there are.
-    CountedDistance(DistanceOptions),
-    /// Writes what `Distance` does for each observable in turn.
-    EachDistance(DistanceOptions),
-    /// Writes the errors that `Distance` searches, and what each flips.
-    SearchedErrors {
-        layout: SearchedLayout,
+    /// Writes the answer to a question about errors that flip an observable and no detector.
+    Distance {
+        question: Question,
         options: DistanceOptions,
     },
     /// Edits the circuit by a script, on this many qubits or on as many as it names, and writes the

@@ -15,5 +15,8 @@
 mod job;
 mod numbers;
 
-pub use job::{Command, DistanceOptions, ErrorLetters, FaultLayout, Job, SearchedLayout, Source};
+pub use job::{
+    Command, DistanceOptions, ErrorLetters, FaultLayout, Job, Question, SearchedLayout, Source,
+};
 pub use numbers::{QubitCount, Shots, Stride};
+pub use stab_distance::SearchPart;

@@ -1,22 +1,15 @@
 ghost use Rattle.std.specs.Prelude.{◌≡◌, ◌≤◌, ◌<◌, ◌+◌, ◌*◌, ◌^◌, min, true, ◌∷◌, [], length, take, MatchOption};
 ghost use Rattle.std.specs.Option.{option_copied};
-ghost use Rattle.std.specs.List.{position_or_len, list_all, slice_split};
-ghost use Rattle.stab_lines.specs.Lines.{is_byte, is_digit as digit, is_spacing as spacing};
+ghost use Rattle.std.specs.List.{list_all, slice_split};
+ghost use Rattle.stab_lines.specs.Lines.{is_byte, is_digit as digit};
 ghost use Rattle.stab_lines.specs.Words.{words, is_blank as blank, is_number as number, value, pieces_after};
 ghost use Rattle.stab_line_reader.specs.inner.Numbers.{BeginsWithNumber, IsAfterWord, is_word_end};
 
 use crate::line::is_digit;
-use stab_lines::{is_spacing, without_spacing_in_front};
+use stab_lines::{is_spacing, without_spacing_in_front, word_len};
 
 /// A number of 64 bits can hold any number of this many digits.
 const MOST_DIGITS: usize = 18;
-
-fn word_len(bytes: &[u8]) -> usize
-    ensures value { result ≡ position_or_len spacing bytes.now }
-    ensures within { result ≤ length bytes.now }
-{
-    bytes.iter().take_while(|b| !is_spacing(**b)).count()
-}
 
 /// The first word, and what follows it.
 #[tactic(auto, using(stab_lines::proofs::PieceLemmas::no_word, stab_lines::proofs::PieceLemmas::one_word, stab_lines::proofs::PieceLemmas::rest_shorter))]

@@ -50,4 +50,4 @@ pub use product::{Factor, Product};
 pub use range::{Count, Lookback, Lookbacks, MeasureTarget, ObservableNumber, Pair, Qubit};
 pub use search::{first_piece, has_brace, is_brace, position_of};
 pub use sequence::Sequence;
-pub use spacing::{is_blank, is_spacing, without_spacing, without_spacing_in_front};
+pub use spacing::{is_blank, is_spacing, without_spacing, without_spacing_in_front, word_len};

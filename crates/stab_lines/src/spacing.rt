@@ -1,5 +1,5 @@
 ghost use Rattle.std.specs.Prelude.{◌≡◌, ◌≤◌, length};
-ghost use Rattle.std.specs.List.{prefix_len};
+ghost use Rattle.std.specs.List.{prefix_len, position_or_len};
 ghost use Rattle.stab_lines.specs.Lines.{is_spacing as spacing, trimmed_front, trimmed_end, trimmed};
 ghost use Rattle.stab_lines.specs.Words.{is_blank as blank};
 
@@ -15,6 +15,14 @@ fn spacing_len(bytes: &[u8]) -> usize
     ensures within { result ≤ length bytes.now }
 {
     bytes.iter().take_while(|b| is_spacing(**b)).count()
+}
+
+/// How many bytes a word has that begins where the bytes begin: those in front of the first spacing.
+pub fn word_len(bytes: &[u8]) -> usize
+    ensures value { result ≡ position_or_len spacing bytes.now }
+    ensures within { result ≤ length bytes.now }
+{
+    bytes.iter().take_while(|b| !is_spacing(**b)).count()
 }
 
 /// The bytes without the spacing in front.

@@ -1,5 +1,5 @@
 -- Laws of what `propagate` sends: the text of a way, and bytes that are sent whole or in part.
-use Rattle.stab_propagation.proofs.Names.{◌≡◌, ap, subst, ◌∙◌, ℕ, ◌+◌, Bool, List, length, Result, Ok, Err, inl, inr}
+use Rattle.stab_propagation.proofs.Names.{◌≡◌, ap, subst, ◌∙◌, ℕ, Bool, List, length, Result, Ok, Err, inl, inr}
 use Rattle.std.proofs.Common.{ap₂, ◌++◌}
 use Rattle.std.specs.List.{flat_map}
 use Rattle.std.specs.Prelude.{IsErrAnd, MatchResult}
@@ -14,9 +14,9 @@ use Rattle.stab_texts.specs.Endings.{SendsFound, FlushesOrFault}
 use Rattle.stab_ways.specs.declared.way.PlacedLetter.{PlacedLetter}
 use Rattle.stab_ways.specs.Laws.{FlipsRun, coins_with}
 use Rattle.stab_ways.specs.PutIn.{string_after, string_flips}
-use Rattle.stab_ways.specs.Ways.{Turn, placed}
+use Rattle.stab_ways.specs.Ways.{Turn, placed, string_turns}
 use Rattle.stab_propagation.specs.Words.{PutIn}
-use Rattle.stab_propagation.specs.WayTexts.{IsWayText, asked_turns, bits_flipped, flips_line, left_line, turn_line}
+use Rattle.stab_propagation.specs.WayTexts.{IsWayText, bits_flipped, flips_line, left_line, turn_line}
 
 -- what a call gave is what it gave before its refusals were named faults
 pub given_before : {A : Type 0} (w : Result A Refusal) (m : Result A Fault) (x : A) → MatchResult w (λ y. m ≡ Ok y) (λ e. IsErrAnd m (λ y. y ≡ whole e)) → m ≡ Ok x → w ≡ Ok x
@@ -39,7 +39,7 @@ found_finished are old mid new bytes (Err f) is took failed = inl (failed.0, byt
 
 -- the lines of the turns, the flipped bits and the string at the end of a way are its text
 pub is_way_text : (items : Items) (every : Bool) (put : PutIn) (turns : List Turn) (bits : List Bool) (left : List PlacedLetter)
-    → turns ≡ asked_turns every (length put.string) put.place put.string items
+    → turns ≡ string_turns every (length put.string) put.place put.string items
     → bits ≡ bits_flipped items (string_flips (length put.string) put.place put.string (unroll items))
     → left ≡ placed 0 (string_after (length put.string) put.place put.string (unroll items) (length (unroll items)))
     → ((coins : ℕ → Bool) → FlipsRun (length put.string) put.place put.string (unroll items) coins (coins_with (length put.string) put.place put.string (unroll items) coins))

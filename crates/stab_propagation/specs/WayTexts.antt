@@ -1,9 +1,8 @@
 -- Way texts: what is written of the way of a string that is put in.
 -- Source: this project's own.
-use Rattle.std.specs.Prelude.{◌≡◌, ℕ, ◌-◌, Bool, false, List, [], ◌∷◌, ◌++◌, length, replicate, codes, decimal, if◌then◌else◌}
+use Rattle.std.specs.Prelude.{◌≡◌, ℕ, ◌-◌, Bool, false, List, [], ◌∷◌, ◌++◌, length, replicate, codes, decimal}
 use Rattle.std.specs.List.{flat_map}
 use Rattle.stab_gates.specs.LetterTexts.{letter_text}
-use Rattle.stab_gates.specs.declared.letter.Letter.{Letter}
 use Rattle.stab_circuit.specs.Items.{Items}
 use Rattle.stab_circuit.specs.Steps.{unroll, observables_of}
 use Rattle.stab_results.specs.declared.format.Kinds.{Kinds}
@@ -12,7 +11,6 @@ use Rattle.stab_run.specs.Points.{RunOutput, with_additions}
 use Rattle.stab_ways.specs.declared.way.PlacedLetter.{PlacedLetter}
 use Rattle.stab_ways.specs.PutIn.{string_after, string_flips}
 use Rattle.stab_ways.specs.Ways.{Turn, placed, string_turns}
-use Rattle.stab_ways.specs.Ticks.{tick_turns}
 use Rattle.stab_ways.specs.Laws.{FlipsRun, coins_with}
 use Rattle.stab_texts.specs.CoinTables.{whole_kinds}
 use Rattle.stab_texts.specs.Distances.{where_text}
@@ -48,14 +46,11 @@ flips_line kinds bits = codes "flips" ++ (flat_map (entry kinds) (one_places bit
 abbrev pub left_line : List PlacedLetter → List ℕ
 left_line letters = codes "left " ++ (string_text letters ++ codes "\n")
 
--- where the string is written: after each item after which it is another one, in each round; or at every tick from its place on
-abbrev pub asked_turns : (every : Bool) → ℕ → ℕ → List Letter → Items → List Turn
-asked_turns every n k string items = if every then tick_turns n k string items else string_turns n k string items
-
--- a line for each of these, then what is flipped, and the string at the end
+-- a line for each item after which the string is another one, in each round, or for every tick from its place on; then what is flipped, and the
+-- string at the end
 abbrev pub way_text : Items → (every : Bool) → PutIn → List ℕ
 way_text items every put =
-    flat_map (turn_line items) (asked_turns every (length put.string) put.place put.string items)
+    flat_map (turn_line items) (string_turns every (length put.string) put.place put.string items)
     ++ (flips_line (whole_kinds items) (bits_flipped items (string_flips (length put.string) put.place put.string (unroll items)))
     ++ left_line (placed 0 (string_after (length put.string) put.place put.string (unroll items) (length (unroll items)))))
 

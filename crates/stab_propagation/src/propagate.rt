@@ -1,46 +1,20 @@
 //! The command that writes the way of a string.
-ghost use Rattle.std.specs.Prelude.{◌≡◌, ℕ, Bool, None, Ok, length, map, IfOk, IfErr};
-ghost use Rattle.stab_io.specs.declared.refusal.Refusal.TheVariants.{OutOfMemory};
-ghost use Rattle.stab_circuit.specs.Steps.{check_of, check_within, qubits_of, unroll};
+ghost use Rattle.std.specs.Prelude.{◌≡◌, None, Ok, length};
+ghost use Rattle.stab_circuit.specs.Steps.{check_of, qubits_of};
 ghost use Rattle.stab_edits.specs.Views.{circuit_items};
 ghost use Rattle.stab_texts.specs.Endings.{SendsFound};
-ghost use Rattle.stab_ways.specs.PutIn.{string_after, string_flips};
-ghost use Rattle.stab_ways.specs.Ways.{turn_shown};
-ghost use Rattle.stab_ways.specs.Laws.{FlipsRun, coins_with};
 ghost use Rattle.stab_propagation.specs.Words.{PutIn, put_in_of};
-ghost use Rattle.stab_propagation.specs.WayTexts.{IsWayText, asked_turns};
+ghost use Rattle.stab_propagation.specs.WayTexts.{IsWayText};
 ghost use Rattle.stab_propagation.specs.Endings.{EndsPropagate, SendsWay};
 
 use crate::lines::{bits_flipped, write_way};
 use crate::words::read_put_in;
 use stab_circuit::{Circuit, read_circuit};
-use stab_io::{Fault, Input, Output, Refusal};
+use stab_io::{Fault, Input, Output};
 use stab_pauli::Pauli;
 use stab_texts::finish;
-use stab_ways::{Way, placed, way_at_ticks, way_of};
+use stab_ways::{placed, way_of};
 use std::alloc::Global;
-
-/// The way of a string that is put in after this many steps, with the string at every tick, if that is asked for, in place of the turns.
-fn way_asked(
-    alloc: Global,
-    circuit: &Circuit,
-    every: bool,
-    place: usize,
-    string: &Pauli,
-) -> Result<Way, Refusal>
-    requires checked { check_within (length string.now.letters) (circuit_items circuit.now) ≡ None }
-    ensures turns { IfOk result (λ w. map turn_shown w.turns.items ≡ asked_turns every (length string.now.letters) place string.now.letters (circuit_items circuit.now)) }
-    ensures flips { IfOk result (λ w. w.end.flips ≡ string_flips (length string.now.letters) place string.now.letters (unroll (circuit_items circuit.now))) }
-    ensures left { IfOk result (λ w. w.end.letters ≡ string_after (length string.now.letters) place string.now.letters (unroll (circuit_items circuit.now)) (length (unroll (circuit_items circuit.now)))) }
-    ensures runs { IfOk result (λ w. (coins : ℕ → Bool) → FlipsRun (length string.now.letters) place string.now.letters (unroll (circuit_items circuit.now)) coins (coins_with (length string.now.letters) place string.now.letters (unroll (circuit_items circuit.now)) coins)) }
-    ensures err { IfErr result (λ r. r ≡ OutOfMemory) }
-{
-    if every {
-        way_at_ticks(alloc, circuit, place, string)
-    } else {
-        way_of(alloc, circuit, place, string)
-    }
-}
 
 /// Writes the way of a string that is put in after this many steps, and flushes. Memory may be refused before the first byte.
 fn send_way<O: Output>(
@@ -55,7 +29,7 @@ fn send_way<O: Output>(
     requires qubits { length string.now.letters ≡ qubits_of (circuit_items circuit.now) }
     ensures sends { SendsFound (IsWayText (circuit_items circuit.now) every (record { place = place; string = string.now.letters })) (O.seen out.old) (O.seen out.new) result }
 {
-    let way = way_asked(alloc, circuit, every, place, string).map_err(Fault::whole)?;
+    let way = way_of(alloc, circuit, every, place, string).map_err(Fault::whole)?;
     let bits = bits_flipped(alloc, circuit, &way.end)?;
     let left = placed(alloc, way.end.letters())?;
     write_way(

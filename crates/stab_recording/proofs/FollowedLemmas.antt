@@ -1,5 +1,5 @@
 -- Replays that follow an old run: what their plans and their new beginnings say.
-use Rattle.stab_recording.proofs.Names.{◌≡◌, ℕ, ◌≤◌, List, length, arith, Step, Plan}
+use Rattle.stab_recording.proofs.Names.{ℕ, ◌≤◌, List, length, arith, Step, Plan}
 use Rattle.stab_recording.specs.FollowedRuns.{IsPlanned}
 
 -- a planned run has few steps

@@ -15,7 +15,7 @@ pub mod AgainLemmas
 mod TogetherLemmas
 pub mod PointLemmas
 pub mod ReplayLemmas
-mod SavedLemmas
+mod ProgressLemmas
 pub mod SeenLemmas
 pub mod SegmentLemmas
 mod CursorPlaceLemmas

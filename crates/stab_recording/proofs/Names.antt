@@ -110,7 +110,7 @@ pub use Rattle.stab_recording.specs.declared.rest_frame.RestFrame.{RestFrame}
 pub use Rattle.stab_recording.specs.declared.whole_run.Shot.{Shot}
 pub use Rattle.stab_recording.specs.inner.Advanced.{after_rounds}
 pub use Rattle.stab_recording.specs.inner.Arrivals.{IsArrival}
-pub use Rattle.stab_recording.specs.inner.FoldedReplays.{IsRoundsAfter, IsAlike, MayRecur, IsFolding, IsSegment, HasRepeated, MayGoOver, HasPropagated, HasStringsAgain, with_folded, IsAsAt, DiffersFrom, IsOfOwn, StandsAs, IsFound, IsEndIn, HasGone}
+pub use Rattle.stab_recording.specs.inner.FoldedReplays.{IsRoundsAfter, IsAlike, MayRecur, IsFolding, IsSegment, HasRepeated, MayGoOver, HasPropagated, HasStringsAgain, with_folded, IsAsAt, DiffersFrom, IsOfOwn, StandsAs, IsFound, IsEndIn}
 pub use Rattle.stab_recording.specs.inner.RestFrameStates.{last_state, with_state, with_cursor, IsBeside, HasOtherCoins}
 pub use Rattle.stab_recording.specs.inner.Shots.{IsShotOf}
 pub use Rattle.stab_recording.specs.inner.Runs.{plan_of_run, IsOwnRun}

@@ -1,6 +1,7 @@
 -- Replays: a run that goes on from a checkpoint of an earlier one, what it asks of coins, and where it meets another checkpoint.
 use Rattle.stab_recording.proofs.Names.{◌≡◌, ◌≢◌, ℕ, zero, suc, ◌+◌, ◌-◌, ◌<◌, ◌≤◌, refl, sym, ◌∙◌, ap, subst, Bool, ◌⊎◌, inl, inr, List, [], ◌∷◌, ◌++◌, All, IsSomeAnd, Option, None, Some, slice_get, length, take, drop, arith, option_map, length-take, take-append-drop, take_at, take-take, drop-drop, map-append, All-push, cases_lt, IfSome_then, take-add, TableauState, Step, Lengths, Checkpoint, Replay, Plan, Between, RunOutput, origin, all_coins_of, point_after, outputs, AgreeAt, ProgramState, IsAt, IsRun, program_state, output_of, Near, last_of, lengths_of, IsRunFromStart, IsCheckpoint, checkpoint_steps, KeepsTrue, LooksWithin, KeepsPivots, IsAtStep, Ascending, MeetsAt, IsPlacedAt, Misses, EndsSoon, step_among_new, spacing_of, checkpoint_of, IsAtStop, IsOnWay, StopsAt, IsArrival, Meets, flags-are-coins, records-are-records, coins-append}
 use Rattle.std.proofs.Common.{IfSome}
+use Rattle.stab_recording.specs.RecordedSteps.{AreOnQubits, HasRecorded, KeepsRecorded}
 use Rattle.stab_recording.proofs.RecordedReplayLemmas.{has_pivots-on}
 use Rattle.stab_recording.proofs.PointLemmas.{resumed, shows-from-start}
 
@@ -29,31 +30,26 @@ records-stay n coins xs zs old new h run =
 
 -- and comes to the other
 pub run-on : (n : ℕ) (coins : ℕ → Bool) (ys : List Step) (old new : Replay) → IsAtStep n coins ys old → old.step ≤ new.step → new.step ≤ length ys
-    → new.tableau.qubits ≡ old.tableau.qubits → length new.string.letters ≡ length old.string.letters
-    → new.cursor.all ≡ old.cursor.all → new.cursor.left ≡ drop (new.step - old.step) old.cursor.left
-    → IsRun n coins (take (new.step - old.step) old.cursor.left) (program_state old.tableau (output_of old.outputs)) (program_state new.tableau (output_of new.outputs))
-    → length new.pivots.string.letters ≡ n → new.pivots.strings.qubits ≡ n → new.pivots.strings.most ≡ old.pivots.strings.most → old.pivots.window ≤ new.pivots.window
-    → All (LooksWithin new.pivots.window) (take (new.step - old.step) old.cursor.left)
-    → KeepsTrue n coins (take (new.step - old.step) old.cursor.left) old.pivots.strings new.pivots.strings
-    (program_state old.tableau (output_of old.outputs)) (program_state new.tableau (output_of new.outputs))
-    → IsAtStep n coins ys new
-run-on n coins ys old new h order within qubits string all left run scratch size most raised near keeps = record {
+    → new.tableau.qubits ≡ old.tableau.qubits → AreOnQubits n new.string new.pivots → new.cursor.all ≡ old.cursor.all → KeepsRecorded old.pivots new.pivots → {applied later asked after : ℕ}
+    → HasRecorded n coins (new.step - old.step) old.cursor new.cursor old.pivots new.pivots (program_state old.tableau (output_of old.outputs)) (program_state new.tableau (output_of new.outputs))
+    applied later asked after → IsAtStep n coins ys new
+run-on n coins ys old new h order within qubits sized all kept recorded = record {
   qubits = qubits ∙ h.qubits;
-  string = string ∙ h.string;
+  string = sized.string;
   all = all ∙ h.all;
-  left = left ∙ ap (drop (new.step - old.step)) h.left ∙ drop-drop (new.step - old.step) old.step ys ∙ ap (λ k. drop k ys) further;
+  left = recorded.left ∙ ap (drop (new.step - old.step)) h.left ∙ drop-drop (new.step - old.step) old.step ys ∙ ap (λ k. drop k ys) further;
   within = within;
   run =
       subst (λ xs. IsRunFromStart n coins xs now) (sym (take-add old.step (new.step - old.step) ys) ∙ ap (λ k. take k ys) further)
       (resumed n coins (take old.step ys) (take (new.step - old.step) (drop old.step ys)) before now h.run
-      (subst (λ xs. IsRun n coins (take (new.step - old.step) xs) before now) h.left run));
-  scratch = scratch;
+      (subst (λ xs. IsRun n coins (take (new.step - old.step) xs) before now) h.left recorded.steps.run));
+  scratch = sized.scratch;
   has_pivots =
       subst (λ xs. KeepsPivots n coins xs new.pivots.strings new.outputs.free.items new.pivots.window) (sym (take-add old.step (new.step - old.step) ys) ∙ ap (λ k. take k ys) further)
       (has_pivots-on n coins (take old.step ys) (take (new.step - old.step) (drop old.step ys)) old.pivots.strings new.pivots.strings before now old.pivots.window new.pivots.window h.has_pivots
-      (shows-from-start n coins (take old.step ys) before h.run) size most raised
-      (subst (λ xs. All (LooksWithin new.pivots.window) (take (new.step - old.step) xs)) h.left near)
-      (subst (λ xs. KeepsTrue n coins (take (new.step - old.step) xs) old.pivots.strings new.pivots.strings before now) h.left keeps));
+      (shows-from-start n coins (take old.step ys) before h.run) sized.strings kept.most kept.raised
+      (subst (λ xs. All (LooksWithin new.pivots.window) (take (new.step - old.step) xs)) h.left recorded.steps.within)
+      (subst (λ xs. KeepsTrue n coins (take (new.step - old.step) xs) old.pivots.strings new.pivots.strings before now) h.left recorded.steps.has_pivots));
 }
   where
     before : ProgramState

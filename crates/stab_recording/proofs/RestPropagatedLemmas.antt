@@ -1,6 +1,7 @@
 -- Frames over the rest: a frame propagated over some of the steps, then some more, and the next checkpoint.
-use Rattle.stab_recording.proofs.Names.{◌≡◌, ◌≢◌, ℕ, suc, ◌+◌, ◌-◌, ◌^◌, ◌<◌, ◌≤◌, refl, sym, ◌∙◌, ap, subst, Bool, true, false, List, [], ◌∷◌, ◌++◌, append-nil, length, replicate, take, drop, slice_get, get_or, All, Option, Some, ◌⊎◌, inl, inr, arith, take-add, take-suc, drop-cons, drop-append_seam, take-append-drop, length-take, length-drop, length-append, drop-drop, slice_get_read, All-nil, All-cons, All-get_or, Letter, I, Signed, TableauState, stabilises, IsConjugated, Step, looked_up, ones, Point, RunOutput, all_coins_of, given, next_point, point_after, outputs, outputs-append, coins-steps, coins-append, coins-are, IsMissing, flags-given, same_coins, frame_over, AreEnough, pivot_at, AreTrue, Stop, Gone, NoString, IsStop, PropagationState, frame_at, IsPlaced, IsGone, PropagatesOver, enough-append, true-rest, over-append, Checkpoint, AreEnoughBy, AreInOrder, IsPropagatedAfter, ArePropagatedCheckpoints, Stabilise, FramesSome, Ending, IsLastDiffering, IsRestFrame}
+use Rattle.stab_recording.proofs.Names.{All-drop, StepFits, PivotsState, ◌≡◌, ◌≢◌, ℕ, suc, ◌+◌, ◌-◌, ◌<◌, ◌≤◌, refl, sym, ◌∙◌, ap, subst, Bool, true, false, List, [], ◌∷◌, ◌++◌, append-nil, length, replicate, take, drop, slice_get, get_or, All, Option, Some, ◌⊎◌, inl, inr, arith, take-add, take-suc, drop-cons, drop-append_seam, take-append-drop, length-take, length-drop, length-append, drop-drop, slice_get_read, All-nil, All-cons, All-get_or, Letter, I, Signed, TableauState, stabilises, IsConjugated, Step, looked_up, ones, Point, RunOutput, all_coins_of, given, next_point, point_after, outputs, outputs-append, coins-steps, coins-append, coins-are, IsMissing, flags-given, same_coins, frame_over, AreEnough, pivot_at, AreTrue, Stop, Gone, NoString, IsStop, PropagationState, frame_at, IsPlaced, IsGone, PropagatesOver, enough-append, true-rest, over-append, Checkpoint, AreEnoughBy, AreInOrder, IsPropagatedAfter, ArePropagatedCheckpoints, Stabilise, FramesSome, Ending, IsLastDiffering, IsRestFrame}
 use Rattle.stab_recording.specs.declared.propagate.Stop.TheVariants.{After}
+use Rattle.stab_recording.specs.PassedSteps.{MayPropagate}
 use Rattle.stab_recording.proofs.LetterStateLemmas.{conjugated-differs}
 use Rattle.stab_recording.proofs.QuietLemmas.{quiet-gone, flips-more}
 
@@ -193,6 +194,17 @@ past-next {n} {strings} {free} {back} {from} {steps} {ts} {old} {new} j checkpoi
     front : take (j + 1) checkpoints ≡ take j checkpoints ++ c ∷ []
     front = ap (λ k. take k checkpoints) {y = suc j} (omega arith) ∙ take-suc checkpoints j c lt ∙ ap (λ d. take j checkpoints ++ d ∷ []) (sym is)
 
+-- a frame that may be propagated over some steps may go on over those that are left of them
+pub may-later : (kept : PivotsState) (free : List Bool) (xs ys : List Step) (a b : ℕ) (w v : PropagationState) (k : ℕ) → MayPropagate kept free 0 xs a w → length v.letters ≡ length w.letters
+    → ys ≡ drop k xs → IsPlaced free v → v.coin + length ys ≤ w.coin + length xs → b + length ys ≤ a + length xs → MayPropagate kept free 0 ys b v
+may-later kept free xs ys a b w v k may size rest placed coin counted = record {
+  same_length = may.same_length ∙ sym size;
+  fits = subst (λ m. All (StepFits m) ys) (sym size) (subst (All (StepFits (length w.letters))) (sym rest) (All-drop (StepFits (length w.letters)) k xs may.fits));
+  placed = placed;
+  few = omega (arith, may.few, coin);
+  few_passed = omega (arith, may.few_passed, counted);
+}
+
 -- a propagation over some of the steps that are left
 
 module _ {n : ℕ} {strings : List (List Letter)} {free : List Bool} {back : List Step} {from k : ℕ} {cs : List Checkpoint} {ts : List TableauState} {old now : PropagationState}
@@ -200,14 +212,13 @@ module _ {n : ℕ} {strings : List (List Letter)} {free : List Bool} {back : Lis
   pub short-left : length left ≤ length back
   short-left = omega (arith, ap length rest, length-drop k back)
 
-  pub few-left : old.coin + length back < 2 ^ 63 → now.coin + length left < 2 ^ 63
-  few-left few =
-      omega (arith, few, past.propagated.coin, coins-steps (take k back), length-take k back, ap length rest, length-drop k back, past.within)
+  pub may-further : (kept : PivotsState) (first by_frame : ℕ) → by_frame ≤ first + k → n ≡ length old.letters → MayPropagate kept free 0 back first old → MayPropagate kept free 0 left by_frame now
+  may-further kept first by_frame so size may =
+      may-later kept free back left first by_frame old now k may (past.size ∙ size) rest past.placed
+      (omega (arith, past.propagated.coin, coins-steps (take k back), length-take k back, ap length rest, length-drop k back, past.within))
+      (omega (arith, so, ap length rest, length-drop k back, past.within))
 
   -- and the count of them
-
-  pub few-counted : (first by_frame : ℕ) → by_frame ≤ first + k → first + length back < 2 ^ 63 → by_frame + length left < 2 ^ 63
-  few-counted first by_frame so few = omega (arith, so, few, ap length rest, length-drop k back, past.within)
 
   pub most-counted : (first by_frame after most : ℕ) → by_frame ≤ first + k → after ≤ by_frame + length (take most left) → after ≤ first + length back
   most-counted first by_frame after most so le = omega (arith, so, le, length-take most left, ap length rest, length-drop k back, past.within)

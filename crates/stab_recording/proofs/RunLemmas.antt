@@ -1,5 +1,8 @@
 -- Runs: replays with no older run go on, repeat rounds, and forget checkpoints.
-use Rattle.stab_recording.proofs.Names.{◌≡◌, ℕ, zero, suc, ◌+◌, ◌*◌, ◌≤◌, refl, sym, ◌∙◌, ap, subst, Bool, List, [], ◌∷◌, ◌++◌, All, length, take, arith, All-take, take_all, Step, origin, outputs, output_of, KeepsPivots, most_steps, Repeat, IsRepeat, StepFits, Checkpoint, IsCheckpoint, checkpoint_steps, Near, Replay, IsAtStep, checkpoint_of, MayRecur, IsOnWay, plan_of_run, IsOwnRun}
+use Rattle.stab_recording.proofs.Names.{None, unroll, check_within, AreRepeats, check-fits, Items, ◌≡◌, ℕ, zero, suc, ◌+◌, ◌*◌, ◌≤◌, refl, sym, ◌∙◌, ap, subst, Bool, List, [], ◌∷◌, ◌++◌, All, length, take, arith, All-take, take_all, Step, origin, outputs, output_of, KeepsPivots, most_steps, Repeat, IsRepeat, StepFits, Checkpoint, IsCheckpoint, checkpoint_steps, Near, Replay, IsAtStep, checkpoint_of, MayRecur, IsOnWay, plan_of_run, IsOwnRun}
+use Rattle.stab_edits.specs.Cursors.{HasDistinctQubits}
+use Rattle.stab_recording.specs.inner.Runs.{MayRunAll, MayRunBlock}
+use Rattle.stab_recording.proofs.ProgressLemmas.{runnable-named, steps-named}
 use Rattle.stab_recording.proofs.ReplayLemmas.{with-saved}
 
 -- checkpoints may lie as far from each other as there are steps
@@ -85,6 +88,42 @@ module _ (n : ℕ) (coins : ℕ → Bool) (ys : List Step) where
     fits = fits;
   }
 
+-- all steps of a circuit
+
+pub may-run-all : (n : ℕ) (coins : ℕ → Bool) (items : Items) (repeats : List Repeat) (r : Replay) → check_within n items ≡ None → AreRepeats 0 (unroll items) repeats → All HasDistinctQubits r.cursor.all
+    → IsOwnRun n coins (unroll items) r → MayRunAll coins items repeats r
+may-run-all n coins items repeats r checked repeated distinct own =
+    let qubits = own.replay.at_step.qubits in
+    let all = own.replay.at_step.all in
+    record {
+      steps = sym all;
+      checked = subst (λ m. check_within m items ≡ None) (sym qubits) checked;
+      fits = subst (λ m. All (StepFits m) r.cursor.all) (sym qubits) (check-fits n items r.cursor.all checked all distinct);
+      repeated = subst (λ ys. AreRepeats 0 ys repeats) (sym all) repeated;
+      own = subst (λ x. x) (λ i. IsOwnRun (sym qubits i) coins (sym all i) r) own;
+    }
+
+pub ran-all : (n : ℕ) (coins : ℕ → Bool) (ys : List Step) (r s : Replay) → IsOwnRun n coins ys r → IsOwnRun r.tableau.qubits coins r.cursor.all s → s.step ≡ length r.cursor.all
+    → IsOwnRun n coins ys s × (s.step ≡ length ys)
+ran-all n coins ys r s own ran end =
+    let qubits = own.replay.at_step.qubits in
+    let all = own.replay.at_step.all in
+    (subst (λ x. x) (λ i. IsOwnRun (qubits i) coins (all i) s) ran, end ∙ ap length all)
+
+-- by a replay's own names and by others
+pub own-named : {m n : ℕ} {others coins : ℕ → Bool} {zs ys : List Step} (r : Replay) → m ≡ n → others ≡ coins → zs ≡ ys → IsOwnRun m others zs r → IsOwnRun n coins ys r
+own-named r qubits coins all = subst (λ x. x) (λ i. IsOwnRun (qubits i) (coins i) (all i) r)
+
+-- further on in the same circuit
+pub may-run-block : {coins others : ℕ → Bool} (items : Items) (block : Repeat) (r s : Replay) → s.tableau.qubits ≡ r.tableau.qubits → others ≡ coins → s.cursor.all ≡ r.cursor.all
+    → IsOwnRun r.tableau.qubits coins r.cursor.all s → MayRunBlock coins items block r → MayRunBlock others items block s
+may-run-block items block r s qubits same all own may = record {
+  has_steps = steps-named (sym all) may.has_steps;
+  runnable = runnable-named (sym qubits) (sym all) may.runnable;
+  is_repeat = subst (λ ys. IsRepeat ys block) (sym all) may.is_repeat;
+  own = own-named s (sym qubits) (sym same) (sym all) own;
+}
+
 -- after the last step
 
 pub own-output : (n : ℕ) (coins : ℕ → Bool) (ys : List Step) (r : Replay) → IsOwnRun n coins ys r → r.step ≡ length ys → output_of r.outputs ≡ outputs n coins ys origin
@@ -95,7 +134,3 @@ pub own-pivots : (n : ℕ) (coins : ℕ → Bool) (ys : List Step) (r : Replay) 
     → KeepsPivots n coins ys r.pivots.strings r.outputs.free.items r.pivots.window
 own-pivots n coins ys r own end =
     subst (λ xs. KeepsPivots n coins xs r.pivots.strings r.outputs.free.items r.pivots.window) (take_all r.step ys (omega (arith, end))) own.replay.at_step.has_pivots
-
--- by a replay's own names and by others
-pub own-named : {m n : ℕ} {others coins : ℕ → Bool} {zs ys : List Step} (r : Replay) → m ≡ n → others ≡ coins → zs ≡ ys → IsOwnRun m others zs r → IsOwnRun n coins ys r
-own-named r qubits coins all = subst (λ x. x) (λ i. IsOwnRun (qubits i) (coins i) (all i) r)

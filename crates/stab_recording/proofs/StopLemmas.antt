@@ -1,6 +1,7 @@
 -- Where a propagation ends.
-use Rattle.stab_recording.proofs.Names.{◌≡◌, ◌≤◌, ℕ, refl, sym, ◌∙◌, ap, Bool, true, false, List, length, take, drop, arith, take-append-drop, take-append_seam, drop-append_seam, ◌≢◌, Letter, Step, ones, PropagationState, Stop, Gone, NoString, IsStop, IsMissing}
+use Rattle.stab_recording.proofs.Names.{◌≡◌, ◌+◌, length-take, ◌≤◌, ℕ, refl, sym, ◌∙◌, ap, Bool, true, false, List, length, take, drop, arith, take-append-drop, take-append_seam, drop-append_seam, ◌≢◌, Letter, Step, ones, PropagationState, Stop, Gone, NoString, IsStop, IsMissing}
 use Rattle.stab_recording.specs.declared.propagate.Stop.TheVariants as stop
+use Rattle.stab_recording.specs.PassedSteps.{HasPassed}
 
 -- a propagation that may not end before, and whose strings are kept, passes all steps
 pub propagation-whole : (n m steps most coin : ℕ) (strings : List (List Letter)) (free : List Bool) (xs : List Step) (new : PropagationState) (end : Stop)
@@ -28,3 +29,22 @@ whole-left n m steps most coin strings free xs left new Gone is gone missing kep
     false-true : false ≡ true → ⊥
     false-true e = cc
 whole-left n m steps most coin strings free xs left new NoString is gone missing kept rest = absurd (omega (arith, missing refl, kept))
+
+-- how far a propagation came that has its pivots
+
+pub gone-determined : Gone ≢ NoString
+gone-determined e = cc
+
+pub after-determined : stop.After ≢ NoString
+after-determined e = cc
+
+pub has-passed : (n window most steps : ℕ) (strings : List (List Letter)) (free : List Bool) (coin : ℕ) (old new : List Step) (before after : ℕ) (w : PropagationState) (end : Stop)
+    → steps ≤ most → steps ≤ length old → after ≡ before + steps → new ≡ drop steps old → end ≢ NoString → IsStop n window steps (length (take most old)) w end
+    → HasPassed n window most strings free coin old new before after w (record { stop = end; steps = steps })
+has-passed n window most steps strings free coin old new before after w end few within counted left determined stops = record {
+  within = omega (arith, length-take most old, few, within);
+  left = λ _. left;
+  stop = stops;
+  counted = omega (arith, counted);
+  missing = λ is. absurd (determined is);
+}

@@ -1,6 +1,6 @@
 -- What a replay needs that follows an old run: its steps, its plan, and what is kept of that run.
 -- Source: this project's own.
-use Rattle.std.specs.Prelude.{◌≡◌, ℕ, ◌+◌, ◌*◌, ◌≤◌, Bool, List, [], None, All, length, take, drop}
+use Rattle.std.specs.Prelude.{◌≡◌, ℕ, ◌+◌, ◌≤◌, Bool, List, [], None, All, length, take, drop}
 use Rattle.stab_items.specs.Items.{Items}
 use Rattle.stab_items.specs.Steps.{Step, most_steps, unroll, check_of}
 use Rattle.stab_run.specs.Records.{ones}
@@ -9,7 +9,7 @@ use Rattle.stab_recording.specs.declared.old_run.OldRun.{OldRun}
 use Rattle.stab_recording.specs.declared.replay.Plan.{Plan}
 use Rattle.stab_recording.specs.declared.replay.Replay.{Replay}
 use Rattle.stab_recording.specs.declared.replay.End.{End}
-use Rattle.stab_recording.specs.Replays.{Ascending, EndsSoon, IsEnd, IsReplay, checkpoints_skipped, spacing_of}
+use Rattle.stab_recording.specs.Replays.{Ascending, EndsSoon, IsEnd, IsReplay}
 use Rattle.stab_recording.specs.PropagatedReplays.{IsOldRun}
 
 -- a plan for these steps, which are on n qubits
@@ -44,16 +44,15 @@ pub record IsFollowed (coins : ℕ → Bool) (p : Plan) (old : OldRun) (r : Repl
   pub same_qubits : All (λ c. c.tableau.qubits ≡ r.tableau.qubits) old.checkpoints.now
   pub records : SharesRecords p old r
 
--- what a replay cost since it began, if these are the numbers of coins asked for before it and after it: each step was carried out or passed by a
+-- what it cost that a replay went on, if these are the numbers of coins asked for before and after: each step was carried out or passed by a
 -- frame, and coins were asked for by steps that were carried out, each for a random outcome
-pub record Costs (before after : ℕ) (from r : Replay) : Type 0 where
-  pub counted : (r.applied + r.by_frame) + from.step ≡ r.step
-  pub asks : after ≤ before + r.applied
-  pub asks_free : after + ones from.outputs.free.items ≤ before + ones r.outputs.free.items
+pub record Costs (before after : ℕ) (old new : Replay) : Type 0 where
+  pub counted : (new.applied + new.by_frame) + old.step ≡ (old.applied + old.by_frame) + new.step
+  pub asks : after + old.applied ≤ before + new.applied
+  pub asks_free : after + ones old.outputs.free.items ≤ before + ones new.outputs.free.items
 
--- how a replay ended that followed an old run: no later than the two agree, with few checkpoints, and with no less to look back to
+-- how a replay ended that followed an old run: no later than the two agree, and with no less to look back to
 pub record HasEnded (coins : ℕ → Bool) (p : Plan) (old : OldRun) (from r : Replay) (e : End) : Type 0 where
   pub end : IsEnd from.tableau.qubits p r old.checkpoints.now (output_of old.outputs.now) old.pivots.now e
   pub soon : EndsSoon from.tableau.qubits coins p from.cursor.all old.checkpoints.now old.outputs.now.records.items r.step
-  pub few_saved : spacing_of p.stride * length r.saved.items + from.step ≤ r.step + spacing_of p.stride * checkpoints_skipped p (length old.checkpoints.now) e
   pub raised : from.pivots.window ≤ r.pivots.window

@@ -5,6 +5,7 @@ pub mod Meets
 pub mod Parts
 pub mod FramesFrom
 pub mod Samplers
+pub mod RecordedSteps
 pub mod RunsWithPivots
 pub mod PivotLists
 pub mod RestFrames
@@ -12,4 +13,5 @@ pub mod PropagatedReplays
 pub mod Replays
 pub mod FollowedRuns
 pub mod Stops
+pub mod PassedSteps
 pub mod inner

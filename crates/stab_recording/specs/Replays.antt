@@ -129,9 +129,3 @@ pub record IsOnWay (n : ℕ) (coins : ℕ → Bool) (begin : ℕ) (p : Plan) (ys
 -- that may be met next
 abbrev pub StopsAt : Plan → List Checkpoint → ℕ → ℕ → ℕ → Type 0
 StopsAt p checkpoints next from step = (from + spacing_of p.stride ≤ step) ⊎ ((step ≡ p.total) ⊎ IsPlacedAt p checkpoints next step)
-
--- how many of this many old checkpoints a replay passed
-abbrev pub checkpoints_skipped : Plan → ℕ → End → ℕ
-checkpoints_skipped p count Last = count - p.next
-checkpoints_skipped p count (Joined j) = j - p.next
-checkpoints_skipped p count (Propagated f) = f.number - p.next

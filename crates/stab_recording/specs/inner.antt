@@ -4,4 +4,5 @@ pub mod Advanced
 pub mod Arrivals
 pub mod RestFrameStates
 pub mod FoldedReplays
+pub mod Progress
 pub mod Runs

@@ -4,18 +4,17 @@
 ghost use Rattle.std.specs.Prelude.{◌≡◌, ℕ, ◌+◌, ◌-◌, ◌*◌, ◌<◌, ◌≤◌, Bool, List, false, true, None, IsSomeAnd, IfSome, All, length, take, drop, slice_get, OnOk, IfOk, IfErr};
 ghost use Rattle.std.specs.Option.{option_map};
 ghost use Rattle.stab_io.specs.declared.refusal.Refusal.TheVariants.{OutOfMemory};
-ghost use Rattle.stab_items.specs.Steps.{most_steps, unroll, check_of};
+ghost use Rattle.stab_items.specs.Steps.{most_steps};
 ghost use Rattle.stab_edits.specs.Views.{circuit_items};
 ghost use Rattle.stab_edits.specs.Repeats.{AreRepeats};
 ghost use Rattle.stab_edits.specs.declared.circuit.repeats.Repeat.{Repeat};
 ghost use Rattle.stab_recording.specs.declared.checkpoint.Checkpoint.{Checkpoint};
 ghost use Rattle.stab_run.specs.Records.{ones};
-ghost use Rattle.stab_run.specs.Points.{all_coins_of};
-ghost use Rattle.stab_run.specs.ProgramStates.{StepFits};
 ghost use Rattle.stab_recording.specs.declared.replay.Plan.{Plan};
-ghost use Rattle.stab_recording.specs.FollowedRuns.{HasSteps, IsPlanned};
-ghost use Rattle.stab_recording.specs.Replays.{IsOnWay, step_among_new, spacing_of};
-ghost use Rattle.stab_recording.specs.inner.FoldedReplays.{IsSegment, MayGoOver, HasRepeated, HasPropagated, HasGone, with_folded, MayRecur, IsFolding};
+ghost use Rattle.stab_recording.specs.FollowedRuns.{Costs, HasSteps, IsPlanned};
+ghost use Rattle.stab_recording.specs.Replays.{IsOnWay, step_among_new};
+ghost use Rattle.stab_recording.specs.inner.FoldedReplays.{IsSegment, MayGoOver, HasRepeated, HasPropagated, with_folded, MayRecur, IsFolding};
+ghost use Rattle.stab_recording.specs.inner.Progress.{IsFurther};
 ghost use Rattle.stab_recording.specs.inner.RestFrameStates.{with_state, with_cursor};
 
 use crate::checkpoint::Checkpoint;
@@ -141,14 +140,11 @@ impl<'a> Replay<'a> {
         requires few_counted { self.old.applied + self.old.by_frame ≤ self.old.step }
         requires may { MayGoOver self.old.tableau.qubits self.old.cursor.all self.old propagation segment }
         ensures rest { self.new ≡ with_folded self.old self.new }
-        ensures all { self.new.cursor.all ≡ self.old.cursor.all }
+        ensures further { IsFurther (C.asks coins.old) (C.asks coins.new) self.old self.new }
         ensures same_coins { C.sequence coins.new ≡ C.sequence coins.old }
-        ensures asks { OnOk result (C.asks coins.new + self.old.applied ≤ C.asks coins.old + self.new.applied) }
-        ensures asks_free { OnOk result (C.asks coins.new + ones self.old.outputs.free.items ≤ C.asks coins.old + ones self.new.outputs.free.items) }
-        ensures asked { C.asks coins.new + all_coins_of (drop self.new.step self.old.cursor.all) ≤ C.asks coins.old + all_coins_of (drop self.old.step self.old.cursor.all) }
+        ensures costs { OnOk result (Costs (C.asks coins.old) (C.asks coins.new) self.old self.new) }
         ensures by_frame { IfOk result (λ found. IfSome found (λ v. IsSomeAnd (slice_get self.old.saved.items (segment.number + 1)) (HasPropagated (C.sequence coins.old) segment self.old self.new propagation v))) }
         ensures stays { IfOk result (λ found. found ≡ None → self.new ≡ self.old) }
-        ensures most { self.old.pivots.strings.most ≤ self.new.pivots.strings.most }
         ensures err { IfErr result (λ r. r ≡ OutOfMemory) }
     {
         let mut propagation = propagation;
@@ -206,13 +202,11 @@ impl<'a> Replay<'a> {
         requires few_counted { self.old.applied + self.old.by_frame ≤ self.old.step }
         requires folding { (begin : ℕ) × (p : Plan) × (checkpoints : List Checkpoint) × (old : List Bool) × (next : ℕ) × (block : Repeat) × (passed : Bool) × IsFolding self.old.tableau.qubits (C.sequence coins.old) begin p self.old.cursor.all checkpoints old next block end passed self.old recurrence }
         ensures rest { self.new ≡ with_folded self.old self.new }
-        ensures all { self.new.cursor.all ≡ self.old.cursor.all }
+        ensures further { IsFurther (C.asks coins.old) (C.asks coins.new) self.old self.new }
         ensures same_coins { C.sequence coins.new ≡ C.sequence coins.old }
-        ensures asked { C.asks coins.new + all_coins_of (drop self.new.step self.old.cursor.all) ≤ C.asks coins.old + all_coins_of (drop self.old.step self.old.cursor.all) }
-        ensures gone { OnOk result (HasGone spacing (C.asks coins.old) (C.asks coins.new) self.old self.new) }
-        ensures further { IfOk result (λ next. IfSome next (λ e. (self.old.step < self.new.step) × (self.new.step ≤ end) × (e.number + 1 < length self.new.saved.items))) }
+        ensures costs { OnOk result (Costs (C.asks coins.old) (C.asks coins.new) self.old self.new) }
+        ensures given { IfOk result (λ next. IfSome next (λ e. (self.old.step < self.new.step) × (self.new.step ≤ end) × (e.number + 1 < length self.new.saved.items))) }
         ensures stays { IfOk result (λ next. next ≡ None → self.new ≡ self.old) }
-        ensures most { self.old.pivots.strings.most ≤ self.new.pivots.strings.most }
         ensures way { IfOk result (λ next. IfSome next (λ e. (begin : ℕ) (p : Plan) (checkpoints : List Checkpoint) (old : List Bool) (next : ℕ) (block : Repeat) (passed : Bool) → IsFolding self.old.tableau.qubits (C.sequence coins.old) begin p self.old.cursor.all checkpoints old next block end passed self.old recurrence → IsFolding self.old.tableau.qubits (C.sequence coins.old) begin p self.old.cursor.all checkpoints old next block end true self.new e)) }
         ensures err { IfErr result (λ r. r ≡ OutOfMemory) }
     {
@@ -256,11 +250,9 @@ impl<'a> Replay<'a> {
         requires few_counted { self.old.applied + self.old.by_frame ≤ self.old.step }
         requires folding { (begin : ℕ) × (p : Plan) × (checkpoints : List Checkpoint) × (old : List Bool) × (next : ℕ) × (block : Repeat) × IsFolding self.old.tableau.qubits (C.sequence coins.old) begin p self.old.cursor.all checkpoints old next block end false self.old recurrence }
         ensures rest { self.new ≡ with_folded self.old self.new }
-        ensures all { self.new.cursor.all ≡ self.old.cursor.all }
+        ensures further { IsFurther (C.asks coins.old) (C.asks coins.new) self.old self.new }
         ensures same_coins { C.sequence coins.new ≡ C.sequence coins.old }
-        ensures asked { C.asks coins.new + all_coins_of (drop self.new.step self.old.cursor.all) ≤ C.asks coins.old + all_coins_of (drop self.old.step self.old.cursor.all) }
-        ensures gone { OnOk result (HasGone spacing (C.asks coins.old) (C.asks coins.new) self.old self.new) }
-        ensures most { self.old.pivots.strings.most ≤ self.new.pivots.strings.most }
+        ensures costs { OnOk result (Costs (C.asks coins.old) (C.asks coins.new) self.old self.new) }
         ensures way { IfOk result (λ passed. (begin : ℕ) (p : Plan) (checkpoints : List Checkpoint) (old : List Bool) (next : ℕ) (block : Repeat) → IsFolding self.old.tableau.qubits (C.sequence coins.old) begin p self.old.cursor.all checkpoints old next block end false self.old recurrence → IsOnWay self.old.tableau.qubits (C.sequence coins.old) begin p self.old.cursor.all checkpoints old next (with_cursor self.old.cursor.all (with_state passed self.new))) }
         ensures err { IfErr result (λ r. r ≡ OutOfMemory) }
     {
@@ -289,23 +281,15 @@ impl<'a> Replay<'a> {
         end: usize,
         coins: &mut C,
     ) -> Result<(), Refusal>
-        requires same_circuit { unroll (circuit_items circuit.now) ≡ self.old.cursor.all }
-        requires checked { check_of (circuit_items circuit.now) ≡ None }
+        requires circuit { HasSteps (circuit_items circuit.now) self.old.cursor.all }
         requires some { 1 ≤ spacing }
         requires some_steps { 0 < block.length }
         requires few { end ≤ most_steps }
         requires few_counted { self.old.applied + self.old.by_frame ≤ self.old.step }
         requires may { (begin : ℕ) × (p : Plan) × (checkpoints : List Checkpoint) × (old : List Bool) × (next : ℕ) × MayRecur self.old.tableau.qubits (C.sequence coins.old) begin p self.old.cursor.all checkpoints old next block end self.old }
-        ensures all { self.new.cursor.all ≡ self.old.cursor.all }
-        ensures qubits { self.new.tableau.qubits ≡ self.old.tableau.qubits }
+        ensures further { IsFurther (C.asks coins.old) (C.asks coins.new) self.old self.new }
         ensures same_coins { C.sequence coins.new ≡ C.sequence coins.old }
-        ensures window { OnOk result (self.new.pivots.window ≡ self.old.pivots.window) }
-        ensures further { OnOk result (self.old.step ≤ self.new.step) }
-        ensures asks { OnOk result (C.asks coins.new + self.old.applied ≤ C.asks coins.old + self.new.applied) }
-        ensures asks_free { OnOk result (C.asks coins.new + ones self.old.outputs.free.items ≤ C.asks coins.old + ones self.new.outputs.free.items) }
-        ensures asked { C.asks coins.new + all_coins_of (drop self.new.step self.old.cursor.all) ≤ C.asks coins.old + all_coins_of (drop self.old.step self.old.cursor.all) }
-        ensures few_saved { OnOk result (spacing * length self.new.saved.items + self.old.step ≤ spacing * length self.old.saved.items + self.new.step) }
-        ensures most { OnOk result (self.old.pivots.strings.most ≤ self.new.pivots.strings.most) }
+        ensures costs { OnOk result (Costs (C.asks coins.old) (C.asks coins.new) self.old self.new) }
         ensures way { OnOk result ((begin : ℕ) (p : Plan) (checkpoints : List Checkpoint) (old : List Bool) (next : ℕ) → MayRecur self.old.tableau.qubits (C.sequence coins.old) begin p self.old.cursor.all checkpoints old next block end self.old → IsOnWay self.old.tableau.qubits (C.sequence coins.old) begin p self.old.cursor.all checkpoints old next self.new) }
         ensures err { IfErr result (λ r. r ≡ OutOfMemory) }
     {
@@ -349,15 +333,9 @@ impl<'a> Replay<'a> {
         requires within { self.old.step ≤ plan.total }
         requires few_counted { self.old.applied + self.old.by_frame ≤ self.old.step }
         requires on_way { (begin : ℕ) × (checkpoints : List Checkpoint) × (old : List Bool) × (next : ℕ) × IsOnWay self.old.tableau.qubits (C.sequence coins.old) begin plan self.old.cursor.all checkpoints old next self.old × (place ≡ option_map (step_among_new plan) (slice_get checkpoints next)) }
-        ensures all { self.new.cursor.all ≡ self.old.cursor.all }
-        ensures qubits { self.new.tableau.qubits ≡ self.old.tableau.qubits }
+        ensures further { IsFurther (C.asks coins.old) (C.asks coins.new) self.old self.new }
         ensures same_coins { C.sequence coins.new ≡ C.sequence coins.old }
-        ensures window { OnOk result (self.new.pivots.window ≡ self.old.pivots.window) }
-        ensures further { OnOk result (self.old.step ≤ self.new.step) }
-        ensures asks { OnOk result (C.asks coins.new + self.old.applied ≤ C.asks coins.old + self.new.applied) }
-        ensures asks_free { OnOk result (C.asks coins.new + ones self.old.outputs.free.items ≤ C.asks coins.old + ones self.new.outputs.free.items) }
-        ensures asked { C.asks coins.new + all_coins_of (drop self.new.step self.old.cursor.all) ≤ C.asks coins.old + all_coins_of (drop self.old.step self.old.cursor.all) }
-        ensures few_saved { OnOk result (spacing_of plan.stride * length self.new.saved.items + self.old.step ≤ spacing_of plan.stride * length self.old.saved.items + self.new.step) }
+        ensures costs { OnOk result (Costs (C.asks coins.old) (C.asks coins.new) self.old self.new) }
         ensures way { OnOk result ((begin : ℕ) (checkpoints : List Checkpoint) (old : List Bool) (next : ℕ) → IsOnWay self.old.tableau.qubits (C.sequence coins.old) begin plan self.old.cursor.all checkpoints old next self.old → place ≡ option_map (step_among_new plan) (slice_get checkpoints next) → IsOnWay self.old.tableau.qubits (C.sequence coins.old) begin plan self.old.cursor.all checkpoints old next self.new) }
         ensures err { IfErr result (λ r. r ≡ OutOfMemory) }
     {

@@ -1,10 +1,8 @@
-ghost use Rattle.std.specs.Prelude.{◌≡◌, ◌+◌, ◌<◌, ◌≤◌, ◌++◌, ◌∷◌, [], All, OnOk, IfOk, IfErr, length, take, drop, OnErr};
+ghost use Rattle.std.specs.Prelude.{◌≡◌, ◌+◌, ◌≤◌, ◌++◌, ◌∷◌, [], OnOk, IfOk, IfErr, length, OnErr};
 ghost use Rattle.stab_io.specs.declared.refusal.Refusal.TheVariants.{OutOfMemory};
-ghost use Rattle.stab_items.specs.Steps.{most_steps};
-ghost use Rattle.stab_run.specs.Records.{ones};
-ghost use Rattle.stab_run.specs.Points.{all_coins_of};
-ghost use Rattle.stab_run.specs.ProgramStates.{StepFits};
 ghost use Rattle.stab_recording.specs.Replays.{IsAtStep, checkpoint_of};
+ghost use Rattle.stab_recording.specs.FollowedRuns.{Costs};
+ghost use Rattle.stab_recording.specs.inner.Progress.{AreRunnable, HasCarriedOut, IsFurther};
 ghost use Rattle.stab_recording.specs.inner.RestFrameStates.{with_state};
 
 use crate::checkpoint::Checkpoint;
@@ -69,27 +67,17 @@ impl<'a> Replay<'a> {
         limit: usize,
     ) -> Result<(), Refusal>
         requires begun { IsAtStep self.old.tableau.qubits (C.sequence coins.old) self.old.cursor.all self.old }
-        requires fits { All (StepFits self.old.tableau.qubits) self.old.cursor.all }
+        requires runnable { AreRunnable self.old.tableau.qubits self.old.cursor.all }
         requires order { self.old.step ≤ stop }
         requires further { stop ≤ limit }
         requires within { limit ≤ length self.old.cursor.all }
-        requires few { length self.old.cursor.all ≤ most_steps }
         requires few_applied { self.old.applied ≤ self.old.step }
-        ensures all { self.new.cursor.all ≡ self.old.cursor.all }
-        ensures qubits { self.new.tableau.qubits ≡ self.old.tableau.qubits }
-        ensures saved { self.new.saved.items ≡ self.old.saved.items }
+        ensures further { IsFurther (C.asks coins.old) (C.asks coins.new) self.old self.new }
         ensures same_coins { C.sequence coins.new ≡ C.sequence coins.old }
-        ensures at_step { OnOk result (IsAtStep self.old.tableau.qubits (C.sequence coins.old) self.old.cursor.all self.new) }
-        ensures order { self.old.step ≤ self.new.step }
+        ensures carried_out { OnOk result (HasCarriedOut self.old.tableau.qubits (C.sequence coins.old) self.old self.new) }
         ensures reached { OnOk result (stop ≤ self.new.step) }
         ensures most { self.new.step ≤ limit }
-        ensures raised { self.old.pivots.window ≤ self.new.pivots.window }
-        ensures records { OnOk result (self.old.outputs.records.items ≡ take (length self.old.outputs.records.items) self.new.outputs.records.items) }
-        ensures counted { OnOk result (self.new.applied + self.old.step ≡ self.old.applied + self.new.step) }
-        ensures by_frame { self.new.by_frame ≡ self.old.by_frame }
-        ensures asks { C.asks coins.new + self.old.step ≤ C.asks coins.old + self.new.step }
-        ensures asks_free { OnOk result (C.asks coins.new + ones self.old.outputs.free.items ≤ C.asks coins.old + ones self.new.outputs.free.items) }
-        ensures asked { C.asks coins.new + all_coins_of (drop self.new.step self.old.cursor.all) ≤ C.asks coins.old + all_coins_of (drop self.old.step self.old.cursor.all) }
+        ensures costs { OnOk result (Costs (C.asks coins.old) (C.asks coins.new) self.old self.new) }
         ensures err { IfErr result (λ r. r ≡ OutOfMemory) }
     {
         let mut next = stop;

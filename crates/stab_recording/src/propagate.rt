@@ -1,17 +1,15 @@
 //! Steps on the way of a frame, until all are past, the frame is gone, or a pivot is missing.
 
-ghost use Rattle.std.specs.Prelude.{◌≡◌, ◌≢◌, ℕ, ◌+◌, ◌-◌, ◌^◌, ◌<◌, ◌≤◌, Bool, true, All, length, take, drop, OnOk, IfOk};
-ghost use Rattle.stab_items.specs.Steps.{Step};
+ghost use Rattle.std.specs.Prelude.{◌≡◌, ℕ, ◌+◌, ◌-◌, ◌<◌, ◌≤◌, Bool, true, length, take, drop, OnOk, IfOk};
 ghost use Rattle.stab_run.specs.Points.{Point, outputs, all_coins_of};
-ghost use Rattle.stab_run.specs.ProgramStates.{StepFits};
 ghost use Rattle.stab_frames.specs.RunPivots.{same_coins};
 ghost use Rattle.stab_frames.specs.PivotsOfSteps.{AreEnough};
 ghost use Rattle.stab_frames.specs.Pivots.{pivot_at, AreTrue};
-ghost use Rattle.stab_frames.specs.Propagations.{PropagationState, frame_at, IsPlaced, PropagatesOver};
-ghost use Rattle.stab_recording.specs.Stops.{IsStop};
-ghost use Rattle.stab_recording.specs.declared.propagate.Stop.TheVariants.{Gone, NoString};
+ghost use Rattle.stab_frames.specs.Propagations.{frame_at, IsPlaced, PropagatesOver};
+ghost use Rattle.stab_recording.specs.PassedSteps.{HasPassed, MayPropagate};
+ghost use Rattle.stab_recording.specs.declared.propagate.Stop.TheVariants.{Gone};
 ghost use Rattle.stab_frames.specs.inner.Draws.{AsksFree};
-ghost use Rattle.stab_frames.specs.inner.Propagates.{GoesOver, IsMissing};
+ghost use Rattle.stab_frames.specs.inner.Propagates.{GoesOver};
 
 use stab_edits::Cursor;
 use stab_frames::{Draw, Known, Pivots, Propagation, SameCoins, propagate_instruction};
@@ -50,23 +48,15 @@ pub fn propagate<D: Draw, C: Coins>(
     may_end: bool,
     by_frame: &mut u64,
 ) -> Result<Propagated, AllocError>
-    requires same_length { known.strings.now.qubits ≡ length propagation.old.letters }
-    requires fits { All (StepFits (length propagation.old.letters)) cursor.old.left }
-    requires placed { IsPlaced known.free.now propagation.old }
-    requires few { D.ahead known.draw.now + (propagation.old.coin + length cursor.old.left) < 2 ^ 63 }
-    requires few_propagated { by_frame.old + length cursor.old.left < 2 ^ 63 }
+    requires may { MayPropagate known.strings.now known.free.now (D.ahead known.draw.now) cursor.old.left by_frame.old propagation.old }
     ensures most { by_frame.new ≤ by_frame.old + length (take most cursor.old.left) }
-    ensures counted { IfOk result (λ w. by_frame.old + w.steps ≤ by_frame.new) }
+    ensures passed { IfOk result (HasPassed (length propagation.old.letters) window most known.entry.strings.now.strings known.entry.free.now propagation.old.coin cursor.old.left cursor.new.left by_frame.old by_frame.new propagation.new) }
     ensures all { cursor.new.all ≡ cursor.old.all }
     ensures length { length propagation.new.letters ≡ length propagation.old.letters }
     ensures same_coins { C.sequence coins.new ≡ C.sequence coins.old }
     ensures asks { AsksFree known.entry.free.now propagation.old.coin (propagation.old.coin + all_coins_of (take most cursor.old.left)) (C.asks coins.old) (C.asks coins.new) }
-    ensures within { IfOk result (λ w. w.steps ≤ length (take most cursor.old.left)) }
-    ensures left { IfOk result (λ w. w.stop ≢ NoString → cursor.new.left ≡ drop w.steps cursor.old.left) }
     ensures goes { IfOk result (λ w. GoesOver (length propagation.old.letters) known.entry.strings.now.strings known.entry.free.now (D.changes known.entry.draw.now (C.sequence coins.old)) (take w.steps cursor.old.left) propagation.old propagation.new) }
-    ensures stop { IfOk result (λ w. IsStop (length propagation.old.letters) window w.steps (length (take most cursor.old.left)) propagation.new w.stop) }
     ensures gone { IfOk result (λ w. w.stop ≡ Gone → may_end ≡ true) }
-    ensures missing { IfOk result (λ w. w.stop ≡ NoString → IsMissing known.entry.strings.now.strings known.entry.free.now (propagation.old.coin + all_coins_of (take (by_frame.new - by_frame.old) cursor.old.left))) }
 {
     let window = window as usize;
     let mut steps = 0;
@@ -111,21 +101,13 @@ pub fn propagate_steps(
     may_end: bool,
     by_frame: &mut u64,
 ) -> Result<Propagated, AllocError>
-    requires same_length { strings.now.qubits ≡ length propagation.old.letters }
-    requires fits { All (StepFits (length propagation.old.letters)) cursor.old.left }
-    requires placed { IsPlaced free.now propagation.old }
-    requires few { propagation.old.coin + length cursor.old.left < 2 ^ 63 }
-    requires few_propagated { by_frame.old + length cursor.old.left < 2 ^ 63 }
+    requires may { MayPropagate strings.now free.now 0 cursor.old.left by_frame.old propagation.old }
     ensures most { by_frame.new ≤ by_frame.old + length (take most cursor.old.left) }
-    ensures counted { IfOk result (λ w. by_frame.old + w.steps ≤ by_frame.new) }
-    ensures missing { IfOk result (λ w. w.stop ≡ NoString → IsMissing strings.now.strings free.now (propagation.old.coin + all_coins_of (take (by_frame.new - by_frame.old) cursor.old.left))) }
+    ensures passed { IfOk result (HasPassed (length propagation.old.letters) window most strings.now.strings free.now propagation.old.coin cursor.old.left cursor.new.left by_frame.old by_frame.new propagation.new) }
     ensures all { cursor.new.all ≡ cursor.old.all }
     ensures length { length propagation.new.letters ≡ length propagation.old.letters }
     ensures placed { OnOk result (IsPlaced free.now propagation.new) }
-    ensures within { IfOk result (λ w. w.steps ≤ length (take most cursor.old.left)) }
-    ensures left { IfOk result (λ w. w.stop ≢ NoString → cursor.new.left ≡ drop w.steps cursor.old.left) }
     ensures propagated { IfOk result (λ w. PropagatesOver (length propagation.old.letters) (pivot_at strings.now.strings free.now) (take w.steps cursor.old.left) propagation.old propagation.new) }
-    ensures stop { IfOk result (λ w. IsStop (length propagation.old.letters) window w.steps (length (take most cursor.old.left)) propagation.new w.stop) }
     ensures enough { IfOk result (λ w. (coins : ℕ → Bool) (a : Point) (base : ℕ) → a.coin ≡ propagation.old.coin → AreTrue (length propagation.old.letters) coins (pivot_at strings.now.strings free.now) cursor.old.left a → (outputs (length propagation.old.letters) coins cursor.old.left a).free ≡ drop propagation.old.coin free.now → AreEnough (length propagation.old.letters) coins (same_coins (pivot_at strings.now.strings free.now)) (take w.steps cursor.old.left) (frame_at base propagation.old) a) }
 {
     let known = Known {

@@ -1,4 +1,4 @@
-ghost use Rattle.std.specs.Prelude.{◌≡◌, ℕ, ◌+◌, ◌-◌, ◌*◌, ◌<◌, ◌≤◌, ◌^◌, [], None, All, OnOk, IfOk, IfErr, length, take, drop};
+ghost use Rattle.std.specs.Prelude.{◌≡◌, ℕ, ◌+◌, ◌-◌, ◌*◌, ◌<◌, ◌≤◌, ◌^◌, None, All, OnOk, IfOk, IfErr, length, drop};
 ghost use Rattle.stab_io.specs.declared.refusal.Refusal.TheVariants.{OutOfMemory};
 ghost use Rattle.stab_items.specs.Steps.{most_steps};
 ghost use Rattle.stab_edits.specs.Views.{circuit_items};
@@ -6,9 +6,10 @@ ghost use Rattle.stab_edits.specs.Repeats.{AreRepeats};
 ghost use Rattle.stab_run.specs.Records.{ones};
 ghost use Rattle.stab_run.specs.Points.{all_coins_of};
 ghost use Rattle.stab_run.specs.ProgramStates.{StepFits, output_of};
-ghost use Rattle.stab_recording.specs.Replays.{IsAtStep, IsReplay, Ascending, spacing_of, IsEnd, EndsSoon, IsAtStop, IsOnWay, StopsAt, checkpoints_skipped};
+ghost use Rattle.stab_recording.specs.Replays.{IsAtStep, IsReplay, Ascending, spacing_of, IsAtStop, IsOnWay, StopsAt};
 ghost use Rattle.stab_frames.specs.Pivots.{PivotsState};
 ghost use Rattle.stab_recording.specs.inner.Arrivals.{IsArrival};
+ghost use Rattle.stab_recording.specs.inner.Progress.{HasCarriedOut, IsFurther};
 ghost use Rattle.stab_recording.specs.PropagatedReplays.{IsOldRun};
 ghost use Rattle.stab_recording.specs.FollowedRuns.{Costs, HasEnded, HasSteps, IsFollowed, IsNew, IsPlanned};
 
@@ -160,20 +161,11 @@ impl<'a> Replay<'a> {
         requires order { self.old.step ≤ stop }
         requires within { stop ≤ length self.old.cursor.all }
         requires few { self.old.applied + length self.old.cursor.all < 2 ^ 63 }
-        ensures all { self.new.cursor.all ≡ self.old.cursor.all }
-        ensures qubits { self.new.tableau.qubits ≡ self.old.tableau.qubits }
-        ensures saved { self.new.saved.items ≡ self.old.saved.items }
+        ensures further { IsFurther (C.asks coins.old) (C.asks coins.new) self.old self.new }
         ensures same_coins { C.sequence coins.new ≡ C.sequence coins.old }
-        ensures at_step { OnOk result (IsAtStep self.old.tableau.qubits (C.sequence coins.old) self.old.cursor.all self.new) }
+        ensures carried_out { OnOk result (HasCarriedOut self.old.tableau.qubits (C.sequence coins.old) self.old self.new) }
         ensures step { self.new.step ≡ stop }
-        ensures raised { self.old.pivots.window ≤ self.new.pivots.window }
-        ensures records { OnOk result (self.old.outputs.records.items ≡ take (length self.old.outputs.records.items) self.new.outputs.records.items) }
-        ensures counted { OnOk result (self.new.applied + self.old.step ≡ self.old.applied + stop) }
-        ensures by_frame { self.new.by_frame ≡ self.old.by_frame }
-        ensures most { self.new.pivots.strings.most ≡ self.old.pivots.strings.most }
-        ensures asks { C.asks coins.new + self.old.step ≤ C.asks coins.old + stop }
-        ensures asks_free { OnOk result (C.asks coins.new + ones self.old.outputs.free.items ≤ C.asks coins.old + ones self.new.outputs.free.items) }
-        ensures asked { C.asks coins.new + all_coins_of (drop stop self.old.cursor.all) ≤ C.asks coins.old + all_coins_of (drop self.old.step self.old.cursor.all) }
+        ensures costs { OnOk result (Costs (C.asks coins.old) (C.asks coins.new) self.old self.new) }
         ensures err { IfErr result (λ r. r ≡ OutOfMemory) }
     {
         let most = stop - self.step;
@@ -250,17 +242,11 @@ impl<'a> Replay<'a> {
         requires next { next ≤ length old.now.checkpoints.now }
         requires ascending { Ascending plan self.old.step (drop next old.now.checkpoints.now) }
         ensures same_coins { C.sequence coins.new ≡ C.sequence coins.old }
-        ensures all { self.new.cursor.all ≡ self.old.cursor.all }
-        ensures qubits { self.new.tableau.qubits ≡ self.old.tableau.qubits }
-        ensures raised { OnOk result (self.old.pivots.window ≤ self.new.pivots.window) }
+        ensures further { IsFurther (C.asks coins.old) (C.asks coins.new) self.old self.new }
         ensures way { IfOk result (λ later. (begin : ℕ) → IsOnWay self.old.tableau.qubits (C.sequence coins.old) begin plan self.old.cursor.all old.now.checkpoints.now (old.now.outputs.now.records.items) next self.old → IsAtStop self.old.tableau.qubits (C.sequence coins.old) begin plan self.old.cursor.all old.now.checkpoints.now (old.now.outputs.now.records.items) later self.new) }
-        ensures asks { OnOk result (C.asks coins.new + self.old.applied ≤ C.asks coins.old + self.new.applied) }
-        ensures asks_free { OnOk result (C.asks coins.new + ones self.old.outputs.free.items ≤ C.asks coins.old + ones self.new.outputs.free.items) }
-        ensures asked { C.asks coins.new + all_coins_of (drop self.new.step self.old.cursor.all) ≤ C.asks coins.old + all_coins_of (drop self.old.step self.old.cursor.all) }
-        ensures few_saved { IfOk result (λ later. spacing_of plan.stride * length self.new.saved.items + spacing_of plan.stride * next ≤ spacing_of plan.stride * length self.old.saved.items + spacing_of plan.stride * later) }
+        ensures costs { OnOk result (Costs (C.asks coins.old) (C.asks coins.new) self.old self.new) }
         ensures stops { IfOk result (λ later. StopsAt plan old.now.checkpoints.now later self.old.step self.new.step) }
         ensures order { IfOk result (λ later. next ≤ later) }
-        ensures further { self.old.step ≤ self.new.step }
         ensures err { IfErr result (λ r. r ≡ OutOfMemory) }
     {
         let next = self.skip_differing(repeats, plan, old.checkpoints, old.outputs, next);

@@ -1,11 +1,10 @@
-ghost use Rattle.std.specs.Prelude.{◌≡◌, ◌⊎◌, ℕ, ◌+◌, ◌-◌, ◌<◌, ◌≤◌, ◌^◌, [], true, false, All, length, take, replicate, IfOk, IfErr};
+ghost use Rattle.std.specs.Prelude.{◌≡◌, ◌⊎◌, ℕ, ◌+◌, ◌-◌, ◌≤◌, [], true, false, All, length, take, replicate, IfOk, IfErr};
 ghost use Rattle.stab_io.specs.declared.refusal.Refusal.TheVariants.{OutOfMemory};
 ghost use Rattle.stab_gates.specs.declared.letter.Letter.TheVariants.{I};
 ghost use Rattle.stab_run.specs.Records.{looked_up, ones};
 ghost use Rattle.stab_run.specs.Points.{all_coins_of};
-ghost use Rattle.stab_run.specs.ProgramStates.{StepFits};
-ghost use Rattle.stab_frames.specs.Propagations.{IsPlaced};
 ghost use Rattle.stab_frames.specs.inner.Propagates.{IsMissing};
+ghost use Rattle.stab_recording.specs.PassedSteps.{MayPropagate};
 ghost use Rattle.stab_recording.specs.RestFrames.{AreInOrder, Stabilise, FramesSome, IsRestFrame};
 
 use crate::checkpoint::Checkpoint;
@@ -43,14 +42,10 @@ pub fn propagate_rest(
     spare: &mut Option<Tableau>,
     by_frame: &mut u64,
 ) -> Result<bool, Refusal>
-    requires same_length { strings.now.qubits ≡ length propagation.old.letters }
-    requires fits { All (StepFits (length propagation.old.letters)) cursor.old.left }
-    requires placed { IsPlaced free.now propagation.old }
-    requires few { propagation.old.coin + length cursor.old.left < 2 ^ 63 }
+    requires may { MayPropagate strings.now free.now 0 cursor.old.left by_frame.old propagation.old }
     requires same_qubits { All (λ c. c.tableau.qubits ≡ length propagation.old.letters) checkpoints.now }
     requires order { AreInOrder from (from + length cursor.old.left) checkpoints.now }
     requires nothing_conjugated { conjugated.old.items ≡ [] }
-    requires few_propagated { by_frame.old + length cursor.old.left < 2 ^ 63 }
     ensures most { by_frame.new ≤ by_frame.old + length cursor.old.left }
     ensures missing { IfOk result (λ advanced. advanced ≡ false → IsMissing strings.now.strings free.now (propagation.old.coin + all_coins_of (take (by_frame.new - by_frame.old) cursor.old.left))) }
     ensures length { length propagation.new.letters ≡ length propagation.old.letters }

@@ -1,17 +1,15 @@
 //! Runs of all steps of a circuit: replays from the first step on, which keep checkpoints in long blocks alone, while rounds of these are
 //! carried out one by one to see whether they come again.
 
-ghost use Rattle.std.specs.Prelude.{◌≡◌, ℕ, ◌+◌, ◌*◌, ◌≤◌, Bool, [], None, All, length, drop, OnOk, IfOk, IfErr};
+ghost use Rattle.std.specs.Prelude.{◌≡◌, ℕ, ◌+◌, ◌≤◌, Bool, [], None, All, length, OnOk, IfOk, IfErr};
 ghost use Rattle.stab_io.specs.declared.refusal.Refusal.TheVariants.{OutOfMemory};
 ghost use Rattle.stab_gates.specs.Limits.{most_qubits};
-ghost use Rattle.stab_items.specs.Steps.{most_steps, unroll, check_of, check_within};
+ghost use Rattle.stab_items.specs.Steps.{unroll, check_of};
 ghost use Rattle.stab_edits.specs.Views.{circuit_items};
-ghost use Rattle.stab_edits.specs.Repeats.{IsRepeat, AreRepeats};
 ghost use Rattle.stab_edits.specs.Cursors.{HasDistinctQubits};
-ghost use Rattle.stab_run.specs.Records.{ones};
-ghost use Rattle.stab_run.specs.Points.{all_coins_of};
-ghost use Rattle.stab_run.specs.ProgramStates.{StepFits};
-ghost use Rattle.stab_recording.specs.inner.Runs.{IsOwnRun};
+ghost use Rattle.stab_recording.specs.FollowedRuns.{Costs};
+ghost use Rattle.stab_recording.specs.inner.Progress.{IsFurther};
+ghost use Rattle.stab_recording.specs.inner.Runs.{IsOwnRun, MayRunAll, MayRunBlock};
 
 use crate::checkpoint_places::end_of;
 use crate::meeting::are_fixed;
@@ -110,20 +108,11 @@ impl<'a> Replay<'a> {
         round: usize,
         coins: &mut C,
     ) -> Result<(), Refusal>
-        requires same_circuit { unroll (circuit_items circuit.now) ≡ self.old.cursor.all }
-        requires checked { check_of (circuit_items circuit.now) ≡ None }
-        requires fits { All (StepFits self.old.tableau.qubits) self.old.cursor.all }
-        requires few { length self.old.cursor.all ≤ most_steps }
-        requires repeat { IsRepeat self.old.cursor.all block }
-        requires own { IsOwnRun self.old.tableau.qubits (C.sequence coins.old) self.old.cursor.all self.old }
-        ensures all { self.new.cursor.all ≡ self.old.cursor.all }
-        ensures qubits { self.new.tableau.qubits ≡ self.old.tableau.qubits }
+        requires ready { MayRunBlock (C.sequence coins.old) (circuit_items circuit.now) block self.old }
+        ensures further { IsFurther (C.asks coins.old) (C.asks coins.new) self.old self.new }
         ensures same_coins { C.sequence coins.new ≡ C.sequence coins.old }
-        ensures asks_free { OnOk result (C.asks coins.new + ones self.old.outputs.free.items ≤ C.asks coins.old + ones self.new.outputs.free.items) }
-        ensures asked { C.asks coins.new + all_coins_of (drop self.new.step self.old.cursor.all) ≤ C.asks coins.old + all_coins_of (drop self.old.step self.old.cursor.all) }
-        ensures most { OnOk result (self.old.pivots.strings.most ≤ self.new.pivots.strings.most) }
+        ensures costs { OnOk result (Costs (C.asks coins.old) (C.asks coins.new) self.old self.new) }
         ensures own { OnOk result (IsOwnRun self.old.tableau.qubits (C.sequence coins.old) self.old.cursor.all self.new) }
-        ensures further { OnOk result (self.old.step ≤ self.new.step) }
         ensures err { IfErr result (λ r. r ≡ OutOfMemory) }
     {
         let end = end_of(block);
@@ -147,18 +136,10 @@ impl<'a> Replay<'a> {
         block: Repeat,
         coins: &mut C,
     ) -> Result<(), Refusal>
-        requires same_circuit { unroll (circuit_items circuit.now) ≡ self.old.cursor.all }
-        requires checked { check_of (circuit_items circuit.now) ≡ None }
-        requires fits { All (StepFits self.old.tableau.qubits) self.old.cursor.all }
-        requires few { length self.old.cursor.all ≤ most_steps }
-        requires repeat { IsRepeat self.old.cursor.all block }
-        requires own { IsOwnRun self.old.tableau.qubits (C.sequence coins.old) self.old.cursor.all self.old }
-        ensures all { self.new.cursor.all ≡ self.old.cursor.all }
-        ensures qubits { self.new.tableau.qubits ≡ self.old.tableau.qubits }
+        requires ready { MayRunBlock (C.sequence coins.old) (circuit_items circuit.now) block self.old }
+        ensures further { IsFurther (C.asks coins.old) (C.asks coins.new) self.old self.new }
         ensures same_coins { C.sequence coins.new ≡ C.sequence coins.old }
-        ensures asks_free { OnOk result (C.asks coins.new + ones self.old.outputs.free.items ≤ C.asks coins.old + ones self.new.outputs.free.items) }
-        ensures asked { C.asks coins.new + all_coins_of (drop self.new.step self.old.cursor.all) ≤ C.asks coins.old + all_coins_of (drop self.old.step self.old.cursor.all) }
-        ensures most { OnOk result (self.old.pivots.strings.most ≤ self.new.pivots.strings.most) }
+        ensures costs { OnOk result (Costs (C.asks coins.old) (C.asks coins.new) self.old self.new) }
         ensures own { OnOk result (IsOwnRun self.old.tableau.qubits (C.sequence coins.old) self.old.cursor.all self.new) }
         ensures err { IfErr result (λ r. r ≡ OutOfMemory) }
     {
@@ -183,17 +164,10 @@ impl<'a> Replay<'a> {
         repeats: &[Repeat],
         coins: &mut C,
     ) -> Result<(), Refusal>
-        requires same_circuit { unroll (circuit_items circuit.now) ≡ self.old.cursor.all }
-        requires checked { check_within self.old.tableau.qubits (circuit_items circuit.now) ≡ None }
-        requires fits { All (StepFits self.old.tableau.qubits) self.old.cursor.all }
-        requires repeats { AreRepeats 0 self.old.cursor.all repeats.now }
-        requires own { IsOwnRun self.old.tableau.qubits (C.sequence coins.old) self.old.cursor.all self.old }
-        ensures all { self.new.cursor.all ≡ self.old.cursor.all }
-        ensures qubits { self.new.tableau.qubits ≡ self.old.tableau.qubits }
+        requires ready { MayRunAll (C.sequence coins.old) (circuit_items circuit.now) repeats.now self.old }
+        ensures further { IsFurther (C.asks coins.old) (C.asks coins.new) self.old self.new }
         ensures same_coins { C.sequence coins.new ≡ C.sequence coins.old }
-        ensures asks_free { OnOk result (C.asks coins.new + ones self.old.outputs.free.items ≤ C.asks coins.old + ones self.new.outputs.free.items) }
-        ensures asked { C.asks coins.new + all_coins_of (drop self.new.step self.old.cursor.all) ≤ C.asks coins.old + all_coins_of (drop self.old.step self.old.cursor.all) }
-        ensures most { OnOk result (self.old.pivots.strings.most ≤ self.new.pivots.strings.most) }
+        ensures costs { OnOk result (Costs (C.asks coins.old) (C.asks coins.new) self.old self.new) }
         ensures own { OnOk result (IsOwnRun self.old.tableau.qubits (C.sequence coins.old) self.old.cursor.all self.new) }
         ensures step { OnOk result (self.new.step ≡ length self.old.cursor.all) }
         ensures err { IfErr result (λ r. r ≡ OutOfMemory) }

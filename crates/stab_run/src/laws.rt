@@ -28,7 +28,7 @@ pub fn runs_are_sound()
 
 /// The qubits of each step of a circuit that nothing refuses on n qubits are below n, and those of a
 /// pair differ: no pair in the items of any faultless lines is of one qubit with itself
-/// (`stab_circuit::laws::lines_keep_qubits_apart`), and a `Cursor` says so about its circuit.
+/// (`stab_circuit::laws::lines_keep_qubits_distinct`), and a `Cursor` says so about its circuit.
 pub fn checked_steps_fit()
     ensures law { CheckedStepsFit }
 {}

@@ -1,23 +1,14 @@
 //! Words of a script, and the paths that they stand for.
-ghost use Rattle.std.specs.Prelude.{◌≡◌, ◌≤◌, true, false, length, Some, None, MatchOption};
-ghost use Rattle.std.specs.List.{position_or_len};
-ghost use Rattle.stab_lines.specs.Lines.{is_spacing as spacing};
+ghost use Rattle.std.specs.Prelude.{◌≡◌, true, false, Some, None, MatchOption};
 ghost use Rattle.stab_lines.specs.Words.{value};
 ghost use Rattle.stab_script.specs.ScriptWords.{first_word as first_of, after_word, is_place_number, place_of};
 
 use stab_circuit::Path;
 use stab_line_reader::{capped_value, is_number};
-use stab_lines::{first_piece, is_spacing, without_spacing_in_front};
+use stab_lines::{first_piece, without_spacing_in_front, word_len};
 
 /// The most numbers of a place.
 const MOST_NUMBERS: usize = 17;
-
-fn word_len(text: &[u8]) -> usize
-    ensures value { result ≡ position_or_len spacing text.now }
-    ensures within { result ≤ length text.now }
-{
-    text.iter().take_while(|b| !is_spacing(**b)).count()
-}
 
 /// The first word of a text that does not begin with spacing, and what follows it, without the
 /// spacing in front.

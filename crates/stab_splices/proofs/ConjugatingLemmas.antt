@@ -1,4 +1,4 @@
--- Turnings: what a frame needs to be propagated over the steps after a span of a recording's circuit, and what was made of the run then.
+-- Conjugating: what a frame needs that is propagated over the steps after a span, and what is made of a recording then.
 use Rattle.stab_splices.proofs.Names.{◌≡◌, ℕ, ◌+◌, ◌-◌, ◌^◌, ◌<◌, ◌≤◌, sym, ◌∙◌, ap, subst, Bool, List, [], ◌∷◌, length, take, drop, All, Some, get_or, arith, IfSome, length-append, length-drop, length-take, drop-take, All-drop, get_or_from_slice_get, take-add, Letter, TableauState, Step, Span, Lengths, Point, RunOutput, joined, origin, point_after, outputs, lengths_of, HasAtMost, outputs-short, cut, Checkpoint, IsCheckpoint, outputs-append, longer, AreBelow, PropagationState, AreInOrder, ArePropagatedCheckpoints, IsRestFrame, Recording, IsRecording, IsSpan, IsCount}
 use Rattle.std.specs.Prelude.{slice_get}
 use Rattle.stab_splices.proofs.SpacingLemmas.{IsBefore}

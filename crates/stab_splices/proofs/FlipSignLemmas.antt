@@ -282,13 +282,15 @@ module _ {n : ℕ} {coins : ℕ → Bool} {K : ℕ} {xs ys : List Step} {s : Spa
         → HasConjugated n coins K ys (length old.observables.items) s old f new
     has-conjugated new put close last_is fits f took = record {
       kept = conjugated-kept new last put close last_is stays fits;
-      applied =
-          applied-within n coins K xs count old kept ys s span m near near.checkpoint.step (conjugated_end s (length ys) stop) (f.applied + f.by_frame)
-          (subst (λ o. IfSome o (λ c. near.checkpoint.step ≡ c.step)) (sym near.here) refl)
-          (some-at (λ c. (f.applied + f.by_frame) + c.step ≡ conjugated_end s (length ys) stop) old.checkpoints.items (m - 1) near.checkpoint near.here took) end-within;
-      few = λ zs other far also span_also agree.
-          conjugated-few zs other also span_also far (f.applied + f.by_frame) agree
-          (some-at (λ c. (f.applied + f.by_frame) + c.step ≡ conjugated_end s (length ys) stop) old.checkpoints.items (m - 1) (also_near zs other also span_also).checkpoint
-          (also_near zs other also span_also).here took);
-      counted = λ zs other also span_also. conjugated-counted zs other also span_also (f.applied + f.by_frame) took;
+      way = record {
+        most =
+            applied-within n coins K xs count old kept ys s span m near near.checkpoint.step (conjugated_end s (length ys) stop) (f.applied + f.by_frame)
+            (subst (λ o. IfSome o (λ c. near.checkpoint.step ≡ c.step)) (sym near.here) refl)
+            (some-at (λ c. (f.applied + f.by_frame) + c.step ≡ conjugated_end s (length ys) stop) old.checkpoints.items (m - 1) near.checkpoint near.here took) end-within;
+        few = λ zs other far also span_also agree.
+            conjugated-few zs other also span_also far (f.applied + f.by_frame) agree
+            (some-at (λ c. (f.applied + f.by_frame) + c.step ≡ conjugated_end s (length ys) stop) old.checkpoints.items (m - 1) (also_near zs other also span_also).checkpoint
+            (also_near zs other also span_also).here took);
+        counted = λ zs other also span_also. conjugated-counted zs other also span_also (f.applied + f.by_frame) took;
+      };
     }

@@ -1,5 +1,5 @@
 -- What the proofs of this crate take from std, from crates below and from its definitions.
-pub use Rattle.std.proofs.Common.{◌≡◌, ℕ, ◌+◌, ◌-◌, ◌≤◌, sym, ◌∙◌, ap, subst, Bool, List, ◌++◌, take, drop, arith, suc, ◌*◌, ◌<◌, refl, [], ◌∷◌, append_assoc, length, get_or, add-one, Option, zero, false, inl, inr, true, reverse, ◌^◌, map, Some, None, slice_get, All, ◌/◌, max, ◌⊎◌, replicate, min, not, set, append-nil, vec_capacity, ⊎_elim}
+pub use Rattle.std.proofs.Common.{◌≡◌, ℕ, ◌+◌, ◌-◌, ◌≤◌, sym, ◌∙◌, ap, subst, Bool, List, ◌++◌, take, drop, arith, suc, ◌*◌, ◌<◌, refl, [], ◌∷◌, append_assoc, length, get_or, add-one, Option, zero, false, inl, inr, true, reverse, ◌^◌, map, Some, None, slice_get, All, ◌/◌, max, ◌⊎◌, replicate, min, not, set, append-nil, vec_capacity, ⊎_elim, ◌≢◌, rules}
 pub use Rattle.std.proofs.Math.Bool.{beq}
 pub use Rattle.std.proofs.Math.Nat.{le-div_iff_mul-le}
 pub use Rattle.std.proofs.Math.Seq.{take-add, take-suc, take-append-add, drop-append-add}
@@ -82,6 +82,7 @@ pub use Rattle.stab_recording.specs.PivotLists.{KeepsPivots, IsSpliced}
 pub use Rattle.stab_rounds.specs.Spans.{IsSpan}
 pub use Rattle.stab_splices.specs.Recordings.{IsRecording, AgreeAfterSpan, AgreeBackAfterSpan, IsSameRecording, Follows}
 pub use Rattle.stab_recording.specs.Replays.{MeetsAt, Misses, EndsSoon, step_among_new, IsReplay, Ascending, IsEnd, IsPropagated, IsAtStep}
+pub use Rattle.stab_recording.specs.declared.propagate.Stop.TheVariants.{NoString}
 pub use Rattle.stab_recording.specs.RestFrames.{AreInOrder, with_states, ArePropagatedCheckpoints, IsRestFrame, IsDropped, Ending, over, gone, dropped, AreEnoughBy, IsLastDiffering}
 pub use Rattle.stab_recording.specs.Spacing.{Near, last_of, IsSpaced, Sparse}
 pub use Rattle.stab_recording.specs.declared.checkpoint.Checkpoint.{Checkpoint}

@@ -3,4 +3,5 @@ pub mod PauliSpans
 pub mod PassedPlaces
 pub mod Counts
 pub mod Recordings
+pub mod FollowedEdits
 pub mod inner

@@ -8,7 +8,10 @@ use Rattle.stab_run.specs.Points.{RunOutput, origin, joined, point_after, output
 use Rattle.stab_run.specs.ProgramStates.{StepFits}
 use Rattle.stab_frames.specs.Fronts.{AreFronts}
 use Rattle.stab_frames.specs.Pivots.{AreTrue}
-use Rattle.stab_frames.specs.Propagations.{PropagationState, frame_at}
+use Rattle.stab_frames.specs.Propagations.{PropagationState, frame_at, PropagatesOver}
+use Rattle.stab_recording.specs.declared.checkpoint.Checkpoint.{Checkpoint}
+use Rattle.stab_recording.specs.Checkpoints.{IsCheckpoint}
+use Rattle.stab_recording.specs.RestFrames.{AreEnoughBy}
 use Rattle.stab_splices.specs.PauliSpans.{DifferAtPlaces}
 use Rattle.stab_splices.specs.declared.past_places.PauliChange.{PauliChange}
 
@@ -43,3 +46,22 @@ pub record IsBeforePlaces (n : ℕ) (coins : ℕ → Bool) (xs ys : List Step) (
   pub between : IsFrameBetween n coins xs ys strings free base front s.first s.first w
   pub left_is : left ≡ drop s.first ys
   pub differ : DifferAtPlaces n xs ys s change
+
+-- such a frame went over exactly this many of some steps, and these are left
+pub record HasGoneOver (pivots : ℕ → Option (List Letter)) (free : List Bool) (count : ℕ) (xs rest : List Step) (before after : ℕ) (w v : PropagationState) : Type 0 where
+  pub within : count ≤ length xs
+  pub left : rest ≡ drop count xs
+  pub counted : after + length rest ≤ before + length xs
+  pub propagated : PropagatesOver (length w.letters) pivots (take count xs) w v
+  pub enough : AreEnoughBy (length w.letters) pivots free xs count w
+
+-- it went over a piece, and made checkpoints of the old run that are in it ones of the new run, after others
+pub record HasPassedPiece (pivots : ℕ → Option (List Letter)) (free : List Bool) (old new gap : ℕ) (ys left rest : List Step) (before after : ℕ) (w v : PropagationState) (checkpoints others all : List Checkpoint) : Type 0 where
+  pub left_is : rest ≡ drop gap left
+  pub counted : after + length rest ≤ before + length left
+  pub coin : v.coin + length rest ≤ w.coin + length left
+  pub count : length all ≡ length others + length checkpoints
+  pub between : (coins : ℕ → Bool) (xs : List Step) (base : ℕ) (front : RunOutput) → IsBeforePiece (length w.letters) coins xs ys pivots free base front old new gap left w
+      → IsFrameBetween (length w.letters) coins xs ys pivots free base front (old + gap) (new + gap) v
+  pub are_checkpoints : (coins : ℕ → Bool) (xs : List Step) (base : ℕ) (front : RunOutput) → IsBeforePiece (length w.letters) coins xs ys pivots free base front old new gap left w
+      → All (IsCheckpoint (length w.letters) coins xs) checkpoints → All (IsCheckpoint (length w.letters) coins ys) others → All (IsCheckpoint (length w.letters) coins ys) all

@@ -1,21 +1,18 @@
-ghost use Rattle.std.specs.Prelude.{◌≡◌, ℕ, ◌+◌, ◌-◌, ◌*◌, ◌^◌, ◌<◌, ◌≤◌, [], ◌∷◌, None, Some, true, Bool, List, All, length, take, drop, slice_get, vec_capacity, IfSome, IfOk, IfErr, OnOk, OnErr, ◌++◌};
+ghost use Rattle.std.specs.Prelude.{◌≡◌, ℕ, ◌+◌, ◌-◌, ◌*◌, ◌<◌, ◌≤◌, ◌∷◌, None, Some, true, Bool, All, length, take, drop, slice_get, IfSome, IfOk, IfErr, OnOk, OnErr};
 ghost use Rattle.stab_io.specs.declared.refusal.Refusal.TheVariants.{OutOfMemory};
-ghost use Rattle.stab_items.specs.Steps.{Step, most_steps, unroll, observables_of, check_within};
+ghost use Rattle.stab_items.specs.Steps.{unroll, observables_of, check_within};
 ghost use Rattle.stab_edits.specs.Views.{circuit_items};
 ghost use Rattle.stab_edits.specs.Cursors.{HasDistinctQubits};
 ghost use Rattle.stab_edits.specs.Repeats.{AreRepeats};
 ghost use Rattle.stab_run.specs.Records.{ones};
-ghost use Rattle.stab_run.specs.Points.{all_coins_of};
-ghost use Rattle.stab_frames.specs.Propagations.{IsPlaced};
 ghost use Rattle.stab_recording.specs.Checkpoints.{checkpoint_steps};
+ghost use Rattle.stab_recording.specs.PassedSteps.{MayPropagate};
 ghost use Rattle.stab_recording.specs.Spacing.{Near, last_of};
 ghost use Rattle.stab_splices.specs.declared.past_places.PauliChange.{PauliChange};
-ghost use Rattle.stab_splices.specs.Counts.{IsCounted};
-ghost use Rattle.stab_rounds.specs.Spans.{IsSpan};
-ghost use Rattle.stab_splices.specs.Recordings.{IsRecording, IsSameRecording, Follows, AgreeAfterSpan, AgreeBackAfterSpan};
-ghost use Rattle.stab_splices.specs.inner.Prepared.{IsCount};
+ghost use Rattle.stab_splices.specs.FollowedEdits.{AsksWithin, HasFollowed};
+ghost use Rattle.stab_splices.specs.Recordings.{IsSameRecording, Follows};
 ghost use Rattle.stab_splices.specs.inner.OldRests.{HasRoomFor};
-ghost use Rattle.stab_splices.specs.inner.PropagatedRecordings.{StaysNear, IsPastPlaces, IsConjugating, IsPut, HasConjugated, span_meeting};
+ghost use Rattle.stab_splices.specs.inner.PropagatedRecordings.{AreCounted, StaysNear, IsPastPlaces, IsConjugating, IsPut, HasConjugated, span_meeting};
 
 use crate::counting::lengths_after;
 use crate::flips::{flip_outputs, sum_additions};
@@ -158,9 +155,7 @@ impl Recording {
         requires checked { check_within self.now.tableau.qubits (circuit_items circuit.now) ≡ None }
         requires same_length { length change.now.string.letters ≡ self.now.tableau.qubits }
         requires follows { (coins : ℕ → Bool) × (K : ℕ) × Follows self.now.tableau.qubits coins K (unroll (circuit_items circuit.now)) span (Some change.now) self.now }
-        requires before { IsCount (span.first + 1) self.now.checkpoints.items before }
-        requires order { before ≤ inside }
-        requires inside { inside ≤ length self.now.checkpoints.items }
+        requires counted { AreCounted span self.now.checkpoints.items before inside }
         requires none_propagated { by_frame.old ≡ 0 }
         ensures most { by_frame.new ≤ length (unroll (circuit_items circuit.now)) - span.first }
         ensures passed { IfOk result (λ found. IfSome found (λ p. IsPastPlaces (unroll (circuit_items circuit.now)) span before inside change.now self.now p.from p.propagation p.checkpoints.items)) }
@@ -218,13 +213,10 @@ impl Recording {
     ) -> Result<Option<Conjugating>, Refusal>
         requires checked { check_within self.now.tableau.qubits (circuit_items circuit.now) ≡ None }
         requires follows { (coins : ℕ → Bool) × (K : ℕ) × (change : PauliChange) × Follows self.now.tableau.qubits coins K (unroll (circuit_items circuit.now)) span (Some change) self.now }
-        requires distinct { All HasDistinctQubits (unroll (circuit_items circuit.now)) }
         requires letters { length passed.propagation.letters ≡ self.now.tableau.qubits }
-        requires placed { IsPlaced self.now.outputs.free.items passed.propagation }
-        requires few { passed.propagation.coin + length (drop span.new_end (unroll (circuit_items circuit.now))) < 2 ^ 63 }
+        requires may { MayPropagate self.now.strings self.now.outputs.free.items 0 (drop span.new_end (unroll (circuit_items circuit.now))) by_frame.old passed.propagation }
         requires inside { inside ≤ length self.now.checkpoints.items }
         requires following { IfSome (slice_get self.now.checkpoints.items inside) (λ c. span.old_end ≤ c.step) }
-        requires few_propagated { by_frame.old ≤ 2 * most_steps }
         ensures most { by_frame.new ≤ by_frame.old + (length (unroll (circuit_items circuit.now)) - span.new_end) }
         ensures conjugating { IfOk result (λ found. IfSome found (IsConjugating (unroll (circuit_items circuit.now)) span inside passed self.now)) }
         ensures err { IfErr result (λ r. r ≡ OutOfMemory) }
@@ -369,19 +361,11 @@ impl Recording {
         requires stride { 1 ≤ stride }
         requires follows { Follows self.old.tableau.qubits (C.sequence coins.old) stride (unroll (circuit_items circuit.now)) span paulis self.old }
         requires same_length { IfSome paulis (λ p. length p.string.letters ≡ self.old.tableau.qubits) }
-        ensures kept { OnOk result (IsRecording self.old.tableau.qubits (C.sequence coins.old) stride (unroll (circuit_items circuit.now)) (observables_of (circuit_items circuit.now)) self.new) }
-        ensures distinct { OnOk result (All HasDistinctQubits (unroll (circuit_items circuit.now))) }
+        ensures followed { IfOk result (λ f. HasFollowed self.old.tableau.qubits (C.sequence coins.old) stride (unroll (circuit_items circuit.now)) (observables_of (circuit_items circuit.now)) span (C.asks coins.old) (C.asks coins.new) self.old f self.new) }
         ensures qubits { self.new.tableau.qubits ≡ self.old.tableau.qubits }
         ensures unchanged { OnErr result (IsSameRecording self.new self.old) }
         ensures same_coins { C.sequence coins.new ≡ C.sequence coins.old }
-        ensures asks { IfOk result (λ f. C.asks coins.new ≤ C.asks coins.old + f.applied) }
-        ensures asks_free { OnOk result (C.asks coins.new ≤ C.asks coins.old + ones self.new.outputs.free.items) }
-        ensures asked { C.asks coins.new ≤ C.asks coins.old + all_coins_of (unroll (circuit_items circuit.now)) }
-        ensures asked_after { C.asks coins.new ≤ C.asks coins.old + ((length (unroll (circuit_items circuit.now)) - span.first) + stride) }
-        ensures applied { IfOk result (λ f. f.applied + f.by_frame ≤ (length (unroll (circuit_items circuit.now)) - span.first) + stride) }
-        ensures tried { IfOk result (λ f. f.tried ≤ 3 * (length (unroll (circuit_items circuit.now)) - span.first)) }
-        ensures few { IfOk result (λ f. (xs : List Step) (count far : ℕ) → IsRecording self.old.tableau.qubits (C.sequence coins.old) stride xs count self.old → IsSpan xs (unroll (circuit_items circuit.now)) span → AgreeAfterSpan self.old.tableau.qubits (C.sequence coins.old) xs (unroll (circuit_items circuit.now)) span far → f.applied + f.by_frame ≤ ((span.new_end - span.first) + 2 * stride) + far) }
-        ensures counted { IfOk result (λ f. (xs : List Step) (count : ℕ) → IsRecording self.old.tableau.qubits (C.sequence coins.old) stride xs count self.old → IsSpan xs (unroll (circuit_items circuit.now)) span → IsCounted (AgreeAfterSpan self.old.tableau.qubits (C.sequence coins.old) xs (unroll (circuit_items circuit.now)) span) (AgreeBackAfterSpan self.old.tableau.qubits (C.sequence coins.old) xs (unroll (circuit_items circuit.now)) span) (checkpoint_steps self.old.checkpoints.items) span.first span.old_end span.new_end (length (unroll (circuit_items circuit.now))) (f.applied + f.by_frame)) }
+        ensures asked { AsksWithin stride (unroll (circuit_items circuit.now)) span.first (C.asks coins.old) (C.asks coins.new) }
         ensures err { IfErr result (λ r. r ≡ OutOfMemory) }
     {
         let mut tried = 0;

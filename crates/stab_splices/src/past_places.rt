@@ -1,14 +1,13 @@
-ghost use Rattle.std.specs.Prelude.{◌≡◌, ℕ, ◌+◌, ◌^◌, ◌<◌, ◌≤◌, Bool, [], true, List, All, length, take, drop, IfOk, IfErr, IfSome, OnOk};
+ghost use Rattle.std.specs.Prelude.{◌≡◌, ℕ, ◌+◌, ◌≤◌, Bool, [], true, List, All, length, take, drop, IfOk, IfErr, IfSome, OnOk};
 ghost use Rattle.stab_io.specs.declared.refusal.Refusal.TheVariants.{OutOfMemory};
 ghost use Rattle.stab_items.specs.Steps.{Step};
 ghost use Rattle.stab_edits.specs.declared.edit.Span.{Span};
 ghost use Rattle.stab_run.specs.Points.{RunOutput};
-ghost use Rattle.stab_run.specs.ProgramStates.{StepFits};
 ghost use Rattle.stab_frames.specs.Pivots.{pivot_at};
-ghost use Rattle.stab_frames.specs.Propagations.{IsPlaced, PropagatesOver};
+ghost use Rattle.stab_frames.specs.Propagations.{IsPlaced};
 ghost use Rattle.stab_recording.specs.Checkpoints.{IsCheckpoint};
-ghost use Rattle.stab_recording.specs.RestFrames.{AreEnoughBy};
-ghost use Rattle.stab_splices.specs.PassedPlaces.{IsFrameBetween, IsBeforePiece, IsBeforePlaces};
+ghost use Rattle.stab_recording.specs.PassedSteps.{MayPropagate};
+ghost use Rattle.stab_splices.specs.PassedPlaces.{IsFrameBetween, IsBeforePlaces, HasGoneOver, HasPassedPiece};
 
 use stab_edits::Cursor;
 use stab_frames::{Pivots, Propagation};
@@ -59,20 +58,12 @@ fn propagate_exactly(
     count: usize,
     by_frame: &mut u64,
 ) -> Result<bool, AllocError>
-    requires same_length { strings.now.qubits ≡ length propagation.old.letters }
-    requires fits { All (StepFits (length propagation.old.letters)) cursor.old.left }
-    requires placed { IsPlaced free.now propagation.old }
-    requires few { propagation.old.coin + length cursor.old.left < 2 ^ 63 }
-    requires few_propagated { by_frame.old + length cursor.old.left < 2 ^ 63 }
+    requires may { MayPropagate strings.now free.now 0 cursor.old.left by_frame.old propagation.old }
     ensures most { by_frame.new ≤ by_frame.old + length cursor.old.left }
-    ensures counted { IfOk result (λ went. went ≡ true → by_frame.new + length cursor.new.left ≤ by_frame.old + length cursor.old.left) }
     ensures all { cursor.new.all ≡ cursor.old.all }
     ensures length { length propagation.new.letters ≡ length propagation.old.letters }
     ensures placed { OnOk result (IsPlaced free.now propagation.new) }
-    ensures within { IfOk result (λ went. went ≡ true → count ≤ length cursor.old.left) }
-    ensures left { IfOk result (λ went. went ≡ true → cursor.new.left ≡ drop count cursor.old.left) }
-    ensures propagated { IfOk result (λ went. went ≡ true → PropagatesOver (length propagation.old.letters) (pivot_at strings.now.strings free.now) (take count cursor.old.left) propagation.old propagation.new) }
-    ensures enough { IfOk result (λ went. went ≡ true → AreEnoughBy (length propagation.old.letters) (pivot_at strings.now.strings free.now) free.now cursor.old.left count propagation.old) }
+    ensures passed { IfOk result (λ went. went ≡ true → HasGoneOver (pivot_at strings.now.strings free.now) free.now count cursor.old.left cursor.new.left by_frame.old by_frame.new propagation.old propagation.new) }
 {
     let propagated = propagate_steps(
         propagation,
@@ -118,22 +109,13 @@ fn propagate_piece(
     passed: &mut Vec<Checkpoint>,
     by_frame: &mut u64,
 ) -> Result<bool, Refusal>
-    requires same_length { strings.now.qubits ≡ length propagation.old.letters }
-    requires fits { All (StepFits (length propagation.old.letters)) cursor.old.left }
-    requires placed { IsPlaced free.now propagation.old }
-    requires few { propagation.old.coin + length cursor.old.left < 2 ^ 63 }
+    requires may { MayPropagate strings.now free.now 0 cursor.old.left by_frame.old propagation.old }
     requires same_qubits { All (λ c. c.tableau.qubits ≡ length propagation.old.letters) checkpoints.now }
-    requires few_propagated { by_frame.old + length cursor.old.left < 2 ^ 63 }
     ensures most { by_frame.new ≤ by_frame.old + length cursor.old.left }
-    ensures counted { IfOk result (λ went. went ≡ true → by_frame.new + length cursor.new.left ≤ by_frame.old + length cursor.old.left) }
+    ensures passed { IfOk result (λ went. went ≡ true → HasPassedPiece (pivot_at strings.now.strings free.now) free.now old new gap cursor.old.all cursor.old.left cursor.new.left by_frame.old by_frame.new propagation.old propagation.new checkpoints.now passed.old.items passed.new.items) }
     ensures all { cursor.new.all ≡ cursor.old.all }
     ensures length { length propagation.new.letters ≡ length propagation.old.letters }
     ensures placed { OnOk result (IsPlaced free.now propagation.new) }
-    ensures left { IfOk result (λ went. went ≡ true → cursor.new.left ≡ drop gap cursor.old.left) }
-    ensures coin { IfOk result (λ went. went ≡ true → propagation.new.coin + length cursor.new.left ≤ propagation.old.coin + length cursor.old.left) }
-    ensures count { IfOk result (λ went. went ≡ true → length passed.new.items ≡ length passed.old.items + length checkpoints.now) }
-    ensures between { IfOk result (λ went. went ≡ true → (coins : ℕ → Bool) (xs : List Step) (base : ℕ) (front : RunOutput) → IsBeforePiece (length propagation.old.letters) coins xs cursor.old.all (pivot_at strings.now.strings free.now) free.now base front old new gap cursor.old.left propagation.old → IsFrameBetween (length propagation.old.letters) coins xs cursor.old.all (pivot_at strings.now.strings free.now) free.now base front (old + gap) (new + gap) propagation.new) }
-    ensures checkpoints { IfOk result (λ went. went ≡ true → (coins : ℕ → Bool) (xs : List Step) (base : ℕ) (front : RunOutput) → IsBeforePiece (length propagation.old.letters) coins xs cursor.old.all (pivot_at strings.now.strings free.now) free.now base front old new gap cursor.old.left propagation.old → All (IsCheckpoint (length propagation.old.letters) coins xs) checkpoints.now → All (IsCheckpoint (length propagation.old.letters) coins cursor.old.all) passed.old.items → All (IsCheckpoint (length propagation.old.letters) coins cursor.old.all) passed.new.items) }
     ensures err { IfErr result (λ r. r ≡ OutOfMemory) }
 {
     let mut gone = 0;
@@ -193,14 +175,10 @@ pub fn propagate_places(
     passed: &mut Vec<Checkpoint>,
     by_frame: &mut u64,
 ) -> Result<bool, Refusal>
-    requires same_length { strings.now.qubits ≡ length propagation.old.letters }
+    requires may { MayPropagate strings.now free.now 0 cursor.old.left by_frame.old propagation.old }
     requires string { length change.now.string.letters ≡ length propagation.old.letters }
-    requires fits { All (StepFits (length propagation.old.letters)) cursor.old.left }
-    requires placed { IsPlaced free.now propagation.old }
-    requires few { propagation.old.coin + length cursor.old.left < 2 ^ 63 }
     requires same_qubits { All (λ c. c.tableau.qubits ≡ length propagation.old.letters) checkpoints.now }
     requires nothing { passed.old.items ≡ [] }
-    requires few_propagated { by_frame.old + length cursor.old.left < 2 ^ 63 }
     ensures most { by_frame.new ≤ by_frame.old + length cursor.old.left }
     ensures length { length propagation.new.letters ≡ length propagation.old.letters }
     ensures placed { OnOk result (IsPlaced free.now propagation.new) }

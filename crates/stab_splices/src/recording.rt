@@ -1,21 +1,15 @@
-ghost use Rattle.std.specs.Prelude.{◌≡◌, ℕ, ◌+◌, ◌-◌, ◌*◌, ◌<◌, ◌≤◌, Bool, [], None, List, All, length, take, reverse, slice_get, vec_capacity, IfSome, OnOk, OnErr, IfOk, IfErr};
+ghost use Rattle.std.specs.Prelude.{◌≡◌, ℕ, ◌+◌, ◌-◌, ◌*◌, ◌<◌, ◌≤◌, Bool, [], None, length, take, reverse, slice_get, vec_capacity, IfSome, OnErr, IfOk, IfErr};
 ghost use Rattle.stab_io.specs.declared.refusal.Refusal.TheVariants.{OutOfMemory};
 ghost use Rattle.stab_gates.specs.Limits.{most_qubits};
-ghost use Rattle.stab_items.specs.Steps.{Step, unroll, observables_of, check_of, check_within};
+ghost use Rattle.stab_items.specs.Steps.{unroll, observables_of, check_of, check_within};
 ghost use Rattle.stab_edits.specs.Views.{circuit_items};
 ghost use Rattle.stab_edits.specs.Repeats.{AreRepeats};
-ghost use Rattle.stab_edits.specs.Cursors.{HasDistinctQubits};
 ghost use Rattle.stab_run.specs.Records.{ones};
-ghost use Rattle.stab_run.specs.Points.{all_coins_of};
-ghost use Rattle.stab_splices.specs.Counts.{IsCounted};
 ghost use Rattle.stab_run.specs.ProgramStates.{output_of};
 ghost use Rattle.stab_frames.specs.Pivots.{front_kept};
-ghost use Rattle.stab_recording.specs.Checkpoints.{checkpoint_steps};
-ghost use Rattle.stab_recording.specs.SavedCheckpoints.{all_saved};
-ghost use Rattle.stab_rounds.specs.Spans.{IsSpan};
-ghost use Rattle.stab_splices.specs.Recordings.{IsRecording, IsSameRecording, Follows, AgreeAfterSpan, AgreeBackAfterSpan};
+ghost use Rattle.stab_splices.specs.FollowedEdits.{AsksWithin, HasFollowed};
+ghost use Rattle.stab_splices.specs.Recordings.{IsRecording, IsSameRecording, Follows};
 ghost use Rattle.stab_splices.specs.inner.Prepared.{Begins, HasCheckpoint, IsRest, IsOldRest, HasRoom, IsPrepared, checkpoints_after, IsCommitted};
-ghost use Rattle.stab_recording.specs.PivotLists.{IsSpliced};
 
 use crate::flips::flip_outputs;
 use crate::rest::OldRest;
@@ -170,19 +164,11 @@ impl Recording {
         requires stride { 1 ≤ stride }
         requires follows { Follows self.old.tableau.qubits (C.sequence coins.old) stride (unroll (circuit_items circuit.now)) span None self.old }
         requires tried { tried ≤ 2 * (length (unroll (circuit_items circuit.now)) - span.first) }
-        ensures kept { OnOk result (IsRecording self.old.tableau.qubits (C.sequence coins.old) stride (unroll (circuit_items circuit.now)) (observables_of (circuit_items circuit.now)) self.new) }
-        ensures distinct { OnOk result (All HasDistinctQubits (unroll (circuit_items circuit.now))) }
+        ensures followed { IfOk result (λ f. HasFollowed self.old.tableau.qubits (C.sequence coins.old) stride (unroll (circuit_items circuit.now)) (observables_of (circuit_items circuit.now)) span (C.asks coins.old) (C.asks coins.new) self.old f self.new) }
         ensures qubits { self.new.tableau.qubits ≡ self.old.tableau.qubits }
         ensures unchanged { OnErr result (IsSameRecording self.new self.old) }
         ensures same_coins { C.sequence coins.new ≡ C.sequence coins.old }
-        ensures asks { IfOk result (λ f. C.asks coins.new ≤ C.asks coins.old + f.applied) }
-        ensures asks_free { OnOk result (C.asks coins.new ≤ C.asks coins.old + ones self.new.outputs.free.items) }
-        ensures asked { C.asks coins.new ≤ C.asks coins.old + all_coins_of (unroll (circuit_items circuit.now)) }
-        ensures asked_after { C.asks coins.new ≤ C.asks coins.old + ((length (unroll (circuit_items circuit.now)) - span.first) + stride) }
-        ensures applied { IfOk result (λ f. f.applied + f.by_frame ≤ (length (unroll (circuit_items circuit.now)) - span.first) + stride) }
-        ensures tried { IfOk result (λ f. f.tried ≤ 3 * (length (unroll (circuit_items circuit.now)) - span.first)) }
-        ensures few { IfOk result (λ f. (xs : List Step) (count far : ℕ) → IsRecording self.old.tableau.qubits (C.sequence coins.old) stride xs count self.old → IsSpan xs (unroll (circuit_items circuit.now)) span → AgreeAfterSpan self.old.tableau.qubits (C.sequence coins.old) xs (unroll (circuit_items circuit.now)) span far → f.applied + f.by_frame ≤ ((span.new_end - span.first) + 2 * stride) + far) }
-        ensures counted { IfOk result (λ f. (xs : List Step) (count : ℕ) → IsRecording self.old.tableau.qubits (C.sequence coins.old) stride xs count self.old → IsSpan xs (unroll (circuit_items circuit.now)) span → IsCounted (AgreeAfterSpan self.old.tableau.qubits (C.sequence coins.old) xs (unroll (circuit_items circuit.now)) span) (AgreeBackAfterSpan self.old.tableau.qubits (C.sequence coins.old) xs (unroll (circuit_items circuit.now)) span) (checkpoint_steps self.old.checkpoints.items) span.first span.old_end span.new_end (length (unroll (circuit_items circuit.now))) (f.applied + f.by_frame)) }
+        ensures asked { AsksWithin stride (unroll (circuit_items circuit.now)) span.first (C.asks coins.old) (C.asks coins.new) }
         ensures err { IfErr result (λ r. r ≡ OutOfMemory) }
     {
         let before = count_before(self.checkpoints.as_slice(), span.first + 1);

@@ -86,9 +86,13 @@ if_graphlike true = of_errors true true
 abbrev pub none_line : (most : Option ℕ) → (graphlike : Bool) → (observable : Option ℕ) → List ℕ
 none_line most graphlike observable = (codes "none" ++ up_to most) ++ line_end (if_graphlike graphlike) observable
 
--- what is written of an answer: the number of errors and a line for each, or that there is no such set
+-- what is written of a set: the number of its errors and a line for each
+abbrev pub set_text : DistanceOptions → Items → ErrorTableState → List ℕ → List ℕ
+set_text options items t numbers = distance_line (length numbers) options.graphlike options.everywhere options.observable ++ flat_map (numbered_line items t) numbers
+
+-- what is written of an answer: a set, or that there is none
 abbrev pub answer_text : DistanceOptions → Items → ErrorTableState → Answer → List ℕ
-answer_text options items t (Least numbers) = distance_line (length numbers.items) options.graphlike options.everywhere options.observable ++ flat_map (numbered_line items t) numbers.items
+answer_text options items t (Least numbers) = set_text options items t numbers.items
 answer_text options items t NoneWithin = none_line options.most options.graphlike options.observable
 answer_text options items t NoneAtAll = none_line None options.graphlike options.observable
 

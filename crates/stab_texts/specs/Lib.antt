@@ -9,8 +9,10 @@ pub mod Deciders
 pub mod Places
 pub mod FaultTables
 pub mod Distances
+pub mod PartTexts
 pub mod DoubtLines
 pub mod MissingObservables
+pub mod Questions
 pub mod CoinTables
 pub mod Reasons
 pub mod inner

@@ -1,5 +1,5 @@
 -- Fixed outcomes: if no pivot is known, a frame goes the same way whichever coins differ and whatever their numbers.
-use Rattle.stab_ways.proofs.Names.{◌≡◌, ℕ, ◌+◌, refl, sym, ◌∙◌, ap, List, [], ◌∷◌, ◌++◌, None, Step, one, joined, Frame, RunPivots, frame_after, flips_given, frame_over, flips_over, joined-assoc, by_letters, way_after, way_over, way_flips}
+use Rattle.stab_ways.proofs.Names.{◌≡◌, ℕ, ◌+◌, refl, sym, ◌∙◌, ap, List, [], ◌∷◌, ◌++◌, None, Step, joined, Frame, RunPivots, frame_after, flips_given, frame_over, flips_over, joined-assoc, by_letters, way_after, way_over, way_flips}
 use Rattle.stab_frames.proofs.TreatedLemmas.{IsTreatedAlike, after-treated, given-treated, over-treated, flips-treated}
 use Rattle.stab_frames.specs.FrameSteps.{flip_by, letters_for}
 

@@ -1,26 +1,48 @@
 -- Items: their instructions one after another and in rounds, and the walk over them.
-use Rattle.stab_ways.proofs.Names.{◌≡◌, ℕ, zero, suc, ◌+◌, ◌-◌, ◌*◌, ◌<◌, ◌≤◌, refl, sym, ◌∙◌, ap, subst, Bool, false, List, [], ◌∷◌, ◌++◌, length, take, drop, All, get_or, nat_lt, arith, append_assoc, append-nil, length-append, length-take, length-drop, le-ltb, true, put_in, take-append-drop, take_more, take-append_seam, drop-append_seam, All-take, All-drop, Option, Some, None, if◌then◌else◌, flat_map-append, Letter, Items, OneItem, next, block, done, before, listed, join, listed-append, listed_pushed, Step, steps_of, unroll, rounds, length-rounds, unroll-join, StepFits, parts_of, part_rounds, WalkState, past_steps, reported, over_part, walked}
-use Rattle.stab_ways.proofs.WalkedLemmas.{steps_in, walked-append, passed-none, changed_string-same}
+use Rattle.stab_ways.proofs.Names.{◌≡◌, ℕ, zero, suc, ◌+◌, ◌-◌, ◌*◌, ◌<◌, ◌≤◌, refl, sym, ◌∙◌, ap, subst, Bool, false, List, [], ◌∷◌, ◌++◌, length, take, drop, All, get_or, nat_le, arith, append_assoc, append-nil, length-append, length-take, length-drop, true, ◌⊎◌, inl, inr, put_in, take-append-drop, take_more, take-append_seam, drop-append_seam, All-take, All-drop, Option, Some, None, if◌then◌else◌, flat_map-append, Letter, Items, OneItem, next, block, done, before, listed, join, listed-append, listed_pushed, Step, steps_of, unroll, rounds, length-rounds, unroll-join, StepFits, Part, is_tick, rest_of, rounds_counted, parts_of, part_rounds, WalkState, past_steps, reported, over_part, walked}
+use Rattle.std.proofs.Common.{min}
+use Rattle.std.proofs.lemmas.Bool.{ne_eqb}
+use Rattle.stab_ways.proofs.WalkedLemmas.{steps_in, walked-append}
 
 -- the instructions of items one after another
 
 pub parts-join : (xs ys : Items) → parts_of (join xs ys) ≡ parts_of xs ++ parts_of ys
 parts-join done ys = refl
-parts-join (next op rest) ys = ap (λ ps. steps_of op.kind ∷ ps) (parts-join rest ys)
+parts-join (next op rest) ys = ap (λ ps. record { tick = is_tick op.kind; steps = steps_of op.kind } ∷ ps) (parts-join rest ys)
 parts-join (block count tag body rest) ys =
-    ap (λ ps. part_rounds count (parts_of body) ++ ps) (parts-join rest ys) ∙ sym (append_assoc (part_rounds count (parts_of body)) (parts_of rest) (parts_of ys))
+    let own = part_rounds (rounds_counted count (length (unroll body))) (parts_of body) in
+    ap (λ ps. own ++ ps) (parts-join rest ys) ∙ sym (append_assoc own (parts_of rest) (parts_of ys))
 
-steps-rounds : (k : ℕ) (parts : List (List Step)) → steps_in (part_rounds k parts) ≡ rounds k (steps_in parts)
+steps-rounds : (k : ℕ) (parts : List Part) → steps_in (part_rounds k parts) ≡ rounds k (steps_in parts)
 steps-rounds zero parts = refl
-steps-rounds (suc k) parts = flat_map-append (λ ys. ys) parts (part_rounds k parts) ∙ ap (λ zs. steps_in parts ++ zs) (steps-rounds k parts)
+steps-rounds (suc k) parts = flat_map-append (λ (p : Part). p.steps) parts (part_rounds k parts) ∙ ap (λ zs. steps_in parts ++ zs) (steps-rounds k parts)
+
+-- of rounds without a step one counts, and of others all
+
+rounds-nothing : (k : ℕ) (xs : List Step) → length xs ≡ 0 → rounds k xs ≡ []
+rounds-nothing zero xs none = refl
+rounds-nothing (suc k) [] none = rounds-nothing k [] none
+rounds-nothing (suc k) (x ∷ xs) none = absurd (omega (arith, none))
+
+pub all-counted : (count steps : ℕ) → 0 < steps → rounds_counted count steps ≡ count
+all-counted count steps some = ap (λ b. if b then min count 1 else count) (ne_eqb steps 0 (λ none. omega (arith, some, none)))
+
+pub first-counted : (count steps : ℕ) → steps ≡ 0 → 0 < count → rounds_counted count steps ≡ 1
+first-counted count steps none some =
+    let least : min count 1 ≡ 1 = omega (arith, some) in ap (rounds_counted count) none ∙ least
+
+counted-alike : (count : ℕ) (xs : List Step) → rounds (rounds_counted count (length xs)) xs ≡ rounds count xs
+counted-alike count [] = rounds-nothing (rounds_counted count 0) [] refl ∙ sym (rounds-nothing count [] refl)
+counted-alike count (x ∷ xs) = ap (λ k. rounds k (x ∷ xs)) (all-counted count (length (x ∷ xs)) (omega arith))
 
 -- have their steps
 pub steps-unrolled : (items : Items) → steps_in (parts_of items) ≡ unroll items
 steps-unrolled done = refl
 steps-unrolled (next op rest) = ap (λ zs. steps_of op.kind ++ zs) (steps-unrolled rest)
 steps-unrolled (block count tag body rest) =
-    flat_map-append (λ ys. ys) (part_rounds count (parts_of body)) (parts_of rest)
-    ∙ ap (λ zs. zs ++ steps_in (parts_of rest)) (steps-rounds count (parts_of body) ∙ ap (rounds count) (steps-unrolled body))
+    let own : ℕ = rounds_counted count (length (unroll body)) in
+    flat_map-append (λ (p : Part). p.steps) (part_rounds own (parts_of body)) (parts_of rest)
+    ∙ ap (λ zs. zs ++ steps_in (parts_of rest)) (steps-rounds own (parts_of body) ∙ ap (rounds own) (steps-unrolled body) ∙ counted-alike count (unroll body))
     ∙ ap (λ zs. rounds count (unroll body) ++ zs) (steps-unrolled rest)
 
 pub long-rounds : (k : ℕ) (items : Items) → length (steps_in (part_rounds k (parts_of items))) ≡ k * length (unroll items)
@@ -28,7 +50,7 @@ long-rounds k items =
     ap length (steps-rounds k (parts_of items) ∙ ap (rounds k) (steps-unrolled items)) ∙ length-rounds k (unroll items)
 
 -- one round more, after the others
-pub rounds-following : (k : ℕ) (parts : List (List Step)) → part_rounds (k + 1) parts ≡ part_rounds k parts ++ parts
+pub rounds-following : (k : ℕ) (parts : List Part) → part_rounds (k + 1) parts ≡ part_rounds k parts ++ parts
 rounds-following zero parts = append-nil parts
 rounds-following (suc k) parts =
     let further : suc k + 1 ≡ suc (k + 1) = omega arith in
@@ -82,50 +104,24 @@ block-steps count tag body = ap length (append-nil (rounds count (unroll body)))
 
 -- how many steps a walk passes
 
-after-steps : (n k : ℕ) (string : List Letter) (ys : List Step) (w : WalkState) (b : Bool)
-    → (if b then reported n (drop k ys) (put_in string (past_steps n (take k ys) w)) else record (past_steps n ys w) { waits = Some (k - length ys) }).steps ≡ w.steps + length ys
-after-steps n k string ys w true = omega (arith, length-take k ys, length-drop k ys)
-after-steps n k string ys w false = refl
+after-steps : (n k : ℕ) (string : List Letter) (q : Part) (w : WalkState) (b : Bool)
+    → (if b then reported n (rest_of k q) (put_in string (past_steps n (take k q.steps) w)) else record (past_steps n q.steps w) { waits = Some (k - length q.steps) }).steps ≡ w.steps + length q.steps
+after-steps n k string q w true = omega (arith, length-take k q.steps, length-drop k q.steps)
+after-steps n k string q w false = refl
 
-over-steps : (n : ℕ) (string : List Letter) (ys : List Step) (waits : Option ℕ) (w : WalkState) → (over_part n string ys waits w).steps ≡ w.steps + length ys
-over-steps n string ys None w = refl
-over-steps n string ys (Some k) w = after-steps n k string ys w (nat_lt k (length ys))
+over-steps : (n : ℕ) (string : List Letter) (q : Part) (waits : Option ℕ) (w : WalkState) → (over_part n string q waits w).steps ≡ w.steps + length q.steps
+over-steps n string q None w = refl
+over-steps n string q (Some k) w = after-steps n k string q w (nat_le k (length q.steps))
 
-pub walked-steps : (n : ℕ) (string : List Letter) (parts : List (List Step)) (w : WalkState) → (walked n string parts w).steps ≡ w.steps + length (steps_in parts)
+pub walked-steps : (n : ℕ) (string : List Letter) (parts : List Part) (w : WalkState) → (walked n string parts w).steps ≡ w.steps + length (steps_in parts)
 walked-steps n string [] w = let none : w.steps ≡ w.steps + 0 = omega arith in none
-walked-steps n string (ys ∷ parts) w =
-    omega (arith, walked-steps n string parts (over_part n string ys w.waits w), over-steps n string ys w.waits w, length-append ys (steps_in parts))
+walked-steps n string (q ∷ parts) w =
+    omega (arith, walked-steps n string parts (over_part n string q w.waits w), over-steps n string q w.waits w, length-append q.steps (steps_in parts))
 
--- without a step it is as it was
-
-over-empty : (n : ℕ) (string : List Letter) (waits : Option ℕ) (w : WalkState) → w.waits ≡ waits → length w.frame.letters ≡ n → over_part n string [] waits w ≡ w
-over-empty n string None w e size =
-    let none : w.steps + 0 ≡ w.steps = omega arith in
-    (λ i. record {
-      steps = none i;
-      waits = w.waits;
-      frame = passed-none n w.frame i;
-      turns = (ap (λ ts. w.turns ++ ts) (changed_string-same (w.steps + 0) n w.frame.letters size) ∙ append-nil w.turns) i;
-    })
-over-empty n string (Some k) w e size =
-    let none : w.steps + 0 ≡ w.steps = omega arith in
-    let same : k - 0 ≡ k = omega arith in
-    ap (λ (b : Bool). if b then reported n (drop k []) (put_in string (past_steps n (take k []) w)) else record (past_steps n [] w) { waits = Some (k - 0) }) (le-ltb k 0 (omega arith))
-    ∙ (λ i. record { steps = none i; waits = (ap (λ m. Some m) same ∙ sym e) i; frame = passed-none n w.frame i; turns = w.turns })
-
-pub walked-empty : (n : ℕ) (string : List Letter) (parts : List (List Step)) (w : WalkState) → length (steps_in parts) ≡ 0 → length w.frame.letters ≡ n
-    → walked n string parts w ≡ w
-walked-empty n string [] w none size = refl
-walked-empty n string ([] ∷ parts) w none size =
-    ap (walked n string parts) (over-empty n string w.waits w refl size) ∙ walked-empty n string parts w none size
-walked-empty n string ((y ∷ ys) ∷ parts) w none size = absurd (omega (arith, none))
-
--- one item
-
-pub tick-none : (x tick : OneItem) (n : ℕ) (string : List Letter) (w : WalkState) → x ≡ tick → length (steps_in (parts_of (before tick done))) ≡ 0 → length w.frame.letters ≡ n
-    → w ≡ walked n string (parts_of (before x done)) w
-tick-none x tick n string w is none size =
-    sym (walked-empty n string (parts_of (before tick done)) w none size) ∙ ap (λ y. walked n string (parts_of (before y done)) w) (sym is)
+-- and in one round of a block
+pub body-steps : (n : ℕ) (string : List Letter) (body : Items) (mid new : WalkState) → new ≡ walked n string (parts_of body) mid → new.steps ≡ mid.steps + length (unroll body)
+body-steps n string body mid new is =
+    ap (λ (w : WalkState). w.steps) is ∙ walked-steps n string (parts_of body) mid ∙ ap (λ ys. mid.steps + length ys) (steps-unrolled body)
 
 -- rounds fit if one does
 
@@ -146,22 +142,21 @@ pub round-steps : (n k : ℕ) (string : List Letter) (body : Items) (start mid :
 round-steps n k string body start mid is =
     ap (λ (w : WalkState). w.steps) is ∙ walked-steps n string (part_rounds k (parts_of body)) start ∙ ap (λ m. start.steps + m) (long-rounds k body)
 
-times-none : (j : ℕ) → j * 0 ≡ 0
-times-none j = omega arith
+-- the first round of a block without a step is the last that counts
+pub first-round : (n k count steps : ℕ) (string : List Letter) (body : Items) (start mid new : WalkState) → (k ≡ 0) ⊎ (0 < steps) → k < count → steps ≡ length (unroll body)
+    → mid ≡ walked n string (part_rounds k (parts_of body)) start → new ≡ walked n string (parts_of body) mid → new.steps ≡ mid.steps
+    → new ≡ walked n string (part_rounds (rounds_counted count steps) (parts_of body)) start
+first-round n k count steps string body start mid new which lt long before is same = by_number which
+  where
+    none : steps ≡ 0
+    none = omega (arith, long, same, body-steps n string body mid new is)
 
--- rounds without a step
-pub no-rounds : (n k m : ℕ) (string : List Letter) (body : Items) (start mid new : WalkState) → mid ≡ walked n string (part_rounds k (parts_of body)) start
-    → new ≡ walked n string (parts_of body) mid → new.steps ≡ mid.steps → length start.frame.letters ≡ n → new ≡ walked n string (part_rounds m (parts_of body)) start
-no-rounds n k m string body start mid new before is same size =
-    let long : length (steps_in (parts_of body)) ≡ length (unroll body) = ap length (steps-unrolled body) in
-    let none : length (steps_in (parts_of body)) ≡ 0 =
-    omega (arith, same, ap (λ (w : WalkState). w.steps) is, walked-steps n string (parts_of body) mid) in
-    let empty : length (unroll body) ≡ 0 = sym long ∙ none in
-    let rounds-empty : (j : ℕ) → length (steps_in (part_rounds j (parts_of body))) ≡ 0 = λ j. long-rounds j body ∙ ap (λ l. j * l) empty ∙ times-none j in
-    is
-    ∙ ap (walked n string (parts_of body)) (before ∙ walked-empty n string (part_rounds k (parts_of body)) start (rounds-empty k) size)
-    ∙ walked-empty n string (parts_of body) start none size
-    ∙ sym (walked-empty n string (part_rounds m (parts_of body)) start (rounds-empty m) size)
+    by_number : (k ≡ 0) ⊎ (0 < steps) → new ≡ walked n string (part_rounds (rounds_counted count steps) (parts_of body)) start
+    by_number (inr some) = absurd (omega (arith, some, none))
+    by_number (inl first) =
+        let one : k + 1 ≡ 1 = omega (arith, first) in
+        walked-round n k string body start mid new before is
+        ∙ ap (λ j. walked n string (part_rounds j (parts_of body)) start) (one ∙ sym (first-counted count steps none (omega (arith, lt))))
 
 -- one item more
 pub walked-item : (n k : ℕ) (string : List Letter) (xs : List OneItem) (x : OneItem) (start mid new : WalkState) → k < length xs → x ≡ get_or xs k x

@@ -10,6 +10,6 @@ pub mod StringLemmas
 pub mod TogetherLemmas
 pub mod PassLemmas
 pub mod ItemLemmas
-pub mod TickLemmas
+pub mod TurnLemmas
 pub mod WalkLemmas
 pub mod EndLemmas

@@ -1,9 +1,9 @@
 -- What the proofs of this crate take from std, from crates below and from its definitions.
-pub use Rattle.std.proofs.Common.{◌≡◌, ℕ, zero, suc, ◌+◌, ◌-◌, ◌*◌, refl, sym, ◌∙◌, ap, subst, Bool, true, false, ◌&&◌, ◌||◌, not, List, [], ◌∷◌, ◌++◌, length, take, drop, All, replicate, nat_lt, arith, ◌<◌, ◌≤◌, map, get_or, set, append_assoc, append-nil, le-ltb, ltb-true, ltb-false, ◌⊎◌, inl, inr}
+pub use Rattle.std.proofs.Common.{◌≡◌, ℕ, zero, suc, ◌+◌, ◌-◌, ◌*◌, refl, sym, ◌∙◌, ap, subst, Bool, true, false, ◌&&◌, ◌||◌, not, List, [], ◌∷◌, ◌++◌, length, take, drop, All, replicate, nat_lt, nat_le, arith, ◌<◌, ◌≤◌, map, get_or, set, append_assoc, append-nil, le-ltb, ltb-true, ltb-false, ◌⊎◌, inl, inr}
 pub use Rattle.std.proofs.Math.Seq.{take-add, take-take, take-append_seam, drop-append_seam}
-pub use Rattle.std.proofs.lemmas.List.{map_more, length-map, map-append, take-append-drop, length-replicate, length-append, length-take, length-drop, replicate_more, take_more, drop_all, take_all, drop-drop}
+pub use Rattle.std.proofs.lemmas.List.{map_more, length-map, map-append, take-append-drop, length-replicate, length-append, length-take, length-drop, replicate_more, take_more, drop_all, take_all, drop-drop, drop-take}
 pub use Rattle.std.proofs.lemmas.List.Elements.{All-take, All-nil, All-cons, All-drop, All-head, All-tail, All-append}
-pub use Rattle.std.proofs.lemmas.Bool.{cases_lt}
+pub use Rattle.std.proofs.lemmas.Bool.{cases_lt, leb-true, leb-false, le-leb, lt-leb}
 pub use Rattle.std.specs.List.{list_any, flat_map}
 pub use Rattle.std.specs.Prelude.{Option, Some, None, if◌then◌else◌}
 pub use Rattle.stab_gates.specs.declared.letter.Letter.{Letter}
@@ -56,7 +56,7 @@ pub use Rattle.stab_frames.proofs.PropagatedPointLemmas.{conjugated-over, conjug
 pub use Rattle.stab_frames.proofs.SignLemmas.{sign-twice, back-letter}
 pub use Rattle.stab_ways.specs.PutIn.{letter_gates, with_string, by_letters, reset_leaves, step_leaves, way_after, way_over, way_flips, frame_begun, string_after, string_flips}
 pub use Rattle.stab_ways.specs.Laws.{coins_with, StringsFlipRuns, FixedOutcomesKeepCoins}
-pub use Rattle.stab_ways.specs.Ways.{Turn, placed, differ, changed_string, turns, part_rounds, parts_of, parts_after, string_turns, turn_shown}
+pub use Rattle.stab_ways.specs.Ways.{Part, is_tick, rest_of, rounds_counted, Turn, placed, differ, changed_string, tick_string, listed_string, turns, part_rounds, parts_of, parts_after, string_turns, turn_shown}
 pub use Rattle.stab_ways.specs.inner.Walks.{EndsTogether, IsFront, has_letter_at, steps_leave, passed, WalkState, put_in, ended, past_steps, reported, over_part, walked, walk_shown, IsWalk}
 pub use Rattle.stab_ways.specs.declared.way.PlacedLetter.{PlacedLetter}
 pub use Rattle.stab_run.specs.Records.{ones}

@@ -1,20 +1,9 @@
 -- Runs: what a string that is put in flips in them.
-use Rattle.stab_ways.proofs.Names.{◌≡◌, ℕ, ◌+◌, ◌-◌, ◌<◌, ◌≤◌, refl, sym, ◌∙◌, ap, subst, Bool, false, ◌&&◌, List, [], ◌∷◌, ◌++◌, length, take, drop, All, replicate, get_or, arith, zero, suc, take-take, take-append-drop, All-take, All-nil, All-drop, Letter, I, string_product, string_product-blank, ◌⊕◌, member, IsConjugated, Step, records_of, State, start, run, Point, RunOutput, origin, nothing, all_coins_of, point_after, outputs, StepFits, coins-are, flags-counted, outputs-append, run-state, length-replicate, Frame, frame_of, identity_frame, AreFronts, IsFlippedRun, by_frame-same, flipped-run, letter_gates, with_string, way_over, way_flips, frame_begun, string_after, string_flips, coins_with, StringsFlipRuns, FixedOutcomesKeepCoins}
+use Rattle.stab_ways.proofs.Names.{◌≡◌, ℕ, ◌+◌, ◌-◌, ◌<◌, ◌≤◌, refl, sym, ◌∙◌, ap, subst, Bool, false, ◌&&◌, List, [], ◌++◌, length, take, drop, All, replicate, get_or, arith, take-take, take-append-drop, All-take, All-nil, All-drop, Letter, I, string_product, string_product-blank, ◌⊕◌, member, IsConjugated, Step, records_of, State, start, run, Point, RunOutput, origin, nothing, all_coins_of, point_after, outputs, StepFits, coins-are, flags-counted, outputs-append, run-state, length-replicate, drop-take, Frame, frame_of, identity_frame, AreFronts, IsFlippedRun, by_frame-same, flipped-run, letter_gates, with_string, way_over, way_flips, frame_begun, string_after, string_flips, coins_with, StringsFlipRuns, FixedOutcomesKeepCoins}
 use Rattle.stab_ways.proofs.EnoughLemmas.{Differ, differ-front, get_or-following, get_or-front, long-flips}
 use Rattle.stab_ways.proofs.BlankLemmas.{blank-over}
 use Rattle.stab_ways.proofs.FrontLemmas.{fronts-way}
 use Rattle.stab_ways.proofs.GateLemmas.{product-whole, letters-put}
-
--- steps after the first k, up to the first k + j
-
-take-none : (j : ℕ) → ◌≡◌ {A = List Step} [] (take j [])
-take-none zero = refl
-take-none (suc j) = refl
-
-drop-taken : (k j : ℕ) (xs : List Step) → drop k (take (k + j) xs) ≡ take j (drop k xs)
-drop-taken zero j xs = let same : 0 + j ≡ j = omega arith in ap (λ m. take m xs) same
-drop-taken (suc k) j [] = let next : suc k + j ≡ suc (k + j) = omega arith in ap (λ m. drop (suc k) (take m [])) next ∙ take-none j
-drop-taken (suc k) j (x ∷ xs) = let next : suc k + j ≡ suc (k + j) = omega arith in ap (λ m. drop (suc k) (take m (x ∷ xs))) next ∙ drop-taken k j xs
 
 -- a flag for each coin
 long-flags : (n : ℕ) (coins : ℕ → Bool) (xs : List Step) → length (outputs n coins xs origin).free ≡ all_coins_of xs
@@ -105,7 +94,7 @@ module _ (n k : ℕ) (string : List Letter) (xs : List Step) (coins : ℕ → Bo
   part m = drop k (take m xs)
 
   part-is : (m : ℕ) → k ≤ m → part m ≡ take (m - k) back
-  part-is m le = let whole : m ≡ k + (m - k) = omega (arith, le) in ap part whole ∙ drop-taken k (m - k) xs
+  part-is m le = let whole : m ≡ k + (m - k) = omega (arith, le) in ap part whole ∙ drop-take k (m - k) xs
 
   differ-part : (m : ℕ) → k ≤ m → Differ n coins changes (part m) begun there
   differ-part m le =

@@ -1,5 +1,5 @@
 -- Strings: whether two differ, and their letters, from one qubit to the next.
-use Rattle.stab_ways.proofs.Names.{◌≡◌, ℕ, ◌+◌, refl, Bool, true, false, ◌||◌, List, [], ◌∷◌, ◌++◌, drop, Letter, I, X, Y, Z, differ, PlacedLetter, placed}
+use Rattle.stab_ways.proofs.Names.{◌≡◌, ℕ, refl, Bool, true, false, ◌||◌, List, ◌++◌, drop, Letter, differ, PlacedLetter, placed}
 
 or-false : (b : Bool) → b ≡ (b || false)
 or-false true = refl

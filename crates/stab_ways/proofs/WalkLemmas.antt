@@ -1,5 +1,5 @@
 -- Walks: what the values of the code show of a walk, after steps and after an instruction.
-use Rattle.stab_ways.proofs.Names.{◌≡◌, ℕ, ◌+◌, ◌-◌, ◌≤◌, ◌∙◌, ap, Bool, List, length, take, drop, arith, length-drop, take_all, coins-few, Some, if◌then◌else◌, Letter, Step, PropagationState, passed, WalkState, frame_at, way_over, changed_string, append-nil, ◌++◌, put_in, past_steps, reported, IsWalk}
+use Rattle.stab_ways.proofs.Names.{◌≡◌, ℕ, ◌+◌, ◌∙◌, ap, false, List, length, take, arith, coins-few, Step, PropagationState, passed, WalkState, frame_at, way_over, Part, changed_string, listed_string, append-nil, ◌++◌, past_steps, reported, IsWalk}
 use Rattle.stab_ways.specs.declared.walk.Walk.{Walk}
 use Rattle.stab_ways.proofs.PassLemmas.{none-placed}
 use Rattle.stab_ways.proofs.WalkedLemmas.{changed_string-same}
@@ -16,14 +16,13 @@ walk-passed n j zs old new walks is size steps strings = record {
   none = ap (λ s. s.strings) strings ∙ walks.none;
 }
 
--- and the string is reported, unless it is as it was
+-- and the string is not listed, if it is as it was
 
-pub reported-kept : (n : ℕ) (ys : List Step) (w : WalkState) → length w.frame.letters ≡ n → (way_over n ys (frame_at 0 w.frame)).letters ≡ w.frame.letters
-    → reported n ys w ≡ past_steps n ys w
-reported-kept n ys w size kept = λ i. record (past_steps n ys w) {
-  turns = (ap (λ s. w.turns ++ changed_string (w.steps + length ys) w.frame.letters s) kept
-      ∙ ap (λ ts. w.turns ++ ts) (changed_string-same (w.steps + length ys) n w.frame.letters size)
+pub reported-kept : (n : ℕ) (q : Part) (w : WalkState) → w.every ≡ false → length w.frame.letters ≡ n → (way_over n q.steps (frame_at 0 w.frame)).letters ≡ w.frame.letters
+    → reported n q w ≡ past_steps n q.steps w
+reported-kept n q w turns size kept = λ i. record (past_steps n q.steps w) {
+  turns = (ap (λ b. w.turns ++ listed_string b q.tick (w.steps + length q.steps) w.frame.letters (passed n q.steps w.frame).letters) turns
+      ∙ ap (λ s. w.turns ++ changed_string (w.steps + length q.steps) w.frame.letters s) kept
+      ∙ ap (λ ts. w.turns ++ ts) (changed_string-same (w.steps + length q.steps) n w.frame.letters size)
       ∙ append-nil w.turns) i;
 }
-
--- all steps of an instruction

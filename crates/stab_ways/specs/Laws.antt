@@ -1,13 +1,15 @@
--- Laws of strings that are put in: what runs show of them.
+-- Laws of strings that are put in: what runs show of them, and that what is listed of one is the string there.
 use Rattle.std.specs.Prelude.{◌≡◌, ℕ, ◌≤◌, Bool, false, List, All, length, take, slice_index_or}
 use Rattle.stab_gates.specs.declared.letter.Letter.{Letter}
 use Rattle.stab_tableau.specs.Traces.{member}
 use Rattle.stab_tableau.specs.Conjugations.{IsConjugated}
-use Rattle.stab_items.specs.Steps.{Step}
+use Rattle.stab_items.specs.Items.{Items}
+use Rattle.stab_items.specs.Steps.{Step, unroll}
 use Rattle.stab_run.specs.Runs.{start, run}
 use Rattle.stab_run.specs.Points.{origin, point_after}
 use Rattle.stab_run.specs.ProgramStates.{StepFits}
 use Rattle.stab_frames.specs.Fronts.{IsFlippedRun}
+use Rattle.stab_ways.specs.Ways.{Turn, placed, string_turns}
 use Rattle.stab_ways.specs.PutIn.{with_string, string_after, string_flips, exchanged}
 
 -- with other coins the run of the steps with a string put in after k of them has the records, flags, detectors and observables of the run
@@ -32,3 +34,13 @@ abbrev pub FixedOutcomesKeepCoins : Type 0
 FixedOutcomesKeepCoins =
     (n k : ℕ) (string : List Letter) (xs : List Step) (coins : ℕ → Bool) → ((t : ℕ) → slice_index_or (run n coins xs (start 0)).free t false ≡ false) →
     (t : ℕ) → coins_with n k string xs coins t ≡ coins t
+
+-- what is listed at a place is the string after the steps in front of it, which are no fewer than those in front of where it was put in
+pub record IsStringThere (n k : ℕ) (string : List Letter) (xs : List Step) (t : Turn) : Type 0 where
+  pub from : k ≤ t.after
+  pub is : t.string ≡ placed 0 (string_after n k string xs t.after)
+
+-- so it is with all that is listed, at ticks and where a string is another one
+abbrev pub TurnsAreStrings : Type 0
+TurnsAreStrings =
+    (every : Bool) (n k : ℕ) (string : List Letter) (items : Items) → All (IsStringThere n k string (unroll items)) (string_turns every n k string items)

@@ -1,5 +1,4 @@
 pub mod PutIn
 pub mod Ways
-pub mod Ticks
 pub mod Laws
 pub mod inner

@@ -1,14 +1,13 @@
 //! Ways of Pauli strings: what a string that is put in between two steps of a circuit becomes, and what it flips.
 //!
 //! - `laws`: what runs show of it; each function does nothing, and its contract is a law.
-//! - `way`: where a string becomes another one, and the frame at the end.
+//! - `way`: where a string is listed, and the frame at the end.
 //! - `strings`: letters of strings with their qubits, and whether strings differ.
 //! - `resets`: what resets leave of a string.
 //! - `walk`: a string on its way over instructions. `rounds`: over items, and rounds of blocks.
 //! - `string_ways`: the call.
-//! - `ticks`: how many steps are before each tick. `tick_strings`: the call that gives the string at each.
 //!
-//! `specs/PutIn` says what a string becomes and flips, `specs/Ways` where it becomes another one, `specs/Ticks` what it is at ticks, `specs/Laws` what that
+//! `specs/PutIn` says what a string becomes and flips, `specs/Ways` where it becomes another one and what it is at ticks, `specs/Laws` what that
 //! means for runs. A reset leaves no letter on its qubit. A measurement that anticommutes with the string is flipped, whether its outcome is random
 //! or not. So the answer depends on the text alone, and no run is made.
 //!
@@ -24,12 +23,9 @@ mod resets;
 mod rounds;
 mod string_ways;
 mod strings;
-mod tick_strings;
-mod ticks;
 mod walk;
 mod way;
 
 pub use string_ways::way_of;
 pub use strings::placed;
-pub use tick_strings::way_at_ticks;
 pub use way::{PlacedLetter, Turn, Way};

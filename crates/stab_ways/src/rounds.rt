@@ -4,11 +4,12 @@ ghost use Rattle.std.specs.Prelude.{◌≡◌, ◌+◌, ◌*◌, ◌≤◌, All,
 ghost use Rattle.stab_items.specs.Items.{before, done, listed};
 ghost use Rattle.stab_items.specs.Steps.{rounds, unroll, most_steps};
 ghost use Rattle.stab_run.specs.ProgramStates.{StepFits};
-ghost use Rattle.stab_ways.specs.Ways.{part_rounds, parts_of};
+ghost use Rattle.stab_ways.specs.Ways.{part_rounds, parts_of, rounds_counted};
 ghost use Rattle.stab_ways.specs.inner.Walks.{walked, walk_shown, IsWalk};
 
 use crate::walk::{Walk, over_instruction};
 use stab_items::{Item, Part};
+use stab_lines::Kind;
 use stab_pauli::Pauli;
 use std::alloc::{AllocError, Global};
 
@@ -22,7 +23,10 @@ fn over_item(alloc: Global, walk: &mut Walk, string: &Pauli, item: &Item) -> Res
     ensures over { OnOk result (walk_shown walk.new ≡ walked (length string.now.letters) string.now.letters (parts_of (before item.now done)) (walk_shown walk.old)) }
 {
     match item.part() {
-        Part::Tick => Ok(()),
+        Part::Tick => {
+            over_instruction(alloc, walk, string, &Kind::Tick)?;
+            Ok(())
+        }
         Part::Operation { kind, .. } => {
             over_instruction(alloc, walk, string, kind)?;
             Ok(())
@@ -47,12 +51,12 @@ fn over_rounds(
     requires fits { All (StepFits (length string.now.letters)) (rounds count (unroll (listed body.now))) }
     requires few { walk.old.steps + count * length (unroll (listed body.now)) ≤ most_steps }
     ensures walks { OnOk result (IsWalk (length string.now.letters) walk.new) }
-    ensures over { OnOk result (walk_shown walk.new ≡ walked (length string.now.letters) string.now.letters (part_rounds count (parts_of (listed body.now))) (walk_shown walk.old)) }
+    ensures over { OnOk result (walk_shown walk.new ≡ walked (length string.now.letters) string.now.letters (part_rounds (rounds_counted count (length (unroll (listed body.now)))) (parts_of (listed body.now))) (walk_shown walk.old)) }
 {
     'rounds: for _ in 0..count {
         let steps = walk.steps;
         over_items(alloc, walk, string, body)?;
-        // Rounds without a step change nothing, however many they are.
+        // Rounds without a step are all at one place, however many they are.
         if walk.steps == steps {
             return Ok(());
         }

@@ -20,6 +20,7 @@ use std::alloc::Global;
 
 /// The way of a string that is put in after this many steps of a circuit, or at its end if it has no more, and that has a letter
 /// for each of its qubits: after which instructions it is another one than before them, and what it is and has flipped at the end.
+/// With `every` it is listed at every tick from its place on, in each round, in place of that; of a block without a step the first round counts.
 ///
 /// With exactly the coins of the random outcomes that it flips exchanged, the run of the circuit with the string put in is the
 /// run without it, flipped as reported, and its state is that of the other with the string reported applied.
@@ -28,11 +29,12 @@ use std::alloc::Global;
 pub fn way_of(
     alloc: Global,
     circuit: &Circuit,
+    every: bool,
     place: usize,
     string: &Pauli,
 ) -> Result<Way, Refusal>
     requires checked { check_within (length string.now.letters) (circuit_items circuit.now) ≡ None }
-    ensures turns { IfOk result (λ w. map turn_shown w.turns.items ≡ string_turns (length string.now.letters) place string.now.letters (circuit_items circuit.now)) }
+    ensures turns { IfOk result (λ w. map turn_shown w.turns.items ≡ string_turns every (length string.now.letters) place string.now.letters (circuit_items circuit.now)) }
     ensures flips { IfOk result (λ w. w.end.flips ≡ string_flips (length string.now.letters) place string.now.letters (unroll (circuit_items circuit.now))) }
     ensures left { IfOk result (λ w. w.end.letters ≡ string_after (length string.now.letters) place string.now.letters (unroll (circuit_items circuit.now)) (length (unroll (circuit_items circuit.now)))) }
     ensures runs { IfOk result (λ w. (coins : ℕ → Bool) → FlipsRun (length string.now.letters) place string.now.letters (unroll (circuit_items circuit.now)) coins (coins_with (length string.now.letters) place string.now.letters (unroll (circuit_items circuit.now)) coins)) }
@@ -41,6 +43,7 @@ pub fn way_of(
     strings_flip_runs();
     let n = string.len();
     let mut walk = Walk {
+        every,
         propagation: Propagation::new(alloc, n, &[], 0)?,
         turns: Vec::new(alloc),
         waits: Some(place),

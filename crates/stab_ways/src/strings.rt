@@ -8,7 +8,6 @@ ghost use Rattle.stab_ways.specs.Ways.{differ as differ_of, placed as placed_fro
 
 use crate::way::PlacedLetter;
 use stab_gates::Letter;
-use stab_pauli::Pauli;
 use std::alloc::{AllocError, Global};
 
 /// Whether two strings of as many letters differ.
@@ -30,17 +29,6 @@ pub fn placed(alloc: Global, letters: &[Letter]) -> Result<Vec<PlacedLetter>, Al
     let mut found = Vec::new(alloc);
     for qubit in 0..letters.len() {
         push_letter(&mut found, letters[qubit], qubit)?;
-    }
-    Ok(found)
-}
-
-/// The letters of a Pauli string that are not I, by qubit.
-pub(crate) fn placed_in(alloc: Global, string: &Pauli) -> Result<Vec<PlacedLetter>, AllocError>
-    ensures value { IfOk result (λ v. v.items ≡ placed_from 0 string.now.letters) }
-{
-    let mut found = Vec::new(alloc);
-    for qubit in 0..string.len() {
-        push_letter(&mut found, string.letter(qubit), qubit)?;
     }
     Ok(found)
 }

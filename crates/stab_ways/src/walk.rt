@@ -1,12 +1,12 @@
 //! A string on its way over the instructions of a circuit.
 
-ghost use Rattle.std.specs.Prelude.{◌≡◌, ℕ, true, ◌+◌, ◌-◌, ◌^◌, ◌<◌, ◌≤◌, [], None, Some, All, length, take, drop, map, ◌++◌, OnOk};
+ghost use Rattle.std.specs.Prelude.{◌≡◌, ◌∷◌, ℕ, true, false, ◌+◌, ◌-◌, ◌^◌, ◌<◌, ◌≤◌, [], None, Some, All, length, take, drop, map, ◌++◌, OnOk};
 ghost use Rattle.stab_items.specs.Steps.{steps_of, most_steps};
 ghost use Rattle.stab_run.specs.ProgramStates.{StepFits};
 ghost use Rattle.stab_frames.specs.Propagations.{IsPlaced};
 ghost use Rattle.stab_frames.specs.Frames.{Frame};
 ghost use Rattle.stab_ways.specs.PutIn.{way_over};
-ghost use Rattle.stab_ways.specs.Ways.{changed_string, turn_shown};
+ghost use Rattle.stab_ways.specs.Ways.{changed_string, is_tick, placed as placed_from, tick_string, turn_shown};
 ghost use Rattle.stab_ways.specs.inner.Walks.{passed, reported, put_in as put_in_of, past_steps as past_of, over_part, ended, walk_shown, IsWalk};
 
 use crate::resets::{at_once, leave_out_reset};
@@ -23,8 +23,10 @@ use std::alloc::{AllocError, Global};
 /// A string on its way from the first step of a circuit on, and what is known of it so far.
 #[derive(Drop)]
 pub(crate) struct Walk {
+    /// Whether it is listed at every tick, in place of where it becomes another one.
+    pub every: bool,
     pub propagation: Propagation,
-    /// Where it became another one.
+    /// What was listed.
     pub turns: Vec<Turn>,
     /// After how many more steps it is put in, or `None` if it was.
     pub waits: Option<usize>,
@@ -93,8 +95,22 @@ fn past_steps(walk: &mut Walk, kind: &Kind, from: usize, to: usize) -> Result<()
     Ok(())
 }
 
+/// Puts a string with its place after others.
+fn push_turn(
+    alloc: Global,
+    turns: &mut Vec<Turn>,
+    after: usize,
+    letters: &[Letter],
+) -> Result<(), AllocError>
+    ensures pushed { OnOk result (map turn_shown turns.new.items ≡ map turn_shown turns.old.items ++ record { after = after; string = placed_from 0 letters.now } ∷ []) }
+{
+    let string = placed(alloc, letters)?;
+    turns.push(Turn { after, string })?;
+    Ok(())
+}
+
 /// Puts a string with its place after others, if it is another one than it was.
-fn report(
+fn report_changed(
     alloc: Global,
     turns: &mut Vec<Turn>,
     after: usize,
@@ -105,10 +121,28 @@ fn report(
     ensures reported { OnOk result (map turn_shown turns.new.items ≡ map turn_shown turns.old.items ++ changed_string after old.now new.now) }
 {
     if differ(old, new) {
-        let string = placed(alloc, new)?;
-        turns.push(Turn { after, string })?;
+        push_turn(alloc, turns, after, new)?;
     }
     Ok(())
+}
+
+/// Puts a string with its place after others, if the instruction in front of it is a tick.
+fn report_tick(
+    alloc: Global,
+    turns: &mut Vec<Turn>,
+    kind: &Kind,
+    after: usize,
+    letters: &[Letter],
+) -> Result<(), AllocError>
+    ensures reported { OnOk result (map turn_shown turns.new.items ≡ map turn_shown turns.old.items ++ tick_string (is_tick kind.now) after letters.now) }
+{
+    match kind {
+        Kind::Tick => {
+            push_turn(alloc, turns, after, letters)?;
+            Ok(())
+        }
+        _ => Ok(()),
+    }
 }
 
 /// Whether no step of an instruction changes a string.
@@ -118,11 +152,12 @@ fn keeps_strings(kind: &Kind) -> bool
     match kind {
         Kind::Detector(_) => true,
         Kind::ObservableInclude(_, _) => true,
+        Kind::Tick => true,
         _ => false,
     }
 }
 
-/// Passes the steps of an instruction from one on, and notes the string if it is another one after them.
+/// Passes the steps of an instruction from one on, and lists the string if it is another one after them.
 fn report_steps(
     alloc: Global,
     walk: &mut Walk,
@@ -135,8 +170,9 @@ fn report_steps(
     requires order { from ≤ to }
     requires within { to ≤ length (steps_of kind.now) }
     requires few { walk.old.steps + (to - from) ≤ most_steps }
+    requires turns { walk.old.every ≡ false }
     ensures walks { OnOk result (IsWalk (length walk.old.propagation.letters) walk.new) }
-    ensures reported { OnOk result (walk_shown walk.new ≡ reported (length walk.old.propagation.letters) (take (to - from) (drop from (steps_of kind.now))) (walk_shown walk.old)) }
+    ensures reported { OnOk result (walk_shown walk.new ≡ reported (length walk.old.propagation.letters) (record { tick = is_tick kind.now; steps = take (to - from) (drop from (steps_of kind.now)) }) (walk_shown walk.old)) }
 {
     // Most instructions of a circuit are detectors, and then no letters need to be compared.
     if keeps_strings(kind) {
@@ -145,11 +181,41 @@ fn report_steps(
     }
     let before = Vec::from_slice(alloc, walk.propagation.letters())?;
     past_steps(walk, kind, from, to)?;
-    report(
+    report_changed(
         alloc,
         &mut walk.turns,
         walk.steps as usize,
         before.as_slice(),
+        walk.propagation.letters(),
+    )?;
+    Ok(())
+}
+
+/// Passes the steps of an instruction from one on, and lists the string if it is to be.
+fn list_steps(
+    alloc: Global,
+    walk: &mut Walk,
+    kind: &Kind,
+    from: usize,
+    to: usize,
+) -> Result<(), AllocError>
+    requires walks { IsWalk (length walk.old.propagation.letters) walk.old }
+    requires fits { All (StepFits (length walk.old.propagation.letters)) (steps_of kind.now) }
+    requires order { from ≤ to }
+    requires within { to ≤ length (steps_of kind.now) }
+    requires few { walk.old.steps + (to - from) ≤ most_steps }
+    ensures walks { OnOk result (IsWalk (length walk.old.propagation.letters) walk.new) }
+    ensures reported { OnOk result (walk_shown walk.new ≡ reported (length walk.old.propagation.letters) (record { tick = is_tick kind.now; steps = take (to - from) (drop from (steps_of kind.now)) }) (walk_shown walk.old)) }
+{
+    if !walk.every {
+        return report_steps(alloc, walk, kind, from, to);
+    }
+    past_steps(walk, kind, from, to)?;
+    report_tick(
+        alloc,
+        &mut walk.turns,
+        kind,
+        walk.steps as usize,
         walk.propagation.letters(),
     )?;
     Ok(())
@@ -187,18 +253,18 @@ pub(crate) fn over_instruction(
     requires fits { All (StepFits (length string.now.letters)) (steps_of kind.now) }
     requires few { walk.old.steps + length (steps_of kind.now) ≤ most_steps }
     ensures walks { OnOk result (IsWalk (length string.now.letters) walk.new) }
-    ensures over { OnOk result (walk_shown walk.new ≡ over_part (length string.now.letters) string.now.letters (steps_of kind.now) walk.old.waits (walk_shown walk.old)) }
+    ensures over { OnOk result (walk_shown walk.new ≡ over_part (length string.now.letters) string.now.letters (record { tick = is_tick kind.now; steps = steps_of kind.now }) walk.old.waits (walk_shown walk.old)) }
 {
     let count = step_count(kind);
     match walk.waits {
         None => {
-            report_steps(alloc, walk, kind, 0, count)?;
+            list_steps(alloc, walk, kind, 0, count)?;
             Ok(())
         }
-        Some(left) if left < count => {
+        Some(left) if left <= count => {
             past_steps(walk, kind, 0, left)?;
             put_in(walk, string);
-            report_steps(alloc, walk, kind, left, count)?;
+            list_steps(alloc, walk, kind, left, count)?;
             Ok(())
         }
         Some(left) => {

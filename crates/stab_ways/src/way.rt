@@ -8,7 +8,7 @@ pub struct PlacedLetter {
     pub qubit: usize,
 }
 
-/// Where a string becomes another one: after an instruction.
+/// Where a string is listed: after an instruction.
 #[derive(Drop)]
 pub struct Turn {
     /// How many steps there are before the place.
@@ -20,7 +20,7 @@ pub struct Turn {
 /// The way of a string that was put in.
 #[derive(Drop)]
 pub struct Way {
-    /// Where it became another one, in order.
+    /// Where it became another one, or what it is at every tick, in order.
     pub turns: Vec<Turn>,
     /// The string at the end of the circuit, and which outcomes, records, detectors and additions to observables
     /// it has flipped, of all those of the circuit.

@@ -17,8 +17,8 @@ mod progress;
 use files::{FirstLine, NotedWriter, Reader, Replaced, STANDARD_INPUT, Sink, Writer, are_one_file};
 use progress::SearchProgress;
 use stab_cli::{
-    CoinsFault, Command, ErrorLetters, FaultLayout, Job, NO_COINS, NoWatcher, Source, Usage,
-    parse_words, read_coins, run_job_watched, write_fault, write_usage,
+    CoinsFault, Command, ErrorLetters, FaultLayout, Job, NO_COINS, NoWatcher, Question, Source,
+    Usage, parse_words, read_coins, run_job_watched, write_fault, write_usage,
 };
 use stab_pauli::{Device, Fault, Output, Refusal, write_all};
 use stab_results::Format;
@@ -231,7 +231,10 @@ fn run_on<E: Output>(
 /// Whether a command reports how far its search is.
 fn shows_progress(command: Command) -> bool {
     match command {
-        Command::Distance(options) | Command::CountedDistance(options) => options.progress,
+        Command::Distance {
+            question: Question::Least | Question::Counted,
+            options,
+        } => options.progress,
         _ => false,
     }
 }
@@ -245,10 +248,7 @@ fn is_on_no_marks(command: Command, is_over_nothing: bool, is_empty: bool) -> bo
             everywhere,
             ..
         } => is_empty && !everywhere && layout != FaultLayout::Shots(Format::B8),
-        Command::Distance(options)
-        | Command::CountedDistance(options)
-        | Command::EachDistance(options)
-        | Command::SearchedErrors { options, .. } => is_over_nothing && !options.everywhere,
+        Command::Distance { options, .. } => is_over_nothing && !options.everywhere,
         _ => false,
     }
 }
@@ -256,10 +256,7 @@ fn is_on_no_marks(command: Command, is_over_nothing: bool, is_empty: bool) -> bo
 /// What is said if there are none: a mark may have Y alone, which some letters leave out.
 fn no_marks(command: Command) -> &'static str {
     match command {
-        Command::Distance(options)
-        | Command::CountedDistance(options)
-        | Command::EachDistance(options)
-        | Command::SearchedErrors { options, .. } => match options.letters {
+        Command::Distance { options, .. } => match options.letters {
             ErrorLetters::XAndZ => NO_LETTERS,
             ErrorLetters::All => NO_MARKS,
         },

@@ -12,7 +12,7 @@
 //! - `rounds`: where rounds are that come again, in blocks and written out, and that their pivots count once. `kept_rounds`: which of
 //!   them an edit leaves.
 //! - `sessions`, `session_edits`: sessions that are refused, and what edits cost.
-//! - `distances`: the search for a least logical error. `counts`: how many there are.
+//! - `distances`: the search for a least logical error. `distance_parts`: all of its parts. `counts`: how many there are.
 //! - `answers`: what is found beside what is wanted.
 //! - `clauses`: callers that are proved for what they ensure, and never run.
 //!
@@ -35,6 +35,8 @@ mod counts;
 mod cursors;
 #[cfg(test)]
 mod devices;
+#[cfg(test)]
+mod distance_parts;
 #[cfg(test)]
 mod distances;
 #[cfg(test)]

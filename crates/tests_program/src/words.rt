@@ -87,15 +87,16 @@ stabsim faults --deterministic_only|Faults { layout: Lines, everywhere: false, d
 stabsim deterministic --explain --out_format=b8 --out=b.txt|Explain Seed(0) None Some("b.txt")
 stabsim coins --in a.stim|Coins { layout: Lines } Seed(0) Some("a.stim") None
 stabsim coins --out_format hits|Coins { layout: Shots(Hits) } Seed(0) None None
-stabsim distance|Distance(DistanceOptions { everywhere: false, letters: All, graphlike: false, observable: None, most: None, deterministic_only: false, progress: false }) Seed(0) None None
-stabsim distance --everywhere --letters=XZ --most 1000000000 --in=a.stim|Distance(DistanceOptions { everywhere: true, letters: XAndZ, graphlike: false, observable: None, most: Some(1000000000), deterministic_only: false, progress: false }) Seed(0) Some("a.stim") None
-stabsim distance --most=0 --graphlike --progress --deterministic_only --letters all|Distance(DistanceOptions { everywhere: false, letters: All, graphlike: true, observable: None, most: Some(0), deterministic_only: true, progress: true }) Seed(0) None None
-stabsim distance --observable 4095|Distance(DistanceOptions { everywhere: false, letters: All, graphlike: false, observable: Some(4095), most: None, deterministic_only: false, progress: false }) Seed(0) None None
-stabsim distance --each --most 3 --graphlike|EachDistance(DistanceOptions { everywhere: false, letters: All, graphlike: true, observable: None, most: Some(3), deterministic_only: false, progress: false }) Seed(0) None None
-stabsim distance --table --everywhere|SearchedErrors { layout: Table, options: DistanceOptions { everywhere: true, letters: All, graphlike: false, observable: None, most: None, deterministic_only: false, progress: false } } Seed(0) None None
-stabsim distance --wcnf --letters XZ|SearchedErrors { layout: Wcnf, options: DistanceOptions { everywhere: false, letters: XAndZ, graphlike: false, observable: None, most: None, deterministic_only: false, progress: false } } Seed(0) None None
-stabsim distance --count --observable 0 --most=9|CountedDistance(DistanceOptions { everywhere: false, letters: All, graphlike: false, observable: Some(0), most: Some(9), deterministic_only: false, progress: false }) Seed(0) None None
-stabsim distance --sure_only|Distance(DistanceOptions { everywhere: false, letters: All, graphlike: false, observable: None, most: None, deterministic_only: true, progress: false }) Seed(0) None None"#;
+stabsim distance|Distance { question: Least, options: DistanceOptions { everywhere: false, letters: All, graphlike: false, observable: None, most: None, deterministic_only: false, progress: false } } Seed(0) None None
+stabsim distance --everywhere --letters=XZ --most 1000000000 --in=a.stim|Distance { question: Least, options: DistanceOptions { everywhere: true, letters: XAndZ, graphlike: false, observable: None, most: Some(1000000000), deterministic_only: false, progress: false } } Seed(0) Some("a.stim") None
+stabsim distance --most=0 --graphlike --progress --deterministic_only --letters all|Distance { question: Least, options: DistanceOptions { everywhere: false, letters: All, graphlike: true, observable: None, most: Some(0), deterministic_only: true, progress: true } } Seed(0) None None
+stabsim distance --observable 4095|Distance { question: Least, options: DistanceOptions { everywhere: false, letters: All, graphlike: false, observable: Some(4095), most: None, deterministic_only: false, progress: false } } Seed(0) None None
+stabsim distance --each --most 3 --graphlike|Distance { question: Each, options: DistanceOptions { everywhere: false, letters: All, graphlike: true, observable: None, most: Some(3), deterministic_only: false, progress: false } } Seed(0) None None
+stabsim distance --table --everywhere|Distance { question: Errors(Table), options: DistanceOptions { everywhere: true, letters: All, graphlike: false, observable: None, most: None, deterministic_only: false, progress: false } } Seed(0) None None
+stabsim distance --wcnf --letters XZ|Distance { question: Errors(Wcnf), options: DistanceOptions { everywhere: false, letters: XAndZ, graphlike: false, observable: None, most: None, deterministic_only: false, progress: false } } Seed(0) None None
+stabsim distance --count --observable 0 --most=9|Distance { question: Counted, options: DistanceOptions { everywhere: false, letters: All, graphlike: false, observable: Some(0), most: Some(9), deterministic_only: false, progress: false } } Seed(0) None None
+stabsim distance --part 3/4 --most 9 --everywhere|Distance { question: Part(SearchPart { index: 2, count: 4 }), options: DistanceOptions { everywhere: true, letters: All, graphlike: false, observable: None, most: Some(9), deterministic_only: false, progress: false } } Seed(0) None None
+stabsim distance --sure_only|Distance { question: Least, options: DistanceOptions { everywhere: false, letters: All, graphlike: false, observable: None, most: None, deterministic_only: true, progress: false } } Seed(0) None None"#;
 
 #[test]
 fn words_ask_for_a_job(rt: HostRuntime) -> Result<(), Fail> {

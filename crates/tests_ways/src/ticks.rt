@@ -2,7 +2,7 @@
 use crate::ways::{Letters, set, turns};
 use stab_circuit::{Circuit, read_circuit};
 use stab_pauli::{Letter, MemoryInput, Pauli};
-use stab_ways::{Way, way_at_ticks};
+use stab_ways::{Way, way_of};
 use std::alloc::Global;
 use std::test::Fail;
 
@@ -60,7 +60,7 @@ fn way(alloc: Global, circuit: &Circuit, place: usize, letters: Letters) -> Opti
         set(&mut string, *qubit, *letter);
     }
     circuit.check(string.len()).ok()?;
-    way_at_ticks(alloc, circuit, place, &string).ok()
+    way_of(alloc, circuit, true, place, &string).ok()
 }
 
 fn answers(alloc: Global, case: &Case) -> bool {

@@ -241,7 +241,7 @@ fn way(alloc: Global, circuit: &Circuit, place: usize, letters: Letters) -> Opti
         set(&mut string, *qubit, *letter);
     }
     circuit.check(string.len()).ok()?;
-    way_of(alloc, circuit, place, &string).ok()
+    way_of(alloc, circuit, false, place, &string).ok()
 }
 
 fn answers(alloc: Global, case: &Case) -> bool {

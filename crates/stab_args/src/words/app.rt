@@ -277,6 +277,7 @@ fn distance_command<'a>(alloc: Global, letters: &'a [&'a str]) -> Result<Command
     let command = with_option(command, flag(alloc, "table", help::TABLE));
     let command = with_option(command, flag(alloc, "wcnf", help::WCNF));
     let command = with_option(command, flag(alloc, "count", help::COUNT));
+    let command = with_option(command, valued(alloc, "part", "K/N", help::PART));
     let command = with_option(command, only);
     let command = with_option(command, flag(alloc, "progress", help::PROGRESS));
     with_files(alloc, command, help::IN)

@@ -274,6 +274,9 @@ pub(crate) const EVERY: &str =
 
 pub(crate) const COUNT: &str = "Writes after the answer how many least sets there are, as count N";
 
+pub(crate) const PART: &str =
+    "Searches part K of N, and writes what it finds, for all parts together";
+
 pub(crate) const PROGRESS: &str =
     "Writes each number of errors that is excluded to standard error at once";
 

@@ -1,22 +1,19 @@
 //! What the words say to each option.
-ghost use Rattle.std.specs.Prelude.{◌≡◌, ◌≤◌, ℕ, Option, Some, None, IfOk, IfErr, IfSome, IfNone, option_map, codes, string_bytes, false};
+ghost use Rattle.std.specs.Prelude.{◌≡◌, ◌≤◌, ℕ, Option, Some, None, IfOk, IfErr, IfSome, IfNone, option_map, codes, string_bytes};
 ghost use Rattle.clap.specs.Words.{IsUnsignedIn, first_of, found_of, has_subcommand, one_of, rows_of, subcommand_rows_of};
 ghost use Rattle.stab_gates.specs.Limits.{most_qubits};
 ghost use Rattle.stab_circuit.specs.Limits.{most_stride};
 ghost use Rattle.stab_jobs.specs.Limits.{last_shot, most_shots, shots_of_seed};
-ghost use Rattle.stab_args.specs.Asked.{AreLetters, AreShots, IsAskedDistance, IsCommand, IsFirst, IsJob, IsLayout, IsNamed, IsSet, IsSource, IsWritten, IsWrittenIfGiven, RefusesCoins, RefusesCommand, RefusesDistance, RefusesOptions, RefusesShots, first_beside_coins, is_about_search, is_beside_count, is_beside_each, is_beside_problem, text_or_none};
+ghost use Rattle.stab_args.specs.Asked.{AreLetters, AreShots, IsCommand, IsFirst, IsJob, IsLayout, IsNamed, IsSet, IsSource, IsWritten, IsWrittenIfGiven, RefusesCoins, RefusesCommand, RefusesOptions, RefusesShots, first_beside_coins, text_or_none};
 ghost use Rattle.stab_args.specs.Options.{last_observable, most_errors, most_seed};
 ghost use Rattle.stab_args.specs.declared.words.Usage.{Usage};
 ghost use Rattle.stab_args.specs.inner.Parts.{IsCommandName};
 
 use crate::coins::{NO_COINS, coins_of};
 use crate::words::Usage;
-use crate::words::app::{LAST_OBSERVABLE, MOST_ERRORS};
+use crate::words::questions::distance;
 use clap::ArgMatches;
-use stab_jobs::{
-    Command, DistanceOptions, ErrorLetters, FaultLayout, Job, QubitCount, SearchedLayout, Shots,
-    Source, Stride,
-};
+use stab_jobs::{Command, ErrorLetters, FaultLayout, Job, QubitCount, Shots, Source, Stride};
 use stab_results::Format;
 use std::alloc::{AllocError, Global};
 
@@ -30,24 +27,8 @@ const SHOTS_BEYOND: &str = "stabsim: the last shot of a seed is shot 18446744073
 const FIRST_BESIDE_COINS: &str =
     "stabsim: --first_shot is of a seed, and not beside --coins or --coins_in\n";
 
-// What is said of each observable beside what is not asked of each.
-const EACH_BESIDE: &str =
-    "stabsim: --each is for all observables, and is not beside --observable, --table or --progress\n";
-
-// What is said of the errors as a problem beside what is not asked with it.
-const PROBLEM_BESIDE: &str =
-    "stabsim: --wcnf searches nothing, and is not beside --table, --each, --graphlike, --observable, --most or --progress\n";
-
-// What is said of the number of least sets beside what is not asked with it.
-const COUNT_BESIDE: &str =
-    "stabsim: --count is of one answer about all errors, and is not beside --wcnf, --table, --each or --graphlike\n";
-
-// What is said of a table of errors beside what is about a search.
-const TABLE_BESIDE_SEARCH: &str =
-    "stabsim: --table searches nothing, and is not beside --observable, --most or --progress\n";
-
 /// What the words say to an option, or its default.
-fn text<'a>(options: &ArgMatches<'a>, id: &str) -> Option<&'a str>
+pub(crate) fn text<'a>(options: &ArgMatches<'a>, id: &str) -> Option<&'a str>
     ensures text { option_map (λ t. t.now) result ≡ first_of id.now (rows_of (found_of options.now)) }
 {
     options.get_str(id)
@@ -63,7 +44,7 @@ fn number(options: &ArgMatches, id: &str) -> Option<u64>
 }
 
 /// Whether the words set a flag.
-fn flag(options: &ArgMatches, id: &str) -> bool
+pub(crate) fn flag(options: &ArgMatches, id: &str) -> bool
     ensures set { IsSet (one_of id.now (rows_of (found_of options.now))) result }
 {
     options.get_flag(id)
@@ -153,7 +134,7 @@ fn stride(options: &ArgMatches) -> Stride
 }
 
 /// The letters that `--letters` names. The command line reader takes no other name.
-fn letters(options: &ArgMatches) -> ErrorLetters
+pub(crate) fn letters(options: &ArgMatches) -> ErrorLetters
     ensures letters { AreLetters (first_of (codes "letters") (rows_of (found_of options.now))) result }
 {
     match text(options, "letters") {
@@ -163,7 +144,7 @@ fn letters(options: &ArgMatches) -> ErrorLetters
 }
 
 /// The number of an option that may be left out, at most this one. The command line reader takes no other number.
-fn number_up_to(options: &ArgMatches, id: &str, most: u64) -> Option<usize>
+pub(crate) fn number_up_to(options: &ArgMatches, id: &str, most: u64) -> Option<usize>
     ensures written { IsWrittenIfGiven 0 most (one_of id.now (rows_of (found_of options.now))) result }
 {
     match number(options, id) {
@@ -220,118 +201,6 @@ fn deterministic(options: &ArgMatches) -> Command
             format: format(options),
         }
     }
-}
-
-/// What a distance is asked for.
-fn distance_options(options: &ArgMatches) -> DistanceOptions
-    ensures asked { IsAskedDistance (rows_of (found_of options.now)) result }
-{
-    DistanceOptions {
-        everywhere: flag(options, "everywhere"),
-        letters: letters(options),
-        graphlike: flag(options, "graphlike"),
-        observable: number_up_to(options, "observable", LAST_OBSERVABLE),
-        most: number_up_to(options, "most", MOST_ERRORS),
-        deterministic_only: flag(options, "deterministic_only"),
-        progress: flag(options, "progress"),
-    }
-}
-
-/// Whether something is asked about a search: for one observable, up to a number of errors, or with its progress.
-fn is_about_search(asked: DistanceOptions) -> bool
-    ensures value { result ≡ is_about_search asked }
-{
-    asked.observable.is_some() || asked.most.is_some() || asked.progress
-}
-
-/// Whether something is asked that is not asked of each observable: the table of errors, one observable, or the
-/// progress of one search.
-fn is_beside_each(table: bool, asked: DistanceOptions) -> bool
-    ensures value { result ≡ is_beside_each table asked }
-{
-    table || asked.observable.is_some() || asked.progress
-}
-
-/// Whether something is asked beside the errors as a problem: their table, each observable, only some errors, or what
-/// is about a search.
-fn is_beside_problem(table: bool, each: bool, asked: DistanceOptions) -> bool
-    ensures value { result ≡ is_beside_problem table each asked }
-{
-    table || each || asked.graphlike || is_about_search(asked)
-}
-
-/// Whether something is asked beside the number of least sets: the errors themselves, each observable, or only some errors.
-fn is_beside_count(wcnf: bool, table: bool, each: bool, asked: DistanceOptions) -> bool
-    ensures value { result ≡ is_beside_count wcnf table each asked }
-{
-    wcnf || table || each || asked.graphlike
-}
-
-/// What `distance` is asked for, if not for the errors as a problem.
-fn search_or_table(alloc: Global, options: &ArgMatches) -> Result<Command, Usage>
-    requires no_problem { IsSet (one_of (codes "wcnf") (rows_of (found_of options.now))) false }
-    requires no_count { IsSet (one_of (codes "count") (rows_of (found_of options.now))) false }
-    ensures command { IfOk result (IsCommand (codes "distance") (rows_of (found_of options.now))) }
-    ensures refused { IfErr result (RefusesDistance (rows_of (found_of options.now))) }
-{
-    let asked = distance_options(options);
-    let table = flag(options, "table");
-    if flag(options, "each") {
-        if is_beside_each(table, asked) {
-            let reported = String::from_str(alloc, EACH_BESIDE)?;
-            return Err(Usage::Fault(reported));
-        }
-        return Ok(Command::EachDistance(asked));
-    }
-    if !table {
-        return Ok(Command::Distance(asked));
-    }
-    if is_about_search(asked) {
-        let reported = String::from_str(alloc, TABLE_BESIDE_SEARCH)?;
-        return Err(Usage::Fault(reported));
-    }
-    Ok(Command::SearchedErrors {
-        layout: SearchedLayout::Table,
-        options: asked,
-    })
-}
-
-/// What `distance` is asked for, if not for the number of least sets.
-fn uncounted(alloc: Global, options: &ArgMatches) -> Result<Command, Usage>
-    requires no_count { IsSet (one_of (codes "count") (rows_of (found_of options.now))) false }
-    ensures command { IfOk result (IsCommand (codes "distance") (rows_of (found_of options.now))) }
-    ensures refused { IfErr result (RefusesDistance (rows_of (found_of options.now))) }
-{
-    if !flag(options, "wcnf") {
-        return search_or_table(alloc, options);
-    }
-    let asked = distance_options(options);
-    if is_beside_problem(flag(options, "table"), flag(options, "each"), asked) {
-        let reported = String::from_str(alloc, PROBLEM_BESIDE)?;
-        return Err(Usage::Fault(reported));
-    }
-    Ok(Command::SearchedErrors {
-        layout: SearchedLayout::Wcnf,
-        options: asked,
-    })
-}
-
-/// What `distance` is asked for.
-fn distance(alloc: Global, options: &ArgMatches) -> Result<Command, Usage>
-    ensures command { IfOk result (IsCommand (codes "distance") (rows_of (found_of options.now))) }
-    ensures refused { IfErr result (RefusesDistance (rows_of (found_of options.now))) }
-{
-    if !flag(options, "count") {
-        return uncounted(alloc, options);
-    }
-    let asked = distance_options(options);
-    let wcnf = flag(options, "wcnf");
-    let table = flag(options, "table");
-    if is_beside_count(wcnf, table, flag(options, "each"), asked) {
-        let reported = String::from_str(alloc, COUNT_BESIDE)?;
-        return Err(Usage::Fault(reported));
-    }
-    Ok(Command::CountedDistance(asked))
 }
 
 /// The command of a name, with its own options.

@@ -6,9 +6,10 @@ use Rattle.stab_distance.specs.inner.Indexes.{ListsDetectors}
 use Rattle.stab_distance.specs.inner.Pairs.{ArePairs}
 use Rattle.stab_distance.specs.inner.Steps.{BeginsBefore}
 
--- a table, a number for each of its detectors, and for each error those that need not be tried with it
+-- a table, how many of its errors can be the first of a set, a number for each of its detectors, and for each error those that need not be tried with it
 pub record Keyed : Type 0 where
   pub table : ErrorTable
+  pub firsts : ℕ
   pub numbers : List ℕ
   pub pairs : List (Vec ℕ)
 

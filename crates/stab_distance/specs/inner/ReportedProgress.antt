@@ -1,4 +1,4 @@
--- Tellings: what parts of a search report of the numbers of errors that they exclude.
+-- Reports: what the steps of a search report of the numbers of errors that they exclude.
 use Rattle.std.specs.Prelude.{◌≡◌, ℕ, ◌+◌, ◌≤◌, List, ◌++◌, length, Option, Some, None, Result, IfOk}
 use Rattle.std.specs.Global.{Vec}
 use Rattle.stab_distance.specs.declared.answer.Answer.{Answer}

@@ -168,11 +168,3 @@ with_folded old new = record old {
   by_frame = new.by_frame;
   saved = new.saved;
 }
-
--- it went this far, saved no more than a checkpoint for each spacing, and asked for this many coins
-pub record HasGone (spacing before now : ℕ) (old new : Replay) : Type 0 where
-  pub asks : now + old.applied ≤ before + new.applied
-  pub asks_free : now + ones old.outputs.free.items ≤ before + ones new.outputs.free.items
-  pub counted : (new.applied + new.by_frame) + old.step ≡ (old.applied + old.by_frame) + new.step
-  pub further : old.step ≤ new.step
-  pub few_saved : spacing * length new.saved.items + old.step ≤ spacing * length old.saved.items + new.step

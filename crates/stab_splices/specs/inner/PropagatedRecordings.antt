@@ -1,6 +1,6 @@
 -- Propagated recordings: what a frame made of a recording, and what is kept once that is put in place.
 -- Source: this project's own.
-use Rattle.std.specs.Prelude.{◌≡◌, ℕ, ◌+◌, ◌-◌, ◌*◌, ◌≤◌, Bool, false, List, [], Option, IfSome, map, MatchOption, All, length, take, drop, replicate, slice_get}
+use Rattle.std.specs.Prelude.{◌≡◌, ℕ, ◌+◌, ◌-◌, ◌≤◌, Bool, false, List, [], Option, IfSome, map, MatchOption, All, length, take, drop, replicate, slice_get}
 use Rattle.stab_gates.specs.declared.letter.Letter.TheVariants.{I}
 use Rattle.stab_tableau.specs.Tableaus.{TableauState, stabilises}
 use Rattle.stab_tableau.specs.Conjugations.{IsConjugated}
@@ -8,7 +8,7 @@ use Rattle.stab_items.specs.Steps.{Step}
 use Rattle.stab_edits.specs.declared.edit.Span.{Span}
 use Rattle.stab_recording.specs.declared.checkpoint.Checkpoint.{Checkpoint}
 use Rattle.stab_recording.specs.declared.checkpoint.Meeting.{Meeting}
-use Rattle.stab_recording.specs.Checkpoints.{IsCheckpoint, checkpoint_steps}
+use Rattle.stab_recording.specs.Checkpoints.{IsCheckpoint}
 use Rattle.stab_recording.specs.SavedCheckpoints.{moved, moved_checkpoint, all_saved}
 use Rattle.stab_run.specs.Points.{Point, RunOutput, nothing, joined, with_additions, outputs}
 use Rattle.stab_run.specs.Records.{ones}
@@ -26,14 +26,20 @@ use Rattle.stab_splices.specs.declared.recording.Recording.{Recording}
 use Rattle.stab_splices.specs.declared.recording.Followed.{Followed}
 use Rattle.stab_splices.specs.declared.conjugating.PastPlaces.{PastPlaces}
 use Rattle.stab_splices.specs.declared.conjugating.Conjugating.{Conjugating}
+use Rattle.stab_splices.specs.inner.Prepared.{IsCount}
 use Rattle.stab_splices.specs.inner.OldRests.{HasRoomFor, checkpoints_moved}
-use Rattle.stab_splices.specs.Counts.{IsCounted}
-use Rattle.stab_rounds.specs.Spans.{IsSpan}
-use Rattle.stab_splices.specs.Recordings.{IsRecording, AgreeAfterSpan, AgreeBackAfterSpan}
+use Rattle.stab_splices.specs.Recordings.{IsRecording}
+use Rattle.stab_splices.specs.FollowedEdits.{IsWay}
 
 -- no list has anything
 abbrev pub no_lengths : Lengths
 no_lengths = record { records = 0; free = 0; detectors = 0; additions = 0 }
+
+-- of some checkpoints this many are not after the first step of a span, and those up to another count may be within it
+pub record AreCounted (s : Span) (checkpoints : List Checkpoint) (before inside : ℕ) : Type 0 where
+  pub first : IsCount (s.first + 1) checkpoints before
+  pub order : before ≤ inside
+  pub within : inside ≤ length checkpoints
 
 -- a step is not after a span, and the next checkpoint, which is, once it has moved, or the last step, is at most K steps from it
 abbrev pub StaysNear : ℕ → Span → (total step : ℕ) → Option Checkpoint → Type 0
@@ -90,9 +96,4 @@ pub record IsPut (old : Recording) (before K : ℕ) (t : Conjugating) (new : Rec
 -- the run was conjugated: it is that of the new steps, with this many observables, and this many steps were followed for it
 pub record HasConjugated (n : ℕ) (coins : ℕ → Bool) (K : ℕ) (ys : List Step) (observables : ℕ) (s : Span) (old : Recording) (f : Followed) (new : Recording) : Type 0 where
   pub kept : IsRecording n coins K ys observables new
-  pub applied : f.applied + f.by_frame ≤ (length ys - s.first) + K
-  pub few : (xs : List Step) (count far : ℕ) → IsRecording n coins K xs count old → IsSpan xs ys s → AgreeAfterSpan n coins xs ys s far
-      → f.applied + f.by_frame ≤ ((s.new_end - s.first) + 2 * K) + far
-  pub counted : (xs : List Step) (count : ℕ) → IsRecording n coins K xs count old → IsSpan xs ys s
-      → IsCounted (AgreeAfterSpan n coins xs ys s) (AgreeBackAfterSpan n coins xs ys s) (checkpoint_steps old.checkpoints.items) s.first s.old_end s.new_end (length ys)
-      (f.applied + f.by_frame)
+  pub way : IsWay n coins K ys s old (f.applied + f.by_frame)

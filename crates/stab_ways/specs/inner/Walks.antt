@@ -1,5 +1,5 @@
 -- Walks: a string on its way over the instructions of a circuit, from the first one on, and what is known of it so far.
-use Rattle.std.specs.Prelude.{◌≡◌, ◌≤◌, ◌<◌, ℕ, ◌+◌, ◌-◌, nat_lt, Bool, List, [], ◌∷◌, ◌++◌, length, take, drop, map, Option, Some, None, if◌then◌else◌}
+use Rattle.std.specs.Prelude.{◌≡◌, ◌≤◌, ◌<◌, ℕ, ◌+◌, ◌-◌, nat_le, Bool, List, [], ◌∷◌, ◌++◌, length, take, map, Option, Some, None, if◌then◌else◌}
 use Rattle.stab_gates.specs.declared.letter.Letter.{Letter}
 use Rattle.stab_pauli.specs.Paulis.{string_product}
 use Rattle.stab_items.specs.Steps.{Step}
@@ -12,7 +12,7 @@ use Rattle.stab_frames.specs.inner.Touches.{acts}
 use Rattle.stab_frames.specs.FrameSteps.{frame_over, flips_over}
 use Rattle.stab_ways.specs.declared.walk.Walk.{Walk}
 use Rattle.stab_ways.specs.PutIn.{by_letters, step_leaves, way_over, way_flips}
-use Rattle.stab_ways.specs.Ways.{Turn, changed_string, turn_shown}
+use Rattle.stab_ways.specs.Ways.{Part, Turn, listed_string, rest_of, turn_shown}
 
 -- a frame after steps, with what it has flipped
 abbrev pub passed : ℕ → List Step → PropagationState → PropagationState
@@ -41,8 +41,10 @@ has_letter_at letters t = acts (letter_at letters t.qubit)
 abbrev pub IsFront : List Step → List Step → Type 0
 IsFront ys xs = (rest : List Step) × (xs ≡ ys ++ rest) × (0 < length ys)
 
--- how many steps were passed, after how many more the string is put in, if it was not yet, the frame so far, and where the string became another one
+-- whether the string is listed at every tick or where it is another one, how many steps were passed, after how many more it is put in, if it was
+-- not yet, the frame so far, and what was listed
 pub record WalkState : Type 0 where
+  pub every : Bool
   pub steps : ℕ
   pub waits : Option ℕ
   pub frame : PropagationState
@@ -61,25 +63,25 @@ ended (Some k) string w = put_in string w
 abbrev pub past_steps : ℕ → List Step → WalkState → WalkState
 past_steps n ys w = record w { steps = w.steps + length ys; frame = passed n ys w.frame }
 
--- and the string is reported if it is another one after them
-abbrev pub reported : ℕ → List Step → WalkState → WalkState
-reported n ys w = record (past_steps n ys w) { turns = w.turns ++ changed_string (w.steps + length ys) w.frame.letters (passed n ys w.frame).letters }
+-- an instruction is passed, and the string is listed if it is to be
+abbrev pub reported : ℕ → Part → WalkState → WalkState
+reported n p w = record (past_steps n p.steps w) { turns = w.turns ++ listed_string w.every p.tick (w.steps + length p.steps) w.frame.letters (passed n p.steps w.frame).letters }
 
 -- over an instruction with the string under way, or not yet put in
-abbrev pub over_part : ℕ → List Letter → List Step → Option ℕ → WalkState → WalkState
-over_part n string ys None w = reported n ys w
-over_part n string ys (Some k) w =
-    if nat_lt k (length ys) then reported n (drop k ys) (put_in string (past_steps n (take k ys) w))
-    else record (past_steps n ys w) { waits = Some (k - length ys) }
+abbrev pub over_part : ℕ → List Letter → Part → Option ℕ → WalkState → WalkState
+over_part n string p None w = reported n p w
+over_part n string p (Some k) w =
+    if nat_le k (length p.steps) then reported n (rest_of k p) (put_in string (past_steps n (take k p.steps) w))
+    else record (past_steps n p.steps w) { waits = Some (k - length p.steps) }
 
 -- over instructions one after another
-abbrev pub walked : ℕ → List Letter → List (List Step) → WalkState → WalkState
+abbrev pub walked : ℕ → List Letter → List Part → WalkState → WalkState
 walked n string [] w = w
-walked n string (ys ∷ parts) w = walked n string parts (over_part n string ys w.waits w)
+walked n string (p ∷ parts) w = walked n string parts (over_part n string p w.waits w)
 
 -- what is known of a walk
 abbrev pub walk_shown : Walk → WalkState
-walk_shown w = record { steps = w.steps; waits = w.waits; frame = w.propagation; turns = map turn_shown w.turns.items }
+walk_shown w = record { every = w.every; steps = w.steps; waits = w.waits; frame = w.propagation; turns = map turn_shown w.turns.items }
 
 -- a walk on n qubits, which no pivot is known for
 pub record IsWalk (n : ℕ) (w : Walk) : Type 0 where

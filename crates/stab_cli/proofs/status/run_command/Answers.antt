@@ -1,7 +1,7 @@
 use Rattle.std.proofs.Common.{false, subst, sym}
-use Rattle.stab_texts.specs.Distances.{EndsCounted, EndsDistance, EndsEach, EndsSearched}
+use Rattle.stab_texts.specs.Questions.{EndsQuestion}
 use Rattle.stab_texts.specs.FaultTables.{EndsFaults, fault_of}
-use Rattle.stab_cli.proofs.WarningLaws.{warned_alike, warned_alike_of}
+use Rattle.stab_cli.proofs.WarningLaws.{warned_alike, warned_by_question}
 use Rattle.stab_cli.proofs.status.run_command.Goals as goal
 
 pub returns-in-Faults-clause-ends : goal.returns-in-Faults-clause-ends
@@ -11,45 +11,15 @@ returns-in-Faults-clause-ends g c =
     (sym c.refuses_none.ensures.same) c.run_faults.ensures.ends in
     rw c.in-Faults.is (fault_of c.run_faults.result, ends, c.refuses_none.ensures.value)
 
-pub returns-in-SearchedErrors-clause-ends : goal.returns-in-SearchedErrors-clause-ends
-returns-in-SearchedErrors-clause-ends g c =
-    let ends = subst
-    (λ u. EndsSearched c.in-SearchedErrors.layout c.in-SearchedErrors.options (g.I.Input.seen c.args.input.now) (g.I.Input.seen c.run_searched_errors.new.input) (g.O.Output.seen c.args.out.now) (g.O.Output.seen c.run_searched_errors.new.out) (fault_of c.run_searched_errors.result) u)
-    (sym c.refuses_none-in-SearchedErrors.ensures.same) c.run_searched_errors.ensures.ends in
-    rw c.in-SearchedErrors.is (fault_of c.run_searched_errors.result, ends, c.refuses_none-in-SearchedErrors.ensures.value)
-
-pub returns-in-EachDistance-clause-ends : goal.returns-in-EachDistance-clause-ends
-returns-in-EachDistance-clause-ends g c =
-    let ends = subst
-    (λ u. EndsEach c.in-EachDistance.options (g.I.Input.seen c.args.input.now) (g.I.Input.seen c.run_each_distance.new.input) (g.O.Output.seen c.args.out.now) (g.O.Output.seen c.run_each_distance.new.out) (fault_of c.run_each_distance.result) u)
-    (sym c.refuses_none-in-EachDistance.ensures.same) c.run_each_distance.ensures.ends in
-    rw c.in-EachDistance.is (fault_of c.run_each_distance.result, ends, c.refuses_none-in-EachDistance.ensures.value)
-
-pub returns-in-CountedDistance-clause-ends : goal.returns-in-CountedDistance-clause-ends
-returns-in-CountedDistance-clause-ends g c =
-    let ends = subst
-    (λ u. EndsCounted c.in-CountedDistance.options (g.I.Input.seen c.args.input.now) (g.I.Input.seen c.run_counted_distance.new.input) (g.O.Output.seen c.args.out.now) (g.O.Output.seen c.run_counted_distance.new.out) (fault_of c.run_counted_distance.result) u)
-    (sym c.refuses_none-in-CountedDistance.ensures.same) c.run_counted_distance.ensures.ends in
-    rw c.in-CountedDistance.is (fault_of c.run_counted_distance.result, ends, c.refuses_none-in-CountedDistance.ensures.value)
-
 pub returns-in-Distance-clause-ends : goal.returns-in-Distance-clause-ends
 returns-in-Distance-clause-ends g c =
     let ends = subst
-    (λ u. EndsDistance c.in-Distance.options (g.I.Input.seen c.args.input.now) (g.I.Input.seen c.run_distance.new.input) (g.O.Output.seen c.args.out.now) (g.O.Output.seen c.run_distance.new.out) (fault_of c.run_distance.result) u)
-    (sym c.refuses_none-in-Distance.ensures.same) c.run_distance.ensures.ends in
-    rw c.in-Distance.is (fault_of c.run_distance.result, ends, c.refuses_none-in-Distance.ensures.value)
+    (λ u. EndsQuestion c.in-Distance.question c.in-Distance.options (g.I.Input.seen c.args.input.now) (g.I.Input.seen c.run_question.new.input) (g.O.Output.seen c.args.out.now) (g.O.Output.seen c.run_question.new.out) (fault_of c.run_question.result) u)
+    (sym c.refuses_none-in-Distance.ensures.same) c.run_question.ensures.ends in
+    rw c.in-Distance.is (fault_of c.run_question.result, ends, c.refuses_none-in-Distance.ensures.value)
 
 pub returns-in-Distance-clause-reported : goal.returns-in-Distance-clause-reported
-returns-in-Distance-clause-reported g c = rw c.in-Distance.is (fault_of c.run_distance.result, c.run_distance.ensures.reported, c.refuses_none-in-Distance.ensures.value)
-
-pub returns-in-EachDistance-clause-reported : goal.returns-in-EachDistance-clause-reported
-returns-in-EachDistance-clause-reported g c = rw c.in-EachDistance.is (fault_of c.run_each_distance.result, c.run_each_distance.ensures.reported, c.refuses_none-in-EachDistance.ensures.value)
-
-pub returns-in-CountedDistance-clause-reported : goal.returns-in-CountedDistance-clause-reported
-returns-in-CountedDistance-clause-reported g c = rw c.in-CountedDistance.is (fault_of c.run_counted_distance.result, c.run_counted_distance.ensures.reported, c.refuses_none-in-CountedDistance.ensures.value)
-
-pub returns-in-SearchedErrors-clause-reported : goal.returns-in-SearchedErrors-clause-reported
-returns-in-SearchedErrors-clause-reported g c = rw c.in-SearchedErrors.is (fault_of c.run_searched_errors.result, c.run_searched_errors.ensures.reported, c.refuses_none-in-SearchedErrors.ensures.value)
+returns-in-Distance-clause-reported g c = rw c.in-Distance.is (fault_of c.run_question.result, c.run_question.ensures.reported, c.refuses_none-in-Distance.ensures.value)
 
 -- what is left of the error output
 
@@ -63,16 +33,4 @@ returns-in-Faults-clause-warns g c =
 
 pub returns-in-Distance-clause-warns : goal.returns-in-Distance-clause-warns
 returns-in-Distance-clause-warns g c =
-    rw c.in-Distance.is (warned_alike_of c.in-Distance.options.everywhere c.in-Distance.options.observable (g.I.Input.seen c.args.input.now) (g.I.Input.seen c.run_distance.new.input) (g.E.Output.seen c.args.err.now) (g.E.Output.seen c.run_distance.new.err) (fault_of c.run_distance.result) (fault_of c.refuses_none-in-Distance.result) c.refuses_none-in-Distance.ensures.value c.run_distance.ensures.warns)
-
-pub returns-in-SearchedErrors-clause-warns : goal.returns-in-SearchedErrors-clause-warns
-returns-in-SearchedErrors-clause-warns g c =
-    rw c.in-SearchedErrors.is (warned_alike c.in-SearchedErrors.options.everywhere (g.I.Input.seen c.args.input.now) (g.I.Input.seen c.run_searched_errors.new.input) (g.E.Output.seen c.args.err.now) (g.E.Output.seen c.run_searched_errors.new.err) (fault_of c.run_searched_errors.result) (fault_of c.refuses_none-in-SearchedErrors.result) c.refuses_none-in-SearchedErrors.ensures.value c.run_searched_errors.ensures.warns)
-
-pub returns-in-EachDistance-clause-warns : goal.returns-in-EachDistance-clause-warns
-returns-in-EachDistance-clause-warns g c =
-    rw c.in-EachDistance.is (warned_alike c.in-EachDistance.options.everywhere (g.I.Input.seen c.args.input.now) (g.I.Input.seen c.run_each_distance.new.input) (g.E.Output.seen c.args.err.now) (g.E.Output.seen c.run_each_distance.new.err) (fault_of c.run_each_distance.result) (fault_of c.refuses_none-in-EachDistance.result) c.refuses_none-in-EachDistance.ensures.value c.run_each_distance.ensures.warns)
-
-pub returns-in-CountedDistance-clause-warns : goal.returns-in-CountedDistance-clause-warns
-returns-in-CountedDistance-clause-warns g c =
-    rw c.in-CountedDistance.is (warned_alike_of c.in-CountedDistance.options.everywhere c.in-CountedDistance.options.observable (g.I.Input.seen c.args.input.now) (g.I.Input.seen c.run_counted_distance.new.input) (g.E.Output.seen c.args.err.now) (g.E.Output.seen c.run_counted_distance.new.err) (fault_of c.run_counted_distance.result) (fault_of c.refuses_none-in-CountedDistance.result) c.refuses_none-in-CountedDistance.ensures.value c.run_counted_distance.ensures.warns)
+    rw c.in-Distance.is (warned_by_question c.in-Distance.question c.in-Distance.options (g.I.Input.seen c.args.input.now) (g.I.Input.seen c.run_question.new.input) (g.E.Output.seen c.args.err.now) (g.E.Output.seen c.run_question.new.err) (fault_of c.run_question.result) (fault_of c.refuses_none-in-Distance.result) c.refuses_none-in-Distance.ensures.value c.run_question.ensures.warns)

@@ -23,7 +23,7 @@ returns-then-len-clause-meet c =
     let covered = c.count.ensures.covers e inside (record { later = may.later; fresh = refl; unpaired = λ a none. absurd (false≢true none) }) in
     let same = c.leave_out.ensures.others e may.fresh may.unpaired in
     let some = shared t.rows e c.rarest.result ds c.rarest.ensures.among flips in
-    c.in_ok-by_rarest.ensures.all e (c.flipping-rarest.ensures.complete e inside flips) may.later
+    c.in_ok-by_rarest.ensures.all e (c.flipping-rarest.ensures.complete e inside flips)
     (omega (arith, inside, c.requires.cover, c.count.ensures.length, c.leave_out.ensures.length)) (omega (arith, covered, same, some)))
 
 pub returns-else-len-clause-inside : goal.returns-else-len-clause-inside
@@ -44,5 +44,5 @@ returns-else-len-clause-meet c =
     (λ e d inside may many among flips.
     let covered = c.count.ensures.covers e inside (record { later = may.later; fresh = refl; unpaired = λ a none. absurd (false≢true none) }) in
     let kept = c.leave_out.ensures.others e may.fresh may.unpaired in
-    c.in_ok-by_cover.ensures.all e d (omega (arith, inside, c.requires.cover, c.count.ensures.length, c.leave_out.ensures.length)) may.later
+    c.in_ok-by_cover.ensures.all e d (omega (arith, inside, c.requires.cover, c.count.ensures.length, c.leave_out.ensures.length))
     (omega (arith, covered, kept, many)) among inside flips)

@@ -13,7 +13,7 @@ returns-then-left-eq2-clause-inside c = subst (λ n. Each (λ r. r < n) c.in_ok-
 pub returns-then-left-eq2-clause-meet : goal.returns-then-left-eq2-clause-meet
 returns-then-left-eq2-clause-meet c =
     meet-detector c.args.errors.now.table c.args.weights.now c.args.flipped.now c.detectors_of-detectors.result.now c.detectors_of-detectors.ensures.inside
-    c.detectors_of-detectors.ensures.flipped c.args.left c.rarest.result c.in_ok-by_rarest.by_rarest.items c.rarest.ensures.among
+    c.detectors_of-detectors.ensures.flipped c.args.left c.seldom.result c.in_ok-by_rarest.by_rarest.items c.seldom.ensures.among
     (λ e inside some flips. c.in_ok-by_rarest.ensures.all e (c.flipping-rarest.ensures.complete e inside flips) (omega (arith, inside, c.requires.weights)) some)
 
 pub returns-then-len-clause-inside : goal.returns-then-len-clause-inside
@@ -22,7 +22,7 @@ returns-then-len-clause-inside c = subst (λ n. Each (λ r. r < n) c.in_ok-by_ra
 pub returns-then-len-clause-meet : goal.returns-then-len-clause-meet
 returns-then-len-clause-meet c =
     meet-detector c.args.errors.now.table c.args.weights.now c.args.flipped.now c.detectors_of-detectors.result.now c.detectors_of-detectors.ensures.inside
-    c.detectors_of-detectors.ensures.flipped c.args.left c.rarest.result c.in_ok-by_rarest.by_rarest.items c.rarest.ensures.among
+    c.detectors_of-detectors.ensures.flipped c.args.left c.seldom.result c.in_ok-by_rarest.by_rarest.items c.seldom.ensures.among
     (λ e inside some flips. c.in_ok-by_rarest.ensures.all e (c.flipping-rarest.ensures.complete e inside flips) (omega (arith, inside, c.requires.weights)) some)
 
 pub returns-else-len-clause-inside : goal.returns-else-len-clause-inside

@@ -1,4 +1,4 @@
-use Rattle.stab_distance.proofs.Names.{◌≡◌, ℕ, ◌+◌, ◌*◌, ◌<◌, length, get_or, NoEndsBy}
+use Rattle.stab_distance.proofs.Names.{◌≡◌, ℕ, ◌+◌, ◌*◌, ◌<◌, length, get_or, HasNoneWithin, NoEndsBy}
 use Rattle.stab_distance.proofs.searching.+search.Given as goal
 
 abbrev pub decreases-search : goal.decreases-search
@@ -11,5 +11,5 @@ abbrev pub invariant-search-tries : goal.invariant-search-tries
 invariant-search-tries l = record {
   cover : length l.cover ≡ length l.errors.table.rows;
   path : l.path.items ≡ l.initial.path.items;
-  tried : (k : ℕ) → k < l.g-index → NoEndsBy l.errors.table l.errors.pairs l.first l.initial.path.items l.flipped l.left (get_or l.g-items k 0);
+  tried : HasNoneWithin l.errors.table l.left → (k : ℕ) → k < l.g-index → NoEndsBy l.errors.table l.errors.pairs l.first l.initial.path.items l.flipped l.left (get_or l.g-items k 0);
 }

@@ -1,11 +1,13 @@
 use Rattle.stab_distance.proofs.Names.{◌≡◌, arith, IsLast}
 use Rattle.stab_distance.proofs.ReportLemmas.{on-next, ok-of_err}
+use Rattle.stab_distance.proofs.SearchPartLemmas.{whole-none}
 use Rattle.stab_distance.proofs.sizes.shortest.Goals as goal
 
 pub sizes-preserved : goal.sizes-preserved
 sizes-preserved g c = record {
   within = omega (arith, c.sizes-test.true);
-  none = rw c.in-None.is at c.in_ok-found.ensures.none;
+  none = whole-none c.args.errors.now.table c.firsts-firsts.result c.whole-whole.result c.whole-whole.ensures.value c.firsts-firsts.ensures.begun c.sizes.left c.sizes.invariant.none
+      (rw c.in-None.is at c.in_ok-found.ensures.none);
   heard = on-next c.args.from c.sizes.left (g.P.Progress.heard c.args.progress.now) (g.P.Progress.heard c.sizes.progress) (g.P.Progress.heard c.none_within.new.self) c.sizes.invariant.heard
       c.none_within.ensures.hears;
 }
@@ -23,7 +25,7 @@ returns-in-Some-clause-reported g c = record {
   last = c.sizes.left;
   none = c.sizes.invariant.none;
   heard = c.sizes.invariant.heard;
-  all = (rw c.in-Some.is at c.in_ok-found.ensures.some).within;
+  all = (rw c.in-Some.is at c.in_ok-found.ensures.some).found.within;
 }
 
 pub returns-clause-none : goal.returns-clause-none

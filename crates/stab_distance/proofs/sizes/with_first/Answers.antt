@@ -1,4 +1,5 @@
-use Rattle.stab_distance.proofs.Names.{sym, subst, ℕ, List, ◌+◌, EndsWithin, IsLogicalWithin}
+use Rattle.stab_distance.proofs.Names.{◌≡◌, true, sym, subst, ℕ, List, ◌+◌, has, EndsWithin, IsLogicalWithin}
+use Rattle.stab_distance.proofs.ListLemmas.{has-push}
 use Rattle.stab_distance.proofs.ShortestLemmas.{begun}
 use Rattle.stab_distance.proofs.sizes.with_first.Goals as goal
 
@@ -8,3 +9,9 @@ returns-clause-some c =
     (begun c.args.errors.now.table c.args.first c.args.left c.in-Some.rest.items c.requires.inside
     (subst (λ (xs : List ℕ). EndsWithin c.args.errors.now.table xs c.args.left c.in-Some.rest.items) c.row-flipped.ensures.value
     (rw c.in-Some.is at c.in_ok-search.ensures.some)))
+
+pub returns-clause-begun : goal.returns-clause-begun
+returns-clause-begun c = (
+  c.has.ensures.yes c.if-not-has.false,
+  subst (λ (xs : List ℕ). has c.args.first xs ≡ true) (sym c.in_ok-push-in-Some.ensures.items) (has-push c.args.first c.in-Some.rest.items),
+)

@@ -14,10 +14,10 @@ returns-in_err-map_err g c =
     let bits = c.as_slice-2.result.now in
     let left = c.as_slice-3.result.now in
     let bytes = flat_map (turn_line items) turns ++ (flips_line (whole_kinds items) bits ++ left_line left) in
-    let ok = given_before c.way_asked.result c.map_err.result c.in_ok-way.way c.map_err.ensures.cases c.in_ok-way.was in
-    let is = is_way_text items c.args.every put turns bits left (ap (map turn_shown) c.as_slice.ensures.value ∙ (rw ok at c.way_asked.ensures.turns))
-    (c.as_slice-2.ensures.value ∙ c.in_ok-bits.ensures.value ∙ ap (bits_flipped items) (rw ok at c.way_asked.ensures.flips))
-    (c.as_slice-3.ensures.value ∙ c.in_ok-left.ensures.value ∙ ap (placed 0) (c.letters.ensures.value ∙ (rw ok at c.way_asked.ensures.left))) (rw ok at c.way_asked.ensures.runs) in
+    let ok = given_before c.way_of.result c.map_err.result c.in_ok-way.way c.map_err.ensures.cases c.in_ok-way.was in
+    let is = is_way_text items c.args.every put turns bits left (ap (map turn_shown) c.as_slice.ensures.value ∙ (rw ok at c.way_of.ensures.turns))
+    (c.as_slice-2.ensures.value ∙ c.in_ok-bits.ensures.value ∙ ap (bits_flipped items) (rw ok at c.way_of.ensures.flips))
+    (c.as_slice-3.ensures.value ∙ c.in_ok-left.ensures.value ∙ ap (placed 0) (c.letters.ensures.value ∙ (rw ok at c.way_of.ensures.left))) (rw ok at c.way_of.ensures.runs) in
     record {
       sends = found_failed (IsWayText items c.args.every put) (g.O.Output.seen c.args.out.now) (g.O.Output.seen c.write_way.new.out) bytes c.write_way.result c.map_err-2.result c.in_err-map_err.field-0.0 c.from_residual-in_err-map_err.result
           is c.write_way.ensures.writes c.map_err-2.ensures.cases c.in_err-map_err.was c.from_residual-in_err-map_err.ensures.1;
@@ -31,10 +31,10 @@ returns g c =
     let bits = c.as_slice-2.result.now in
     let left = c.as_slice-3.result.now in
     let bytes = flat_map (turn_line items) turns ++ (flips_line (whole_kinds items) bits ++ left_line left) in
-    let ok = given_before c.way_asked.result c.map_err.result c.in_ok-way.way c.map_err.ensures.cases c.in_ok-way.was in
-    let is = is_way_text items c.args.every put turns bits left (ap (map turn_shown) c.as_slice.ensures.value ∙ (rw ok at c.way_asked.ensures.turns))
-    (c.as_slice-2.ensures.value ∙ c.in_ok-bits.ensures.value ∙ ap (bits_flipped items) (rw ok at c.way_asked.ensures.flips))
-    (c.as_slice-3.ensures.value ∙ c.in_ok-left.ensures.value ∙ ap (placed 0) (c.letters.ensures.value ∙ (rw ok at c.way_asked.ensures.left))) (rw ok at c.way_asked.ensures.runs) in
+    let ok = given_before c.way_of.result c.map_err.result c.in_ok-way.way c.map_err.ensures.cases c.in_ok-way.was in
+    let is = is_way_text items c.args.every put turns bits left (ap (map turn_shown) c.as_slice.ensures.value ∙ (rw ok at c.way_of.ensures.turns))
+    (c.as_slice-2.ensures.value ∙ c.in_ok-bits.ensures.value ∙ ap (bits_flipped items) (rw ok at c.way_of.ensures.flips))
+    (c.as_slice-3.ensures.value ∙ c.in_ok-left.ensures.value ∙ ap (placed 0) (c.letters.ensures.value ∙ (rw ok at c.way_of.ensures.left))) (rw ok at c.way_of.ensures.runs) in
     let written = given_before c.write_way.result c.map_err-2.result c.in_ok-map_err.field-0 c.map_err-2.ensures.cases c.in_ok-map_err.was in
     record {
       sends = found_finished (IsWayText items c.args.every put) (g.O.Output.seen c.args.out.now) (g.O.Output.seen c.write_way.new.out) (g.O.Output.seen c.finish.new.out) bytes c.finish.result

@@ -2,6 +2,17 @@ use Rattle.stab_recording.proofs.Names.{ℕ, Bool, List, Letter, Step, IsMissing
 use Rattle.stab_recording.proofs.StopLemmas.{propagation-whole, whole-left}
 use Rattle.stab_recording.proofs.other_coins.propagate_with_coins.Goals as goal
 
+pub propagate-requires : goal.propagate-requires
+propagate-requires g c = record {
+  may = record {
+    same_length = c.requires.same_length;
+    fits = c.requires.fits;
+    placed = c.requires.placed;
+    few = c.requires.few;
+    few_passed = let few = c.requires.few in omega (arith, few);
+  };
+}
+
 pub returns-in_err-propagate-clause-asks : goal.returns-in_err-propagate-clause-asks
 returns-in_err-propagate-clause-asks g c =
     let count = all_coins_of (take c.args.most c.args.cursor.now.left) in
@@ -28,8 +39,8 @@ returns-clause-left g c =
     let xs = c.args.cursor.now.left in
     let done = c.in_ok-propagate.ensures {u = tt} in
     whole-left (length c.args.propagation.now.letters) 0 c.in_ok-propagate.field-0.steps c.args.most _ c.args.strings.now.strings c.args.free.now xs c.propagate.new.cursor.left c.propagate.new.propagation
-    c.in_ok-propagate.field-0.stop done.stop done.gone
-    (λ determined. kept c.args.strings.now.strings c.args.free.now c.args.propagation.now.coin c.args.most c.propagate.new.by_frame xs done.most (done.missing determined)) c.requires.kept done.left
+    c.in_ok-propagate.field-0.stop done.passed.stop done.gone
+    (λ determined. kept c.args.strings.now.strings c.args.free.now c.args.propagation.now.coin c.args.most c.propagate.new.by_frame xs done.most (done.passed.missing determined)) c.requires.kept done.passed.left
 
 pub returns-clause-propagated : goal.returns-clause-propagated
 returns-clause-propagated g c =
@@ -39,8 +50,8 @@ returns-clause-propagated g c =
     let done = c.in_ok-propagate.ensures {u = tt} in
     let whole =
     propagation-whole n 0 c.in_ok-propagate.field-0.steps c.args.most _ c.args.strings.now.strings c.args.free.now xs c.propagate.new.propagation c.in_ok-propagate.field-0.stop
-    done.stop done.gone
-    (λ determined. kept c.args.strings.now.strings c.args.free.now c.args.propagation.now.coin c.args.most c.propagate.new.by_frame xs done.most (done.missing determined))
+    done.passed.stop done.gone
+    (λ determined. kept c.args.strings.now.strings c.args.free.now c.args.propagation.now.coin c.args.most c.propagate.new.by_frame xs done.most (done.passed.missing determined))
     c.requires.kept in
     propagation-others n c.args.strings.now.strings c.args.free.now c.args.outcomes.now others (take c.args.most xs) c.args.propagation.now c.propagate.new.propagation
     (subst (λ ys. GoesOver n c.args.strings.now.strings c.args.free.now (differing (outcome_of c.args.outcomes.now c.args.propagation.now.coin) others) ys c.args.propagation.now c.propagate.new.propagation) whole

@@ -2,13 +2,13 @@ use Rattle.stab_recording.proofs.Names.{◌-◌, arith, refl, ap, sym, ◌∙◌
 use Rattle.stab_recording.proofs.recorded_steps.run_recording_pivots.Goals as goal
 
 pub run_steps-requires-clause-same_length : goal.run_steps-requires-clause-same_length
-run_steps-requires-clause-same_length g c = c.loop-left.invariant.string ∙ c.requires.same_length ∙ sym c.loop-left.invariant.qubits
+run_steps-requires-clause-same_length g c = c.loop-left.invariant.sized.string ∙ sym c.loop-left.invariant.qubits
 
 pub run_steps-requires-clause-pivots_length : goal.run_steps-requires-clause-pivots_length
-run_steps-requires-clause-pivots_length g c = c.loop-left.invariant.pivots_length ∙ sym c.loop-left.invariant.qubits
+run_steps-requires-clause-pivots_length g c = c.loop-left.invariant.sized.scratch ∙ sym c.loop-left.invariant.qubits
 
 pub run_steps-requires-clause-strings_length : goal.run_steps-requires-clause-strings_length
-run_steps-requires-clause-strings_length g c = c.loop-left.invariant.strings_length ∙ sym c.loop-left.invariant.qubits
+run_steps-requires-clause-strings_length g c = c.loop-left.invariant.sized.strings ∙ sym c.loop-left.invariant.qubits
 
 pub run_steps-requires-clause-fits : goal.run_steps-requires-clause-fits
 run_steps-requires-clause-fits g c =
@@ -45,14 +45,11 @@ loop-left-preserved g c =
       rest = sym (drop-steps left count before shown following more c.len-left.ensures.value c.in-Some.ensures.within.1) ∙ inv.rest;
       all = c.next_steps.ensures.all ∙ inv.all;
       qubits = done.qubits ∙ inv.qubits;
-      string = done.string ∙ inv.string;
+      sized = record { string = done.string ∙ inv.sized.string; scratch = done.pivots_length ∙ inv.qubits; strings = done.strings_length ∙ inv.qubits };
       same_coins = done.same_coins ∙ inv.same_coins;
       asks = omega (arith, asked, done.asks, inv.asks);
       asks_free = omega (arith, done.asks_free, inv.asks_free);
-      pivots_length = done.pivots_length ∙ inv.qubits;
-      strings_length = done.strings_length ∙ inv.qubits;
-      most = done.most ∙ inv.most;
-      raised = omega (arith, done.raised, inv.raised);
+      kept = record { most = done.most ∙ inv.kept.most; raised = omega (arith, done.raised, inv.kept.raised) };
       has_pivots = λ window new kept le rest. inv.has_pivots window new kept (omega (arith, done.raised, le))
           (pivots-steps c.args.tableau.now.qubits c.loop-left.tableau.qubits (g.C.Coins.sequence c.args.coins.now) (g.C.Coins.sequence c.loop-left.coins)
           (take left before) shown then c.run_steps.new.self.window window c.loop-left.pivots.strings c.run_steps.new.self.strings kept
@@ -60,45 +57,34 @@ loop-left-preserved g c =
           front inv.qubits inv.same_coins le done.has_pivots rest);
     }
 
-pub returns-clause-counted : goal.returns-clause-counted
-returns-clause-counted g c = omega (arith, ap length (take-none c.loop-left.left c.loop-left.cursor.left c.loop-left-test.false), c.loop-left.invariant.counted)
-
-pub returns-clause-left : goal.returns-clause-left
-returns-clause-left g c = sym (drop-none c.loop-left.left c.loop-left.cursor.left c.loop-left-test.false) ∙ c.loop-left.invariant.rest
+pub returns-clause-recorded : goal.returns-clause-recorded
+returns-clause-recorded g c =
+    let inv = c.loop-left.invariant in
+    let none = take-none c.loop-left.left c.loop-left.cursor.left c.loop-left-test.false in
+    record {
+      left = sym (drop-none c.loop-left.left c.loop-left.cursor.left c.loop-left-test.false) ∙ inv.rest;
+      counted = omega (arith, ap length none, inv.counted);
+      asks_free = inv.asks_free;
+      steps = pivots-all none inv.has_pivots;
+    }
 
 pub returns-clause-asks : goal.returns-clause-asks
 returns-clause-asks g c = omega (arith, c.loop-left.invariant.asks)
 
-pub returns-clause-run : goal.returns-clause-run
-returns-clause-run g c = (pivots-all (take-none c.loop-left.left c.loop-left.cursor.left c.loop-left-test.false) c.loop-left.invariant.has_pivots).run
-
-pub returns-clause-window : goal.returns-clause-window
-returns-clause-window g c = (pivots-all (take-none c.loop-left.left c.loop-left.cursor.left c.loop-left-test.false) c.loop-left.invariant.has_pivots).within
-
-pub returns-clause-has_pivots : goal.returns-clause-has_pivots
-returns-clause-has_pivots g c = (pivots-all (take-none c.loop-left.left c.loop-left.cursor.left c.loop-left-test.false) c.loop-left.invariant.has_pivots).has_pivots
-
-pub returns-in_default-clause-counted : goal.returns-in_default-clause-counted
-returns-in_default-clause-counted g c =
-    omega (arith, ap length (take-empty c.loop-left.left c.loop-left.cursor.left c.in_default.ensures.none.0), c.loop-left.invariant.counted)
-
-pub returns-in_default-clause-left : goal.returns-in_default-clause-left
-returns-in_default-clause-left g c =
-    c.in_default.ensures.none.1
-    ∙ sym (drop-empty c.loop-left.left c.loop-left.cursor.left c.in_default.ensures.none.0)
-    ∙ c.loop-left.invariant.rest
+pub returns-in_default-clause-recorded : goal.returns-in_default-clause-recorded
+returns-in_default-clause-recorded g c =
+    let inv = c.loop-left.invariant in
+    let empty = c.in_default.ensures.none in
+    let none = take-empty c.loop-left.left c.loop-left.cursor.left empty.0 in
+    record {
+      left = empty.1 ∙ sym (drop-empty c.loop-left.left c.loop-left.cursor.left empty.0) ∙ inv.rest;
+      counted = omega (arith, ap length none, inv.counted);
+      asks_free = inv.asks_free;
+      steps = pivots-all none inv.has_pivots;
+    }
 
 pub returns-in_default-clause-asks : goal.returns-in_default-clause-asks
 returns-in_default-clause-asks g c = omega (arith, c.loop-left.invariant.asks)
-
-pub returns-in_default-clause-run : goal.returns-in_default-clause-run
-returns-in_default-clause-run g c = (pivots-all (take-empty c.loop-left.left c.loop-left.cursor.left c.in_default.ensures.none.0) c.loop-left.invariant.has_pivots).run
-
-pub returns-in_default-clause-window : goal.returns-in_default-clause-window
-returns-in_default-clause-window g c = (pivots-all (take-empty c.loop-left.left c.loop-left.cursor.left c.in_default.ensures.none.0) c.loop-left.invariant.has_pivots).within
-
-pub returns-in_default-clause-has_pivots : goal.returns-in_default-clause-has_pivots
-returns-in_default-clause-has_pivots g c = (pivots-all (take-empty c.loop-left.left c.loop-left.cursor.left c.in_default.ensures.none.0) c.loop-left.invariant.has_pivots).has_pivots
 
 pub returns-in_err-run_steps-clause-asks : goal.returns-in_err-run_steps-clause-asks
 returns-in_err-run_steps-clause-asks g c =

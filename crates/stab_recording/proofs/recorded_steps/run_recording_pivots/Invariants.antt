@@ -1,4 +1,5 @@
 use Rattle.stab_recording.proofs.Names.{◌≡◌, ℕ, ◌+◌, ◌≤◌, All, length, take, drop, ones, all_coins_of, ProgramState, StepFits, program_state, output_of, PivotsState, PivotsSteps}
+use Rattle.stab_recording.specs.RecordedSteps.{AreOnQubits, KeepsRecorded}
 use Rattle.stab_recording.proofs.recorded_steps.run_recording_pivots.Given as goal
 
 abbrev pub invariant-loop-left : goal.invariant-loop-left
@@ -9,14 +10,11 @@ invariant-loop-left g l = record {
   rest : drop l.left l.cursor.left ≡ drop l.most l.initial.cursor.left;
   all : l.cursor.all ≡ l.initial.cursor.all;
   qubits : l.tableau.qubits ≡ l.initial.tableau.qubits;
-  string : length l.string.letters ≡ length l.initial.string.letters;
+  sized : AreOnQubits l.initial.tableau.qubits l.string l.pivots;
   same_coins : g.C.Coins.sequence l.coins ≡ g.C.Coins.sequence l.initial.coins;
   asks : g.C.Coins.asks l.coins + all_coins_of (take l.left l.cursor.left) ≤ g.C.Coins.asks l.initial.coins + all_coins_of (take l.most l.initial.cursor.left);
   asks_free : g.C.Coins.asks l.coins + ones l.initial.outputs.free.items ≤ g.C.Coins.asks l.initial.coins + ones l.outputs.free.items;
-  pivots_length : length l.pivots.string.letters ≡ l.initial.tableau.qubits;
-  strings_length : l.pivots.strings.qubits ≡ l.initial.tableau.qubits;
-  most : l.pivots.strings.most ≡ l.initial.pivots.strings.most;
-  raised : l.initial.pivots.window ≤ l.pivots.window;
+  kept : KeepsRecorded l.initial.pivots l.pivots;
   has_pivots : (window : ℕ) (new : ProgramState) (kept : PivotsState) → l.pivots.window ≤ window
       → PivotsSteps l.initial.tableau.qubits (g.C.Coins.sequence l.initial.coins) (take l.left l.cursor.left) window l.pivots.strings kept
       (program_state l.tableau (output_of l.outputs)) new

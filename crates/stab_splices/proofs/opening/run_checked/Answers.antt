@@ -21,4 +21,4 @@ returns-clause-kept g c =
     let coins = g.C.Coins.sequence c.args.coins.now in
     let items = circuit_items c.args.circuit.now in
     let empty = c.in_ok-recording.ensures.kept coins c.args.stride in
-    subst (λ n. IsRecording n coins c.args.stride (unroll items) (observables_of items) c.replay.new.self) empty.qubits c.in_ok-replay.ensures.kept
+    subst (λ n. IsRecording n coins c.args.stride (unroll items) (observables_of items) c.replay.new.self) empty.qubits c.in_ok-replay.ensures.followed.kept

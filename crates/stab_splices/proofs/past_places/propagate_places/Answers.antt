@@ -1,4 +1,4 @@
-use Rattle.stab_splices.proofs.Names.{◌≡◌, ℕ, ◌+◌, ◌<◌, refl, sym, ◌∙◌, ap, subst, Bool, List, length, drop, get_or, All, arith, length-drop, length-take, All-nil, All-take, All-drop, Step, Span, RunOutput, StepFits, pivot_at, PropagationState, IsCheckpoint, IsFrameBetween, IsBeforePiece, IsBeforePlaces}
+use Rattle.stab_splices.proofs.Names.{IsPlaced, ◌≡◌, ℕ, ◌+◌, ◌<◌, refl, sym, ◌∙◌, ap, subst, Bool, List, length, drop, get_or, All, arith, length-drop, length-take, All-nil, All-take, All-drop, Step, Span, RunOutput, StepFits, pivot_at, PropagationState, IsCheckpoint, IsFrameBetween, IsBeforePiece, IsBeforePlaces}
 use Rattle.stab_splices.proofs.PlaceLemmas.{IsUnderWay, under-way-first, under-way-last, under-way-gates, under-way-next}
 use Rattle.stab_splices.proofs.past_places.propagate_places.Goals as goal
 use Rattle.stab_splices.proofs.past_places.propagate_places.Goals.{After-saturating_add-new-in-loop-gap}
@@ -9,9 +9,9 @@ loop-gap-init c =
     let pivots = pivot_at c.args.strings.now.strings c.args.free.now in
     record {
       all = refl;
-      fits = c.requires.fits;
+      fits = c.requires.may.fits;
       size = refl;
-      placed = c.requires.placed;
+      placed = c.requires.may.placed;
       coin = omega arith;
       counted = omega arith;
       within = omega (arith, ap length c.requires.nothing);
@@ -24,9 +24,19 @@ loop-gap-init c =
 
 -- no more steps are counted than there are
 
-pub propagate_piece-requires-clause-few_propagated : goal.propagate_piece-requires-clause-few_propagated
-propagate_piece-requires-clause-few_propagated c =
-    omega (arith, ap length (c.skip_steps.ensures.left c.if-not-skip_steps.false), length-drop c.args.change.now.new c.loop-gap.cursor.left, c.loop-gap.invariant.counted, c.requires.few_propagated)
+pub propagate_piece-requires-clause-may : goal.propagate_piece-requires-clause-may
+propagate_piece-requires-clause-may c =
+    let inv = c.loop-gap.invariant in
+    let n = length c.args.propagation.now.letters in
+    let size = c.multiply.ensures.length ∙ inv.size in
+    let skipped = c.skip_steps.ensures.left c.if-not-skip_steps.false in
+    record {
+      same_length = c.requires.may.same_length ∙ sym size;
+      fits = subst (λ m. All (StepFits m) c.skip_steps.new.cursor.left) (sym size) (subst (All (StepFits n)) (sym skipped) (All-drop (StepFits n) c.args.change.now.new c.loop-gap.cursor.left inv.fits));
+      placed = subst (IsPlaced c.args.free.now) (sym c.multiply.ensures.value) inv.placed;
+      few = omega (arith, ap length skipped, length-drop c.args.change.now.new c.loop-gap.cursor.left, ap (λ (w : PropagationState). w.coin) c.multiply.ensures.value, inv.coin, c.requires.may.few);
+      few_passed = omega (arith, ap length skipped, length-drop c.args.change.now.new c.loop-gap.cursor.left, inv.counted, c.requires.may.few_passed);
+    }
 
 pub returns-in_err-propagate_piece-clause-most : goal.returns-in_err-propagate_piece-clause-most
 returns-in_err-propagate_piece-clause-most c =
@@ -71,7 +81,7 @@ pub loop-gap-preserved : goal.loop-gap-preserved
 loop-gap-preserved c =
     let inv = c.loop-gap.invariant in
     let piece = c.in_ok-propagate_piece.ensures in
-    let went = c.if-not-branch.false in
+    let gave = piece.passed c.if-not-branch.false in
     let n = length c.args.propagation.now.letters in
     let skipped = c.skip_steps.ensures.left c.if-not-skip_steps.false in
     let some = c.checkpoints_until-here.ensures.value in
@@ -79,24 +89,24 @@ loop-gap-preserved c =
     record {
       all = piece.all ∙ all c;
       fits =
-          subst (All (StepFits n)) (sym (piece.left went ∙ ap (drop (gap c)) skipped))
+          subst (All (StepFits n)) (sym (gave.left_is ∙ ap (drop (gap c)) skipped))
           (All-drop (StepFits n) (gap c) (drop c.args.change.now.new c.loop-gap.cursor.left) (All-drop (StepFits n) c.args.change.now.new c.loop-gap.cursor.left inv.fits));
       size = piece.length ∙ size c;
       placed = piece.placed;
       coin =
           omega (
             arith,
-            piece.coin went,
+            gave.coin,
             ap (λ (w : PropagationState). w.coin) c.multiply.ensures.value,
             ap length skipped,
             length-drop c.args.change.now.new c.loop-gap.cursor.left,
             inv.coin,
           );
-      counted = omega (arith, piece.counted went, ap length skipped, length-drop c.args.change.now.new c.loop-gap.cursor.left, inv.counted);
+      counted = omega (arith, gave.counted, ap length skipped, length-drop c.args.change.now.new c.loop-gap.cursor.left, inv.counted);
       within =
           omega (
             arith,
-            piece.count went,
+            gave.count,
             ap length some.1,
             length-take some.0 (drop c.len.result checkpoints),
             length-drop c.len.result checkpoints,
@@ -107,15 +117,15 @@ loop-gap-preserved c =
       under_way = λ coins xs base front s first b.
           under-way-next b.differ c.loop-gap.gap-index (gap c) (there c) (gap-is c) (inv.under_way coins xs base front s first b)
           c.saturating_add-old.result c.saturating_add-new.result (omega (arith, c.saturating_add-old.ensures)) (omega (arith, c.saturating_add-new.ensures))
-          c.saturating_add-old-in-loop-gap.result c.saturating_add-new-in-loop-gap.result c.skip_steps.new.cursor.left c.propagate_piece.new.cursor.left c.propagate_piece.new.propagation skipped (piece.left went)
+          c.saturating_add-old-in-loop-gap.result c.saturating_add-new-in-loop-gap.result c.skip_steps.new.cursor.left c.propagate_piece.new.cursor.left c.propagate_piece.new.propagation skipped gave.left_is
           (omega (arith, c.saturating_add-old-in-loop-gap.ensures)) (omega (arith, c.saturating_add-new-in-loop-gap.ensures))
           (subst (λ x. x)
           (λ i. IsFrameBetween (size c i) coins xs (all c i) (pivot_at c.args.strings.now.strings c.args.free.now) c.args.free.now base front
           (c.saturating_add-old.result + gap c) (c.saturating_add-new.result + gap c) c.propagate_piece.new.propagation)
-          (piece.between went coins xs base front (before c coins xs base front s first b)));
+          (gave.between coins xs base front (before c coins xs base front s first b)));
       are_checkpoints = λ coins xs base front s first b are.
           subst (λ x. x) (λ i. All (IsCheckpoint (size c i) coins (all c i)) c.propagate_piece.new.passed.items)
-          (piece.checkpoints went coins xs base front (before c coins xs base front s first b)
+          (gave.are_checkpoints coins xs base front (before c coins xs base front s first b)
           (subst (λ k. All (IsCheckpoint k coins xs) c.checkpoints_until-here.result.now) (sym (size c))
           (subst (All (IsCheckpoint n coins xs)) (sym some.1)
           (All-take (IsCheckpoint n coins xs) some.0 (drop c.len.result checkpoints) (All-drop (IsCheckpoint n coins xs) c.len.result checkpoints are))))

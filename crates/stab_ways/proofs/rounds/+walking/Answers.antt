@@ -1,5 +1,5 @@
-use Rattle.stab_ways.proofs.Names.{◌≡◌, ◌∙◌, ◌*◌, refl, sym, ap, subst, All, arith, length, append-nil, StepFits, listed, repeat, before, done, nested_in, depth_at, part_of, unroll, rounds, walk_shown}
-use Rattle.stab_ways.proofs.ItemLemmas.{block-steps, item-fits, item-steps, steps-within, tick-none, walked-item, walked-round, no-rounds, round-fits, round-steps, times-more}
+use Rattle.stab_ways.proofs.Names.{◌≡◌, ◌∙◌, ◌*◌, inr, refl, sym, ap, subst, All, arith, length, append-nil, StepFits, listed, repeat, before, done, nested_in, depth_at, part_of, unroll, rounds, walk_shown}
+use Rattle.stab_ways.proofs.ItemLemmas.{block-steps, item-fits, item-steps, steps-within, walked-item, walked-round, body-steps, first-round, round-fits, round-steps, times-more}
 use Rattle.stab_ways.proofs.rounds.+walking.Goals as goal
 
 pub over_item-over_rounds-requires : goal.over_item-over_rounds-requires
@@ -16,11 +16,6 @@ over_item-over_rounds-requires t c =
         ),
       ),
     )
-
-pub over_item-returns-in-Tick-clause-over : goal.over_item-returns-in-Tick-clause-over
-over_item-returns-in-Tick-clause-over t c =
-    tick-none c.args.item.now _ (length c.args.string.now.letters) c.args.string.now.letters (walk_shown c.args.walk.now) (c.part.ensures.value ∙ ap part_of c.in-Tick.is) refl
-    c.requires.walks.size
 
 pub over_items-over_item-requires : goal.over_items-over_item-requires
 over_items-over_item-requires t c =
@@ -71,12 +66,18 @@ over_rounds-over_items-requires t c =
 
 pub over_rounds-returns-then-walk-steps-clause-over : goal.over_rounds-returns-then-walk-steps-clause-over
 over_rounds-returns-then-walk-steps-clause-over t c =
-    no-rounds (length c.args.string.now.letters) c.rounds.counter c.args.count c.args.string.now.letters (listed c.args.body.now) (walk_shown c.args.walk.now) (walk_shown c.rounds.walk)
-    (walk_shown c.over_items.new.walk) c.rounds.invariant.over c.in_ok-over_items.ensures.over (omega (arith, c.if-walk-steps.true)) c.requires.walks.size
+    first-round (length c.args.string.now.letters) c.rounds.counter c.args.count (length (unroll (listed c.args.body.now))) c.args.string.now.letters (listed c.args.body.now)
+    (walk_shown c.args.walk.now) (walk_shown c.rounds.walk) (walk_shown c.over_items.new.walk) c.rounds.invariant.some c.rounds-test.true refl c.rounds.invariant.over
+    c.in_ok-over_items.ensures.over (omega (arith, c.if-walk-steps.true))
 
 pub over_rounds-rounds-preserved : goal.over_rounds-rounds-preserved
 over_rounds-rounds-preserved t c = record {
   walks = c.in_ok-over_items.ensures.walks;
   over = walked-round (length c.args.string.now.letters) c.rounds.counter c.args.string.now.letters (listed c.args.body.now) (walk_shown c.args.walk.now) (walk_shown c.rounds.walk)
       (walk_shown c.over_items.new.walk) c.rounds.invariant.over c.in_ok-over_items.ensures.over;
+  some = inr (omega (
+    arith,
+    c.if-walk-steps.false,
+    body-steps (length c.args.string.now.letters) c.args.string.now.letters (listed c.args.body.now) (walk_shown c.rounds.walk) (walk_shown c.over_items.new.walk) c.in_ok-over_items.ensures.over,
+  ));
 }

@@ -1,4 +1,4 @@
-use Rattle.stab_ways.proofs.Names.{◌≡◌, ◌+◌, ◌*◌, take, length, listed, depth, nested_in, parts_of, part_rounds, walked, walk_shown, IsWalk}
+use Rattle.stab_ways.proofs.Names.{◌≡◌, ◌+◌, ◌*◌, ◌<◌, ◌⊎◌, take, length, listed, depth, nested_in, unroll, parts_of, part_rounds, walked, walk_shown, IsWalk}
 use Rattle.stab_ways.proofs.rounds.+walking.Given as goal
 
 abbrev pub decreases-over_item : goal.decreases-over_item
@@ -20,4 +20,5 @@ abbrev pub invariant-over_rounds-rounds : goal.invariant-over_rounds-rounds
 invariant-over_rounds-rounds l = record {
   walks : IsWalk (length l.string.letters) l.walk;
   over : walk_shown l.walk ≡ walked (length l.string.letters) l.string.letters (part_rounds l.counter (parts_of (listed l.body))) (walk_shown l.initial.walk);
+  some : (l.counter ≡ 0) ⊎ (0 < length (unroll (listed l.body)));
 }

@@ -1,6 +1,5 @@
-use Rattle.stab_recording.proofs.Names.{ℕ, ◌≤◌, refl, ap, length, Option, Some, None, arith, IfSome, IsOnWay, spacing_of}
+use Rattle.stab_recording.proofs.Names.{ℕ, ◌≤◌, refl, Option, Some, None, arith, IfSome, IsOnWay}
 use Rattle.stab_recording.proofs.FollowedLemmas.{few-steps}
-use Rattle.stab_recording.proofs.SavedLemmas.{saved-advanced}
 use Rattle.stab_recording.proofs.ReplayLemmas.{place-following, on-stop}
 use Rattle.stab_recording.proofs.MovedLemmas.{ascending-from, way-past}
 use Rattle.stab_recording.proofs.replay.Replay.advance.Given.{Over}
@@ -23,6 +22,9 @@ no-further : (place : Option ℕ) (a b : ℕ) → a ≤ b → IfSome place (λ q
 no-further None a b le before = tt
 no-further (Some q) a b le before = omega (arith, le, before)
 
+pub run_past-requires-clause-runnable : goal.run_past-requires-clause-runnable
+run_past-requires-clause-runnable g c = record { fits = c.requires.planned.fits; few = few-steps c.requires.planned }
+
 pub stops-stops-requires-clause-following : goal.stops-stops-requires-clause-following
 stops-stops-requires-clause-following g c =
     place-following c.args.plan c.args.self.now.step c.skip_differing-next.result c.args.old.now.checkpoints.now c.place-place.result c.place-place.ensures.value
@@ -36,11 +38,6 @@ returns-clause-way g c = λ begin way.
     on-stop c.args.self.now.tableau.qubits (g.C.Coins.sequence c.args.coins.now) begin c.args.plan c.args.self.now.cursor.all c.args.old.now.checkpoints.now c.args.old.now.outputs.now.records.items (g.C.Coins.sequence c.args.coins.now)
     c.skip_differing-next.result c.run_past.new.self.step c.place-place.result c.args.self.now c.run_past.new.self
     (past g ((goal.at.returns-clause-way g c).After-skip_differing-next) begin way)
-    refl done.at_step done.saved done.records (let counted = done.counted in let by_frame = done.by_frame in omega (arith, counted, by_frame)) refl c.run_past.ensures.order
+    refl done.carried_out.at_step done.carried_out.saved done.carried_out.records done.costs.counted refl c.run_past.ensures.further.step
     (let within = stops.within in omega (arith, within, most)) (let near = stops.near in omega (arith, near, most)) c.place-place.ensures.value
     (no-further c.place-place.result c.run_past.new.self.step c.stops-stops.result.most most stops.before)
-
-pub returns-clause-few_saved : goal.returns-clause-few_saved
-returns-clause-few_saved g c =
-    saved-advanced (spacing_of c.args.plan.stride) (length c.args.self.now.saved.items) c.args.next (length c.args.self.now.saved.items) c.skip_differing-next.result (length c.run_past.new.self.saved.items)
-    (omega (arith, c.skip_differing-next.ensures.order)) (ap length c.run_past.ensures.saved)

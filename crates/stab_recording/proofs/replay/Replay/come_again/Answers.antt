@@ -2,6 +2,7 @@ use Rattle.stab_recording.proofs.Names.{◌≡◌, ◌+◌, ◌*◌, ◌≤◌, 
 use Rattle.std.proofs.Common.{IfSome}
 use Rattle.stab_recording.proofs.FollowedLemmas.{few-steps}
 use Rattle.stab_recording.proofs.FoldedReplayLemmas.{place-known}
+use Rattle.stab_recording.proofs.ProgressLemmas.{further-none, costs-none}
 use Rattle.stab_recording.proofs.replay.Replay.come_again.Given.{Over}
 use Rattle.stab_recording.proofs.replay.Replay.come_again.Goals as goal
 use Rattle.stab_recording.proofs.replay.Replay.come_again.Goals.{After-end_in-end}
@@ -45,3 +46,9 @@ fold-requires-clause-may g c =
 pub returns-clause-way : goal.returns-clause-way
 returns-clause-way g c = λ begin checkpoints old next way place.
     (c.in_ok-fold.ensures {u = tt}).way begin c.args.plan checkpoints old next (may g ((goal.at.returns-clause-way g c).After-end_in-end) begin checkpoints old next way place)
+
+pub returns-in_default-clause-further : goal.returns-in_default-clause-further
+returns-in_default-clause-further g c = further-none _ _
+
+pub returns-in_default-clause-costs : goal.returns-in_default-clause-costs
+returns-in_default-clause-costs g c = costs-none _ _

@@ -1,6 +1,7 @@
 use Rattle.stab_recording.proofs.Names.{◌≡◌, ℕ, ◌∙◌, sym, ap, subst, Bool, false, List, length, drop, arith, Checkpoint, Plan, Replay, IsFound, MayRecur, IsFolding, IsOnWay, with_state, with_cursor}
 use Rattle.std.proofs.Common.{IfSome}
 use Rattle.stab_recording.proofs.FoldedReplayLemmas.{own-checkpoints, folding-begins}
+use Rattle.stab_recording.proofs.ProgressLemmas.{further-named, costs-named}
 use Rattle.stab_recording.proofs.PropagatedWayLemmas.{cursor-set}
 use Rattle.stab_recording.proofs.replay.Replay.fold.Given.{Over}
 use Rattle.stab_recording.proofs.replay.Replay.fold.Goals as goal
@@ -50,19 +51,28 @@ qubits g c = ap (λ (r : Replay). r.tableau.qubits) (state g c) ∙ (arrived g c
 pub at-requires-clause-in_range : goal.at-requires-clause-in_range
 at-requires-clause-in_range g c =
     let within = (arrived g c).stop.replay.at_step.within in
-    omega (arith, ap (λ (r : Replay). r.step) (state g c), within, ap (λ xs. length xs) c.requires.same_circuit)
+    omega (arith, ap (λ (r : Replay). r.step) (state g c), within, ap (λ xs. length xs) c.requires.circuit.steps)
 
-pub returns-in_err-self-clause-qubits : goal.returns-in_err-self-clause-qubits
-returns-in_err-self-clause-qubits g c = qubits g ((goal.at.returns-in_err-self-clause-qubits g c).In_ok-catch_up)
+pub returns-in_err-self-clause-further : goal.returns-in_err-self-clause-further
+returns-in_err-self-clause-further g c =
+    let at = (goal.at.returns-in_err-self-clause-further g c).In_ok-catch_up in
+    further-named _ _ _ _ _ c.give_on.ensures.further ((λ i. (state g at i).cursor.all) ∙ c.give_on.ensures.further.all) (qubits g at) (λ i. (state g at i).step) (λ i. (state g at i).pivots)
 
-pub returns-clause-qubits : goal.returns-clause-qubits
-returns-clause-qubits g c = qubits g ((goal.at.returns-clause-qubits g c).In_ok-catch_up)
+pub returns-clause-further : goal.returns-clause-further
+returns-clause-further g c =
+    let at = (goal.at.returns-clause-further g c).In_ok-catch_up in
+    further-named _ _ _ _ _ c.give_on.ensures.further (c.in_ok-self.ensures.all ∙ c.requires.circuit.steps) (qubits g at) (λ i. (state g at i).step) (λ i. (state g at i).pivots)
+
+pub returns-clause-costs : goal.returns-clause-costs
+returns-clause-costs g c =
+    let at = (goal.at.returns-clause-costs g c).In_ok-catch_up in
+    costs-named _ _ _ _ _ (c.in_ok-passed.ensures {u = tt}).costs (λ i. (state g at i).step) (λ i. (state g at i).applied) (λ i. (state g at i).by_frame) (λ i. (state g at i).outputs)
 
 pub returns-clause-way : goal.returns-clause-way
 returns-clause-way g c = λ begin p checkpoints old next may.
     let at = (goal.at.returns-clause-way g c).In_ok-catch_up in
     let steps = c.args.self.now.cursor.all in
-    let same = c.requires.same_circuit in
+    let same = c.requires.circuit.steps in
     let cursor = c.in_ok-self.field-0 in
     subst (IsOnWay c.args.self.now.tableau.qubits (g.C.Coins.sequence c.args.coins.now) begin p steps checkpoints old next)
     (cursor-set steps (with_state c.in_ok-passed.passed c.give_on.new.self) cursor (c.in_ok-self.ensures.all ∙ same)

@@ -1,5 +1,7 @@
 use Rattle.stab_recording.proofs.Names.{◌≡◌, ℕ, ◌+◌, ◌-◌, ◌≤◌, [], ◌∷◌, ◌++◌, refl, sym, ◌∙◌, ap, subst, All, IsSomeAnd, length, take, drop, arith, slice_get_read, ones, RunOutput, joined, all_coins_of, StepFits, output_of, ones-append, flipped_output, pivot_at, IsPlaced, coins_from, PropagatesToOthers, ones-within, flipped-empty, Checkpoint, stabilises, IsConjugated, coins-few, Replay, flips_after, HasPropagated, HasStringsAgain}
 use Rattle.std.proofs.Common.{IfSome}
+use Rattle.stab_recording.specs.inner.Progress.{IsFurther}
+use Rattle.stab_recording.proofs.ProgressLemmas.{further-none, costs-none}
 use Rattle.stab_recording.proofs.ReplayLemmas.{coins-cut}
 use Rattle.stab_recording.proofs.FoldedReplayLemmas.{kept-before, ones-given}
 use Rattle.stab_recording.proofs.replay.Replay.frame_once.Given.{Over}
@@ -70,71 +72,89 @@ propagate_with_coins-requires-clause-kept g c =
     (length c.args.self.now.pivots.strings.strings) free k.placed c.requires.may.last
     (subst (λ i. c.args.propagation.number + ones (drop i (take c.args.segment.to.free free)) ≤ length c.args.self.now.pivots.strings.strings) (sym k.coin) (kept g at)))
 
--- no more coins are asked for than the steps that it went past take
-asked-for : (g : Over) (c : In-Some g) (before after : ℕ) → after ≤ before + all_coins_of (take c.args.segment.steps c.args.self.now.cursor.left)
-    → after + all_coins_of (drop (c.args.self.now.step + c.args.segment.steps) c.args.self.now.cursor.all) ≤ before + all_coins_of (drop c.args.self.now.step c.args.self.now.cursor.all)
-asked-for g c before after le =
-    let cut = coins-cut c.args.self.now.step (c.args.self.now.step + c.args.segment.steps) c.args.self.now.cursor.all c.args.self.now.cursor.left (omega arith) c.requires.may.left in
-    omega (
-      arith,
-      le,
-      cut,
-      ap (λ k. all_coins_of (take k c.args.self.now.cursor.left)) {x = (c.args.self.now.step + c.args.segment.steps) - c.args.self.now.step} {y = c.args.segment.steps} (omega arith),
-    )
+-- it went further by the steps of the segment, and asked for no more coins than they use up
+gone : (g : Over) (c : In-Some g) (before after : ℕ) (new : Replay) → after ≤ before + all_coins_of (take c.args.segment.steps c.args.self.now.cursor.left)
+    → new.cursor.all ≡ c.args.self.now.cursor.all → new.tableau ≡ c.args.self.now.tableau → new.step ≡ c.args.self.now.step + c.args.segment.steps
+    → new.pivots.window ≡ c.args.self.now.pivots.window → c.args.self.now.pivots.strings.most ≤ new.pivots.strings.most → IsFurther before after c.args.self.now new
+gone g c before after new le all tableau step window most =
+    let old = c.args.self.now in
+    let cut = coins-cut old.step (old.step + c.args.segment.steps) old.cursor.all old.cursor.left (omega arith) c.requires.may.left in
+    record {
+      all = all;
+      qubits = λ i. (tableau i).qubits;
+      step = omega (arith, step);
+      window = omega (arith, window);
+      most = most;
+      asked =
+          omega (
+            arith,
+            le,
+            cut,
+            ap (λ k. all_coins_of (take k old.cursor.left)) {x = (old.step + c.args.segment.steps) - old.step} {y = c.args.segment.steps} (omega arith),
+            ap (λ k. all_coins_of (drop k old.cursor.all)) step,
+          );
+    }
 
-pub returns-in_err-propagate_with_coins-clause-asked : goal.returns-in_err-propagate_with_coins-clause-asked
-returns-in_err-propagate_with_coins-clause-asked g c =
-    asked-for g ((goal.at.returns-in_err-propagate_with_coins-clause-asked g c).In-Some) _ _ c.propagate_with_coins.ensures.asks
+pub returns-in_default-clause-further : goal.returns-in_default-clause-further
+returns-in_default-clause-further g c = further-none _ _
 
-pub returns-in_err-tableau-clause-asked : goal.returns-in_err-tableau-clause-asked
-returns-in_err-tableau-clause-asked g c = asked-for g ((goal.at.returns-in_err-tableau-clause-asked g c).In-Some) _ _ c.propagate_with_coins.ensures.asks
+pub returns-in_default-clause-costs : goal.returns-in_default-clause-costs
+returns-in_default-clause-costs g c = costs-none _ _
 
-pub returns-in_err-part-clause-asked : goal.returns-in_err-part-clause-asked
-returns-in_err-part-clause-asked g c = asked-for g ((goal.at.returns-in_err-part-clause-asked g c).In-Some) _ _ c.propagate_with_coins.ensures.asks
+pub returns-in_err-propagate_with_coins-clause-further : goal.returns-in_err-propagate_with_coins-clause-further
+returns-in_err-propagate_with_coins-clause-further g c =
+    gone g ((goal.at.returns-in_err-propagate_with_coins-clause-further g c).In-Some) _ _ _ c.propagate_with_coins.ensures.asks c.propagate_with_coins.ensures.all refl refl refl (omega arith)
 
-pub returns-in_err-append_propagated-clause-asked : goal.returns-in_err-append_propagated-clause-asked
-returns-in_err-append_propagated-clause-asked g c = asked-for g ((goal.at.returns-in_err-append_propagated-clause-asked g c).In-Some) _ _ c.propagate_with_coins.ensures.asks
+pub returns-in_err-tableau-clause-further : goal.returns-in_err-tableau-clause-further
+returns-in_err-tableau-clause-further g c =
+    gone g ((goal.at.returns-in_err-tableau-clause-further g c).In-Some) _ _ _ c.propagate_with_coins.ensures.asks c.propagate_with_coins.ensures.all refl refl refl (omega arith)
 
-pub returns-in_err-repeat_pivots-clause-asked : goal.returns-in_err-repeat_pivots-clause-asked
-returns-in_err-repeat_pivots-clause-asked g c = asked-for g ((goal.at.returns-in_err-repeat_pivots-clause-asked g c).In-Some) _ _ c.propagate_with_coins.ensures.asks
+pub returns-in_err-part-clause-further : goal.returns-in_err-part-clause-further
+returns-in_err-part-clause-further g c =
+    gone g ((goal.at.returns-in_err-part-clause-further g c).In-Some) _ _ _ c.propagate_with_coins.ensures.asks c.propagate_with_coins.ensures.all refl refl refl (omega arith)
 
-pub returns-in_err-push-clause-asked : goal.returns-in_err-push-clause-asked
-returns-in_err-push-clause-asked g c = asked-for g ((goal.at.returns-in_err-push-clause-asked g c).In-Some) _ _ c.propagate_with_coins.ensures.asks
+pub returns-in_err-append_propagated-clause-further : goal.returns-in_err-append_propagated-clause-further
+returns-in_err-append_propagated-clause-further g c =
+    gone g ((goal.at.returns-in_err-append_propagated-clause-further g c).In-Some) _ _ _ c.propagate_with_coins.ensures.asks c.propagate_with_coins.ensures.all refl refl refl (omega arith)
 
-pub returns-clause-asked : goal.returns-clause-asked
-returns-clause-asked g c = asked-for g ((goal.at.returns-clause-asked g c).In-Some) _ _ c.propagate_with_coins.ensures.asks
+pub returns-in_err-repeat_pivots-clause-further : goal.returns-in_err-repeat_pivots-clause-further
+returns-in_err-repeat_pivots-clause-further g c =
+    gone g ((goal.at.returns-in_err-repeat_pivots-clause-further g c).In-Some) _ _ _ c.propagate_with_coins.ensures.asks c.propagate_with_coins.ensures.all refl refl refl c.repeat_pivots.ensures.most
 
-pub returns-clause-asks : goal.returns-clause-asks
-returns-clause-asks g c =
-    let count = all_coins_of (take c.args.segment.steps c.args.self.now.cursor.left) in
-    let asked = (c.in_ok-propagate_with_coins.ensures {u = tt}).asks_free in
-    omega (
-      arith,
-      asked,
-      ap (λ bits. ones (take count (drop c.args.propagation.coin bits))) c.as_slice.ensures.value,
-      coins g ((goal.at.returns-clause-asks g c).In-Some),
-    )
+pub returns-in_err-push-clause-further : goal.returns-in_err-push-clause-further
+returns-in_err-push-clause-further g c =
+    gone g ((goal.at.returns-in_err-push-clause-further g c).In-Some) _ _ _ c.propagate_with_coins.ensures.asks c.propagate_with_coins.ensures.all refl refl refl c.repeat_pivots.ensures.most
 
-pub returns-clause-asks_free : goal.returns-clause-asks_free
-returns-clause-asks_free g c =
-    let at = (goal.at.returns-clause-asks_free g c).In-Some in
+pub returns-clause-further : goal.returns-clause-further
+returns-clause-further g c =
+    gone g ((goal.at.returns-clause-further g c).In-Some) _ _ _ c.propagate_with_coins.ensures.asks c.propagate_with_coins.ensures.all refl refl refl c.repeat_pivots.ensures.most
+
+pub returns-clause-costs : goal.returns-clause-costs
+returns-clause-costs g c =
+    let at = (goal.at.returns-clause-costs g c).In-Some in
     let free = c.args.self.now.outputs.free.items in
     let from = c.args.segment.from.free in
     let to = c.args.segment.to.free in
     let count = all_coins_of (take c.args.segment.steps c.args.self.now.cursor.left) in
     let asked = (c.in_ok-propagate_with_coins.ensures {u = tt}).asks_free in
+    let flags = ap (λ bits. ones (take count (drop c.args.propagation.coin bits))) c.as_slice.ensures.value in
     let given = ap (λ (o : RunOutput). ones o.free) ((c.in_ok-append_propagated.ensures {u = tt}).value ∙ ap (λ o. joined (output_of c.args.self.now.outputs) (flipped_output o (flips_after c.lengths_propagated-gone.result c.propagate_with_coins.new.propagation))) (c.in_ok-part.ensures {u = tt}).value) in
-    omega (
-      arith,
-      asked,
-      given,
-      ap (λ bits. ones (take count (drop c.args.propagation.coin bits))) c.as_slice.ensures.value,
-      ones-given c.args.propagation.coin count to free c.requires.may.last,
-      ap (λ i. ones (drop i (take to free))) c.requires.may.coin,
-      ap ones (flipped-empty (drop from (take to free))),
-      ones-append free (drop from (take to free)),
-      ap (λ bits. ones (free ++ bits)) (flipped-empty (drop from (take to free))),
-    )
+    record {
+      counted = omega (arith, few g at);
+      asks = omega (arith, asked, flags, coins g at);
+      asks_free =
+          omega (
+            arith,
+            asked,
+            given,
+            flags,
+            ones-given c.args.propagation.coin count to free c.requires.may.last,
+            ap (λ i. ones (drop i (take to free))) c.requires.may.coin,
+            ap ones (flipped-empty (drop from (take to free))),
+            ones-append free (drop from (take to free)),
+            ap (λ bits. ones (free ++ bits)) (flipped-empty (drop from (take to free))),
+          );
+    }
 
 pub returns-clause-by_frame : goal.returns-clause-by_frame
 returns-clause-by_frame g c =

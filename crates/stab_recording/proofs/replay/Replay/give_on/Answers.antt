@@ -1,6 +1,7 @@
-use Rattle.stab_recording.proofs.Names.{◌≡◌, ℕ, ◌+◌, ◌<◌, ◌≤◌, ◌∙◌, sym, ap, subst, Bool, true, List, Option, Some, length, drop, arith, Repeat, Checkpoint, Recurrence, Plan, all_coins_of, Replay, IsOnWay, with_folded, IsFolding, with_state, with_cursor}
+use Rattle.stab_recording.proofs.Names.{◌≡◌, ℕ, ◌+◌, ◌<◌, ◌≤◌, ◌∙◌, sym, ap, subst, Bool, true, List, Option, Some, length, Repeat, Checkpoint, Recurrence, Plan, Replay, IsOnWay, with_folded, IsFolding, with_state, with_cursor}
 use Rattle.std.proofs.Common.{IfSome}
 use Rattle.stab_recording.proofs.FoldedReplayLemmas.{folding-named}
+use Rattle.stab_recording.proofs.ProgressLemmas.{further-on, costs-on}
 use Rattle.stab_recording.proofs.replay.Replay.give_on.Goals as goal
 
 pub give_once-requires-clause-folding : goal.give_once-requires-clause-folding
@@ -14,7 +15,7 @@ give_once-requires-clause-folding g c =
       t.4,
       t.5,
       c.giving.passed,
-      folding-named t.0 t.1 t.2 t.3 t.4 t.5 c.args.end c.giving.passed c.giving.self c.giving.found (sym (ap (λ (r : Replay). r.tableau.qubits) inv.rest)) (sym inv.same_coins) (sym inv.all)
+      folding-named t.0 t.1 t.2 t.3 t.4 t.5 c.args.end c.giving.passed c.giving.self c.giving.found (sym (ap (λ (r : Replay). r.tableau.qubits) inv.rest)) (sym inv.same_coins) (sym inv.further.all)
           (inv.way t.0 t.1 t.2 t.3 t.4 t.5 t.6),
     )
 
@@ -36,28 +37,18 @@ giving-preserved g c =
     let later = c.in-Some.later in
     let done = c.give_once.ensures in
     let gave = c.in_ok-later.ensures {u = tt} in
-    let gone = gave.gone in
-    let before = inv.gone in
     let qubits : old.tableau.qubits ≡ c.args.self.now.tableau.qubits = ap (λ (r : Replay). r.tableau.qubits) inv.rest in
     record {
-      in_range = (some-one (λ (e : Recurrence). (old.step < new.step) × (new.step ≤ c.args.end) × (e.number + 1 < length new.saved.items)) _ later c.in-Some.is gave.further).2;
+      in_range = (some-one (λ (e : Recurrence). (old.step < new.step) × (new.step ≤ c.args.end) × (e.number + 1 < length new.saved.items)) _ later c.in-Some.is gave.given).2;
       rest = done.rest ∙ ap (λ r. with_folded r new) inv.rest;
-      all = done.all ∙ inv.all;
+      further = further-on _ _ _ _ _ _ inv.further done.further;
       same_coins = done.same_coins ∙ inv.same_coins;
-      asked = omega (arith, inv.asked, done.asked, ap (λ xs. all_coins_of (drop new.step xs)) inv.all, ap (λ xs. all_coins_of (drop old.step xs)) inv.all);
-      most = omega (arith, inv.most, done.most);
-      gone = record {
-        asks = omega (arith, before.asks, gone.asks);
-        asks_free = omega (arith, before.asks_free, gone.asks_free);
-        counted = omega (arith, before.counted, gone.counted);
-        further = omega (arith, before.further, gone.further);
-        few_saved = omega (arith, before.few_saved, gone.few_saved);
-      };
+      costs = costs-on _ _ _ _ _ _ inv.costs gave.costs;
       way = λ begin p checkpoints kept next block folding.
-          folding-named begin p checkpoints kept next block c.args.end true new later qubits inv.same_coins inv.all
+          folding-named begin p checkpoints kept next block c.args.end true new later qubits inv.same_coins inv.further.all
           (some-one (λ (e : Recurrence). (begin : ℕ) (p : Plan) (checkpoints : List Checkpoint) (old : List Bool) (next : ℕ) (block : Repeat) (passed : Bool)
           → IsFolding c.giving.self.tableau.qubits (g.C.Coins.sequence c.giving.coins) begin p c.giving.self.cursor.all checkpoints old next block c.args.end passed c.giving.self c.giving.found
           → IsFolding c.giving.self.tableau.qubits (g.C.Coins.sequence c.giving.coins) begin p c.giving.self.cursor.all checkpoints old next block c.args.end true new e) _ later c.in-Some.is gave.way
           begin p checkpoints kept next block c.giving.passed
-          (folding-named begin p checkpoints kept next block c.args.end c.giving.passed old c.giving.found (sym qubits) (sym inv.same_coins) (sym inv.all) (inv.way begin p checkpoints kept next block folding)));
+          (folding-named begin p checkpoints kept next block c.args.end c.giving.passed old c.giving.found (sym qubits) (sym inv.same_coins) (sym inv.further.all) (inv.way begin p checkpoints kept next block folding)));
     }

@@ -1,4 +1,4 @@
-use Rattle.stab_recording.proofs.Names.{◌≡◌, ◌+◌, refl, sym, ◌∙◌, ap, subst, All, Some, slice_get, length, length-drop, take, drop, arith, all_coins_of, IsMissing, ◌-◌, ◌≤◌, All-drop, slice_get_read, slice_get_within, StepFits, output_of, Checkpoint, AreInOrder, IsRestFrame, BeginsAt}
+use Rattle.stab_recording.proofs.Names.{IsPlaced, ◌≡◌, ◌+◌, refl, sym, ◌∙◌, ap, subst, All, Some, slice_get, length, length-drop, take, drop, arith, all_coins_of, IsMissing, ◌-◌, ◌≤◌, All-drop, slice_get_read, slice_get_within, StepFits, output_of, Checkpoint, AreInOrder, IsRestFrame, BeginsAt}
 use Rattle.stab_recording.proofs.PropagatedWayLemmas.{some-of}
 use Rattle.stab_recording.proofs.FollowedLemmas.{few-steps}
 use Rattle.stab_recording.proofs.OldRunLemmas.{order-following, coins-following, place-is, advanced-by_frame}
@@ -19,22 +19,22 @@ read c d here =
     let same : Some d ≡ Some c.index-old-number.result = sym here ∙ also in
     cc
 
-pub propagate_rest-requires-clause-fits : goal.propagate_rest-requires-clause-fits
-propagate_rest-requires-clause-fits c =
-    let at = goal.at.propagate_rest-requires-clause-fits c in
-    subst (λ n. All (StepFits n) c.in_ok-cursor.cursor.left) (sym (begins at.In_ok-cursor).2.frame.size)
-    (subst (All (StepFits c.args.self.now.tableau.qubits)) (sym (left at.In_ok-cursor)) (All-drop (StepFits c.args.self.now.tableau.qubits) c.args.self.now.step c.args.self.now.cursor.all c.requires.planned.fits))
-
-pub propagate_rest-requires-clause-few : goal.propagate_rest-requires-clause-few
-propagate_rest-requires-clause-few c =
-    let at = goal.at.propagate_rest-requires-clause-few c in
+pub propagate_rest-requires-clause-may : goal.propagate_rest-requires-clause-may
+propagate_rest-requires-clause-may c =
+    let at = goal.at.propagate_rest-requires-clause-may c in
     let b = begins at.In_ok-cursor in
-    omega (arith, coins-following c.requires.old.1 c.args.number b.0 b.1 b.2.following c.args.self.now.step b.2.place (few-steps c.requires.planned), b.2.frame.coin, ap length (left at.In_ok-cursor))
-
-pub propagate_rest-requires-clause-few_propagated : goal.propagate_rest-requires-clause-few_propagated
-propagate_rest-requires-clause-few_propagated c =
-    let at = goal.at.propagate_rest-requires-clause-few_propagated c in
-    omega (arith, ap length (left at.In_ok-cursor), length-drop c.args.self.now.step c.args.self.now.cursor.all, few-steps c.requires.planned)
+    let rest = left at.In_ok-cursor in
+    let n = c.args.self.now.tableau.qubits in
+    let few = few-steps c.requires.planned in
+    record {
+      same_length = c.requires.old.1.has_pivots.size ∙ sym b.2.frame.size;
+      fits =
+          subst (λ m. All (StepFits m) c.in_ok-cursor.cursor.left) (sym b.2.frame.size)
+          (subst (All (StepFits n)) (sym rest) (All-drop (StepFits n) c.args.self.now.step c.args.self.now.cursor.all c.requires.planned.fits));
+      placed = subst (λ bits. IsPlaced bits c.args.propagation) (sym c.as_slice.ensures.value) b.2.frame.placed;
+      few = omega (arith, coins-following c.requires.old.1 c.args.number b.0 b.1 b.2.following c.args.self.now.step b.2.place few, b.2.frame.coin, ap length rest);
+      few_passed = omega (arith, ap length rest, length-drop c.args.self.now.step c.args.self.now.cursor.all, few);
+    }
 
 -- no more steps are past than come after the place
 passed : (c : In_ok-cursor) → length c.in_ok-cursor.cursor.left ≤ length c.args.self.now.cursor.all - c.args.plan.new_end

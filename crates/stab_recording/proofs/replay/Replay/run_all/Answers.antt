@@ -1,5 +1,6 @@
-use Rattle.stab_recording.proofs.Names.{◌≡◌, sym, ◌∙◌, ap, subst, length, drop, All, arith, StepFits, Repeat, IsRepeat, circuit_items, check-steps, check-whole, counted-steps, all_coins_of, IsAtStep}
-use Rattle.stab_recording.proofs.RunLemmas.{own-on, own-named}
+use Rattle.stab_recording.proofs.Names.{◌≡◌, ◌∙◌, ap, subst, length, arith, Repeat, circuit_items, check-steps, check-whole, counted-steps, IsAtStep}
+use Rattle.stab_recording.proofs.ProgressLemmas.{further-on, costs-on}
+use Rattle.stab_recording.proofs.RunLemmas.{may-run-block, own-on, own-named}
 use Rattle.stab_recording.proofs.replay.Replay.run_all.Given.{Over}
 use Rattle.stab_recording.proofs.replay.Replay.run_all.Goals as goal
 use Rattle.stab_recording.proofs.replay.Replay.run_all.Goals.{After-steps}
@@ -10,39 +11,31 @@ none = record { first = 0; length = 0; rounds = 0; window = 0 }
 
 pub taken_together-requires-clause-some : goal.taken_together-requires-clause-some
 taken_together-requires-clause-some g c =
-    (repeat-at 0 c.args.self.now.cursor.all c.args.repeats.now c.loop-repeat.repeat-index none c.loop-repeat-test.true c.requires.repeats).some
+    (repeat-at 0 c.args.self.now.cursor.all c.args.repeats.now c.loop-repeat.repeat-index none c.loop-repeat-test.true c.requires.ready.repeated).some
 
 pub taken_together-requires-clause-few : goal.taken_together-requires-clause-few
 taken_together-requires-clause-few g c =
     let items = circuit_items c.args.circuit.now in
-    let here = repeat-at 0 c.args.self.now.cursor.all c.args.repeats.now c.loop-repeat.repeat-index none c.loop-repeat-test.true c.requires.repeats in
-    omega (arith, here.inside, ap length c.requires.same_circuit, check-steps items (check-whole c.args.self.now.tableau.qubits items c.requires.checked))
+    let here = repeat-at 0 c.args.self.now.cursor.all c.args.repeats.now c.loop-repeat.repeat-index none c.loop-repeat-test.true c.requires.ready.repeated in
+    omega (arith, here.inside, ap length c.requires.ready.steps, check-steps items (check-whole c.args.self.now.tableau.qubits items c.requires.ready.checked))
 
-pub run_block-requires-clause-same_circuit : goal.run_block-requires-clause-same_circuit
-run_block-requires-clause-same_circuit g c = c.requires.same_circuit ∙ sym c.loop-repeat.invariant.all
-
-pub run_block-requires-clause-checked : goal.run_block-requires-clause-checked
-run_block-requires-clause-checked g c = check-whole c.args.self.now.tableau.qubits (circuit_items c.args.circuit.now) c.requires.checked
-
-pub run_block-requires-clause-fits : goal.run_block-requires-clause-fits
-run_block-requires-clause-fits g c =
+pub run_block-requires : goal.run_block-requires
+run_block-requires g c =
     let inv = c.loop-repeat.invariant in
-    subst (λ x. x) (λ i. All (StepFits (sym inv.qubits i)) (sym inv.all i)) c.requires.fits
-
-pub run_block-requires-clause-few : goal.run_block-requires-clause-few
-run_block-requires-clause-few g c =
+    let all = c.requires.ready in
     let items = circuit_items c.args.circuit.now in
-    omega (arith, ap length c.loop-repeat.invariant.all, ap length c.requires.same_circuit, check-steps items (check-whole c.args.self.now.tableau.qubits items c.requires.checked))
-
-pub run_block-requires-clause-repeat : goal.run_block-requires-clause-repeat
-run_block-requires-clause-repeat g c =
-    let here = repeat-at 0 c.args.self.now.cursor.all c.args.repeats.now c.loop-repeat.repeat-index none c.loop-repeat-test.true c.requires.repeats in
-    subst (λ ys. IsRepeat ys c.taken_together.result) (sym c.loop-repeat.invariant.all) (c.taken_together.ensures.repeat c.args.self.now.cursor.all here)
-
-pub run_block-requires-clause-own : goal.run_block-requires-clause-own
-run_block-requires-clause-own g c =
-    let inv = c.loop-repeat.invariant in
-    own-named c.loop-repeat.self (sym inv.qubits) (sym inv.same_coins) (sym inv.all) inv.own
+    let checked = check-whole c.args.self.now.tableau.qubits items all.checked in
+    let here = repeat-at 0 c.args.self.now.cursor.all c.args.repeats.now c.loop-repeat.repeat-index none c.loop-repeat-test.true all.repeated in
+    record {
+      ready =
+          may-run-block items c.taken_together.result c.args.self.now c.loop-repeat.self inv.further.qubits inv.same_coins inv.further.all inv.own
+          (record {
+            has_steps = record { steps = all.steps; checked = checked };
+            runnable = record { fits = all.fits; few = omega (arith, ap length all.steps, check-steps items checked) };
+            is_repeat = c.taken_together.ensures.repeat c.args.self.now.cursor.all here;
+            own = all.own;
+          });
+    }
 
 pub loop-repeat-preserved : goal.loop-repeat-preserved
 loop-repeat-preserved g c =
@@ -50,23 +43,22 @@ loop-repeat-preserved g c =
     let ran = c.run_block.ensures in
     let done = c.in_ok-run_block.ensures {u = tt} in
     record {
-      all = ran.all ∙ inv.all;
-      qubits = ran.qubits ∙ inv.qubits;
+      further = further-on _ _ _ _ _ _ inv.further ran.further;
       same_coins = ran.same_coins ∙ inv.same_coins;
-      asks_free = omega (arith, inv.asks_free, done.asks_free);
-      asked =
-          omega (arith, inv.asked, ran.asked, ap (λ xs. all_coins_of (drop c.run_block.new.self.step xs)) inv.all, ap (λ xs. all_coins_of (drop c.loop-repeat.self.step xs)) inv.all);
-      most = omega (arith, inv.most, done.most);
-      own = own-named c.run_block.new.self inv.qubits inv.same_coins inv.all done.own;
+      costs = costs-on _ _ _ _ _ _ inv.costs done.costs;
+      own = own-named c.run_block.new.self inv.further.qubits inv.same_coins inv.further.all done.own;
     }
+
+pub returns-in_err-run_block-clause-further : goal.returns-in_err-run_block-clause-further
+returns-in_err-run_block-clause-further g c = further-on _ _ _ _ _ _ c.loop-repeat.invariant.further c.run_block.ensures.further
 
 -- at the end
 
 total : (g : Over) (c : After-steps g) → c.steps.result ≡ length c.args.self.now.cursor.all
 total g c =
     c.steps.ensures.value
-    ∙ counted-steps c.args.self.now.tableau.qubits (circuit_items c.args.circuit.now) c.requires.checked
-    ∙ ap length c.requires.same_circuit
+    ∙ counted-steps c.args.self.now.tableau.qubits (circuit_items c.args.circuit.now) c.requires.ready.checked
+    ∙ ap length c.requires.ready.steps
 
 pub run_to-requires-clause-order : goal.run_to-requires-clause-order
 run_to-requires-clause-order g c =
@@ -79,18 +71,24 @@ run_to-requires-clause-few g c =
     let within = inv.own.replay.at_step.within in
     let counted = inv.own.counted in
     let items = circuit_items c.args.circuit.now in
-    omega (arith, within, counted, ap length inv.all, ap length c.requires.same_circuit, check-steps items (check-whole c.args.self.now.tableau.qubits items c.requires.checked))
+    omega (arith, within, counted, ap length inv.further.all, ap length c.requires.ready.steps, check-steps items (check-whole c.args.self.now.tableau.qubits items c.requires.ready.checked))
+
+pub returns-in_err-run_to-clause-further : goal.returns-in_err-run_to-clause-further
+returns-in_err-run_to-clause-further g c = further-on _ _ _ _ _ _ c.loop-repeat.invariant.further c.run_to.ensures.further
+
+pub returns-clause-further : goal.returns-clause-further
+returns-clause-further g c = further-on _ _ _ _ _ _ c.loop-repeat.invariant.further c.run_to.ensures.further
+
+pub returns-clause-costs : goal.returns-clause-costs
+returns-clause-costs g c = costs-on _ _ _ _ _ _ c.loop-repeat.invariant.costs (c.in_ok-run_to.ensures {u = tt}).costs
 
 pub returns-clause-own : goal.returns-clause-own
 returns-clause-own g c =
     let inv = c.loop-repeat.invariant in
-    let ran = c.run_to.ensures in
     let done = c.in_ok-run_to.ensures {u = tt} in
-    let within = inv.own.replay.at_step.within in
     own-on c.args.self.now.tableau.qubits (g.C.Coins.sequence c.args.coins.now) c.args.self.now.cursor.all c.loop-repeat.self c.run_to.new.self inv.own
-    (subst (λ x. x) (λ i. IsAtStep (inv.qubits i) (inv.same_coins i) (inv.all i) c.run_to.new.self) done.at_step) ran.saved
-    (let counted = done.counted in let by_frame = ran.by_frame in let step = ran.step in omega (arith, counted, by_frame, step))
-    (let step = ran.step in omega (arith, step, within, total g ((goal.at.returns-clause-own g c).After-steps)))
+    (subst (λ x. x) (λ i. IsAtStep (inv.further.qubits i) (inv.same_coins i) (inv.further.all i) c.run_to.new.self) done.carried_out.at_step) done.carried_out.saved done.costs.counted
+    c.run_to.ensures.further.step
 
 pub returns-clause-step : goal.returns-clause-step
 returns-clause-step g c = c.run_to.ensures.step ∙ total g ((goal.at.returns-clause-step g c).After-steps)

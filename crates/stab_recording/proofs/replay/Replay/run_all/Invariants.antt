@@ -1,13 +1,12 @@
-use Rattle.stab_recording.proofs.Names.{◌≡◌, ◌+◌, ◌≤◌, drop, ones, all_coins_of, IsOwnRun}
+use Rattle.stab_recording.proofs.Names.{◌≡◌, IsOwnRun}
+use Rattle.stab_recording.specs.FollowedRuns.{Costs}
+use Rattle.stab_recording.specs.inner.Progress.{IsFurther}
 use Rattle.stab_recording.proofs.replay.Replay.run_all.Given as goal
 
 abbrev pub invariant-loop-repeat : goal.invariant-loop-repeat
 invariant-loop-repeat g l = record {
-  all : l.self.cursor.all ≡ l.fn.self.cursor.all;
-  qubits : l.self.tableau.qubits ≡ l.fn.self.tableau.qubits;
+  further : IsFurther (g.C.Coins.asks l.fn.coins) (g.C.Coins.asks l.coins) l.fn.self l.self;
   same_coins : g.C.Coins.sequence l.coins ≡ g.C.Coins.sequence l.fn.coins;
-  asks_free : g.C.Coins.asks l.coins + ones l.fn.self.outputs.free.items ≤ g.C.Coins.asks l.fn.coins + ones l.self.outputs.free.items;
-  asked : g.C.Coins.asks l.coins + all_coins_of (drop l.self.step l.fn.self.cursor.all) ≤ g.C.Coins.asks l.fn.coins + all_coins_of (drop l.fn.self.step l.fn.self.cursor.all);
-  most : l.fn.self.pivots.strings.most ≤ l.self.pivots.strings.most;
+  costs : Costs (g.C.Coins.asks l.fn.coins) (g.C.Coins.asks l.coins) l.fn.self l.self;
   own : IsOwnRun l.fn.self.tableau.qubits (g.C.Coins.sequence l.fn.coins) l.fn.self.cursor.all l.self;
 }

@@ -8,18 +8,18 @@ returns-in-Ok-follow-clause-applied g c =
     let begun = c.in-Ok.ensures {u = tt} in
     let ran = c.in-Ok-follow.ensures {u = tt} in
     let coins = ap (λ (s : SessionState g.row.C.Denot). g.C.Coins.sequence s.coins) c.self.view_is in
-    let run = followed c.len-n.result c.self.inside.recording.tableau.qubits _ _ c.self.inside.stride _ _ c.follow.new.self c.len-n.ensures.value coins ran.kept in
+    let run = followed c.len-n.result c.self.inside.recording.tableau.qubits _ _ c.self.inside.stride _ _ c.follow.new.self c.len-n.ensures.value coins ran.followed.kept in
     edited-applied g.C.Coins.sequence c.args.edit c.args.self.now c.len-n.result c.self.inside.circuit c.begin.new.circuit c.in-Ok.begun.0 c.in-Ok.begun.1 begun.begun
     (ap (λ (s : SessionState g.row.C.Denot). s.items) (sym c.self.view_is))
     (ap (λ (s : SessionState g.row.C.Denot). s.qubits) (sym c.self.view_is) ∙ sym c.len-n.ensures.value)
     c.finish.new.circuit c.finish.ensures.value c.self.inside.stride c.follow.new.coins c.follow.new.self
     (ap (λ (s : SessionState g.row.C.Denot). s.stride) c.self.view_is) (ran.same_coins ∙ coins) run
-    c.in-Ok-follow.followed.applied (omega (arith, ran.applied))
+    c.in-Ok-follow.followed.applied (omega (arith, ran.followed.way.most))
 
 pub returns-in-Ok-follow-clause-asks : goal.returns-in-Ok-follow-clause-asks
 returns-in-Ok-follow-clause-asks g c =
     let ran = c.in-Ok-follow.ensures {u = tt} in
-    omega (arith, ran.asks, ap (λ (s : SessionState g.row.C.Denot). g.C.Coins.asks s.coins) c.self.view_is)
+    omega (arith, ran.followed.asks, ap (λ (s : SessionState g.row.C.Denot). g.C.Coins.asks s.coins) c.self.view_is)
 
 pub returns-in-Err-clause-refused : goal.returns-in-Err-clause-refused
 returns-in-Err-clause-refused g c =
@@ -35,14 +35,14 @@ invariant_of-self-in-Ok-follow g c =
     let begun = c.in-Ok.ensures {u = tt} in
     let ran = c.in-Ok-follow.ensures {u = tt} in
     let coins = ap (λ (s : SessionState g.row.C.Denot). g.C.Coins.sequence s.coins) c.self.view_is in
-    let run = followed c.len-n.result c.self.inside.recording.tableau.qubits _ _ c.self.inside.stride _ _ c.follow.new.self c.len-n.ensures.value coins ran.kept in
+    let run = followed c.len-n.result c.self.inside.recording.tableau.qubits _ _ c.self.inside.stride _ _ c.follow.new.self c.len-n.ensures.value coins ran.followed.kept in
     let recorded = c.self.invariant.0 in (
       edited-recorded g.C.Coins.sequence c.args.edit c.args.self.now c.len-n.result c.self.inside.circuit c.begin.new.circuit c.in-Ok.begun.0 c.in-Ok.begun.1 begun.begun
           (ap (λ (s : SessionState g.row.C.Denot). s.items) (sym c.self.view_is))
           (ap (λ (s : SessionState g.row.C.Denot). s.qubits) (sym c.self.view_is) ∙ sym c.len-n.ensures.value)
           c.finish.new.circuit c.finish.ensures.value c.self.inside.stride c.follow.new.coins c.follow.new.self
           (ap (λ (s : SessionState g.row.C.Denot). s.stride) c.self.view_is) (ran.same_coins ∙ coins) run
-          ran.distinct (subst (λ n. n ≤ 1024) (sym c.len-n.ensures.value) recorded.few) recorded.stride_above recorded.stride_within,
+          ran.followed.distinct (subst (λ n. n ≤ 1024) (sym c.len-n.ensures.value) recorded.few) recorded.stride_above recorded.stride_within,
       edited-repeats g.C.Coins.sequence c.args.edit c.args.self.now c.len-n.result c.self.inside.circuit c.begin.new.circuit c.in-Ok.begun.0 c.in-Ok.begun.1 begun.begun
           (ap (λ (s : SessionState g.row.C.Denot). s.items) (sym c.self.view_is))
           (ap (λ (s : SessionState g.row.C.Denot). s.qubits) (sym c.self.view_is) ∙ sym c.len-n.ensures.value)
@@ -56,7 +56,7 @@ returns-in-Ok-follow-clause-statement g c =
     let begun = c.in-Ok.ensures {u = tt} in
     let ran = c.in-Ok-follow.ensures {u = tt} in
     let coins = ap (λ (s : SessionState g.row.C.Denot). g.C.Coins.sequence s.coins) c.self.view_is in
-    let run = followed c.len-n.result c.self.inside.recording.tableau.qubits _ _ c.self.inside.stride _ _ c.follow.new.self c.len-n.ensures.value coins ran.kept in
+    let run = followed c.len-n.result c.self.inside.recording.tableau.qubits _ _ c.self.inside.stride _ _ c.follow.new.self c.len-n.ensures.value coins ran.followed.kept in
     statement g.C.Coins.sequence (listed c.finish.new.circuit) c.self.inside.stride c.follow.new.coins c.follow.new.self c.len-n.result (g.C.Coins.sequence c.args.self.now.coins) (ran.same_coins ∙ coins)
     (new-run g.C.Coins.sequence c.args.edit c.args.self.now c.len-n.result c.self.inside.circuit c.begin.new.circuit c.in-Ok.begun.0 c.in-Ok.begun.1 begun.begun
     (ap (λ (s : SessionState g.row.C.Denot). s.items) (sym c.self.view_is))
@@ -69,7 +69,7 @@ returns-in-Ok-follow-clause-edited g c =
     let begun = c.in-Ok.ensures {u = tt} in
     let ran = c.in-Ok-follow.ensures {u = tt} in
     let coins = ap (λ (s : SessionState g.row.C.Denot). g.C.Coins.sequence s.coins) c.self.view_is in
-    let run = followed c.len-n.result c.self.inside.recording.tableau.qubits _ _ c.self.inside.stride _ _ c.follow.new.self c.len-n.ensures.value coins ran.kept in
+    let run = followed c.len-n.result c.self.inside.recording.tableau.qubits _ _ c.self.inside.stride _ _ c.follow.new.self c.len-n.ensures.value coins ran.followed.kept in
     session-edited g.C.Coins.sequence c.args.edit c.args.self.now c.len-n.result c.self.inside.circuit c.begin.new.circuit c.in-Ok.begun.0 c.in-Ok.begun.1 begun.begun
     (ap (λ (s : SessionState g.row.C.Denot). s.items) (sym c.self.view_is))
     (ap (λ (s : SessionState g.row.C.Denot). s.qubits) (sym c.self.view_is) ∙ sym c.len-n.ensures.value)
@@ -84,21 +84,21 @@ overflow_add-result g c =
     few-steps g.C.Coins.sequence c.args.edit c.args.self.now c.len-n.result c.self.inside.circuit c.begin.new.circuit c.in-Ok.begun.0 c.in-Ok.begun.1 begun.begun
     (ap (λ (s : SessionState g.row.C.Denot). s.items) (sym c.self.view_is))
     (ap (λ (s : SessionState g.row.C.Denot). s.qubits) (sym c.self.view_is) ∙ sym c.len-n.ensures.value) in
-    omega (arith, few, ran.applied, ran.tried, c.self.invariant.0.stride_within)
+    omega (arith, few, ran.followed.way.most, ran.followed.tried, c.self.invariant.0.stride_within)
 
 pub returns-in-Ok-follow-clause-by_frame : goal.returns-in-Ok-follow-clause-by_frame
 returns-in-Ok-follow-clause-by_frame g c =
     let begun = c.in-Ok.ensures {u = tt} in
     let ran = c.in-Ok-follow.ensures {u = tt} in
     let coins = ap (λ (s : SessionState g.row.C.Denot). g.C.Coins.sequence s.coins) c.self.view_is in
-    let run = followed c.len-n.result c.self.inside.recording.tableau.qubits _ _ c.self.inside.stride _ _ c.follow.new.self c.len-n.ensures.value coins ran.kept in
+    let run = followed c.len-n.result c.self.inside.recording.tableau.qubits _ _ c.self.inside.stride _ _ c.follow.new.self c.len-n.ensures.value coins ran.followed.kept in
     let le =
     edited-applied g.C.Coins.sequence c.args.edit c.args.self.now c.len-n.result c.self.inside.circuit c.begin.new.circuit c.in-Ok.begun.0 c.in-Ok.begun.1 begun.begun
     (ap (λ (s : SessionState g.row.C.Denot). s.items) (sym c.self.view_is))
     (ap (λ (s : SessionState g.row.C.Denot). s.qubits) (sym c.self.view_is) ∙ sym c.len-n.ensures.value)
     c.finish.new.circuit c.finish.ensures.value c.self.inside.stride c.follow.new.coins c.follow.new.self
     (ap (λ (s : SessionState g.row.C.Denot). s.stride) c.self.view_is) (ran.same_coins ∙ coins) run
-    (c.in-Ok-follow.followed.applied + c.in-Ok-follow.followed.by_frame) ran.applied in
+    (c.in-Ok-follow.followed.applied + c.in-Ok-follow.followed.by_frame) ran.followed.way.most in
     omega (arith, le)
 
 pub returns-in-Ok-follow-clause-tried : goal.returns-in-Ok-follow-clause-tried
@@ -106,20 +106,20 @@ returns-in-Ok-follow-clause-tried g c =
     let begun = c.in-Ok.ensures {u = tt} in
     let ran = c.in-Ok-follow.ensures {u = tt} in
     let coins = ap (λ (s : SessionState g.row.C.Denot). g.C.Coins.sequence s.coins) c.self.view_is in
-    let run = followed c.len-n.result c.self.inside.recording.tableau.qubits _ _ c.self.inside.stride _ _ c.follow.new.self c.len-n.ensures.value coins ran.kept in
+    let run = followed c.len-n.result c.self.inside.recording.tableau.qubits _ _ c.self.inside.stride _ _ c.follow.new.self c.len-n.ensures.value coins ran.followed.kept in
     edited-tried g.C.Coins.sequence c.args.edit c.args.self.now c.len-n.result c.self.inside.circuit c.begin.new.circuit c.in-Ok.begun.0 c.in-Ok.begun.1 begun.begun
     (ap (λ (s : SessionState g.row.C.Denot). s.items) (sym c.self.view_is))
     (ap (λ (s : SessionState g.row.C.Denot). s.qubits) (sym c.self.view_is) ∙ sym c.len-n.ensures.value)
     c.finish.new.circuit c.finish.ensures.value c.self.inside.stride c.follow.new.coins c.follow.new.self
     (ap (λ (s : SessionState g.row.C.Denot). s.stride) c.self.view_is) (ran.same_coins ∙ coins) run
-    c.in-Ok-follow.followed.tried ran.tried
+    c.in-Ok-follow.followed.tried ran.followed.tried
 
 pub returns-in-Ok-follow-clause-counted : goal.returns-in-Ok-follow-clause-counted
 returns-in-Ok-follow-clause-counted g c =
     let begun = c.in-Ok.ensures {u = tt} in
     let ran = c.in-Ok-follow.ensures {u = tt} in
     let coins = ap (λ (s : SessionState g.row.C.Denot). g.C.Coins.sequence s.coins) c.self.view_is in
-    let run = followed c.len-n.result c.self.inside.recording.tableau.qubits _ _ c.self.inside.stride _ _ c.follow.new.self c.len-n.ensures.value coins ran.kept in
+    let run = followed c.len-n.result c.self.inside.recording.tableau.qubits _ _ c.self.inside.stride _ _ c.follow.new.self c.len-n.ensures.value coins ran.followed.kept in
     edited-counted g.C.Coins.sequence c.args.edit c.args.self.now c.len-n.result c.self.inside.circuit c.begin.new.circuit c.in-Ok.begun.0 c.in-Ok.begun.1 begun.begun
     (ap (λ (s : SessionState g.row.C.Denot). s.items) (sym c.self.view_is))
     (ap (λ (s : SessionState g.row.C.Denot). s.qubits) (sym c.self.view_is) ∙ sym c.len-n.ensures.value)
@@ -129,14 +129,14 @@ returns-in-Ok-follow-clause-counted g c =
     (c.in-Ok-follow.followed.applied + ((c.in-Ok-follow.followed.by_frame + c.in-Ok-follow.followed.tried) - c.in-Ok-follow.followed.tried))
     (checkpoint_steps c.self.inside.recording.checkpoints.items) (omega arith) (ap (λ (s : SessionState g.row.C.Denot). s.checkpoints) c.self.view_is)
     (counted_same c.len-n.result c.self.inside.recording.tableau.qubits _ _ (unroll (listed c.self.inside.circuit)) (unroll (listed c.begin.new.circuit)) c.in-Ok.begun.1 _ _ _ c.len-n.ensures.value coins
-    (ran.counted (unroll (listed c.self.inside.circuit)) (observables_of (listed c.self.inside.circuit)) c.self.invariant.0.run begun.begun.span.span))
+    (ran.followed.way.counted (unroll (listed c.self.inside.circuit)) (observables_of (listed c.self.inside.circuit)) c.self.invariant.0.run begun.begun.span.span))
 
 pub returns-in-Ok-follow-clause-early : goal.returns-in-Ok-follow-clause-early
 returns-in-Ok-follow-clause-early g c =
     let begun = c.in-Ok.ensures {u = tt} in
     let ran = c.in-Ok-follow.ensures {u = tt} in
     let coins = ap (λ (s : SessionState g.row.C.Denot). g.C.Coins.sequence s.coins) c.self.view_is in
-    let run = followed c.len-n.result c.self.inside.recording.tableau.qubits _ _ c.self.inside.stride _ _ c.follow.new.self c.len-n.ensures.value coins ran.kept in
+    let run = followed c.len-n.result c.self.inside.recording.tableau.qubits _ _ c.self.inside.stride _ _ c.follow.new.self c.len-n.ensures.value coins ran.followed.kept in
     λ far.
     edited-early g.C.Coins.sequence c.args.edit c.args.self.now c.len-n.result c.self.inside.circuit c.begin.new.circuit c.in-Ok.begun.0 c.in-Ok.begun.1 begun.begun
     (ap (λ (s : SessionState g.row.C.Denot). s.items) (sym c.self.view_is))
@@ -147,7 +147,7 @@ returns-in-Ok-follow-clause-early g c =
     (λ agree.
     omega (
       arith,
-      ran.few (unroll (listed c.self.inside.circuit)) (observables_of (listed c.self.inside.circuit)) far c.self.invariant.0.run begun.begun.span.span
+      ran.followed.way.few (unroll (listed c.self.inside.circuit)) (observables_of (listed c.self.inside.circuit)) far c.self.invariant.0.run begun.begun.span.span
           (agreed c.len-n.result c.self.inside.recording.tableau.qubits _ _ (unroll (listed c.self.inside.circuit)) (unroll (listed c.begin.new.circuit)) c.in-Ok.begun.1 far c.len-n.ensures.value coins agree),
     ))
 
@@ -156,7 +156,7 @@ returns-in-Ok-follow-clause-few_checkpoints g c =
     let begun = c.in-Ok.ensures {u = tt} in
     let ran = c.in-Ok-follow.ensures {u = tt} in
     let coins = ap (λ (s : SessionState g.row.C.Denot). g.C.Coins.sequence s.coins) c.self.view_is in
-    let run = followed c.len-n.result c.self.inside.recording.tableau.qubits _ _ c.self.inside.stride _ _ c.follow.new.self c.len-n.ensures.value coins ran.kept in
+    let run = followed c.len-n.result c.self.inside.recording.tableau.qubits _ _ c.self.inside.stride _ _ c.follow.new.self c.len-n.ensures.value coins ran.followed.kept in
     few-checkpoints g.C.Coins.sequence (listed c.finish.new.circuit) c.self.inside.stride c.follow.new.coins c.follow.new.self c.len-n.result (g.C.Coins.sequence c.args.self.now.coins) (ran.same_coins ∙ coins)
     (new-run g.C.Coins.sequence c.args.edit c.args.self.now c.len-n.result c.self.inside.circuit c.begin.new.circuit c.in-Ok.begun.0 c.in-Ok.begun.1 begun.begun
     (ap (λ (s : SessionState g.row.C.Denot). s.items) (sym c.self.view_is))
@@ -193,7 +193,7 @@ returns-in-Err-follow-clause-refused_asks g c =
       refused-asks g.C.Coins.sequence c.args.edit c.args.self.now c.len-n.result c.self.inside.circuit c.begin.new.circuit c.in-Ok.begun.0 c.in-Ok.begun.1 begun.begun
           (ap (λ (s : SessionState g.row.C.Denot). s.items) (sym c.self.view_is))
           (ap (λ (s : SessionState g.row.C.Denot). s.qubits) (sym c.self.view_is) ∙ sym c.len-n.ensures.value)
-          c.self.inside.stride _ _ (ap (λ (s : SessionState g.row.C.Denot). s.stride) c.self.view_is) c.follow.ensures.asked_after,
+          c.self.inside.stride _ _ (ap (λ (s : SessionState g.row.C.Denot). s.stride) c.self.view_is) c.follow.ensures.asked.near,
     )
 
 pub returns-in-Err-follow-clause-item : goal.returns-in-Err-follow-clause-item

@@ -3,14 +3,12 @@ use Rattle.std.proofs.Common.{length-drop}
 use Rattle.stab_shots.proofs.RecordingLemmas.{arrives, gives, determined-free, others-not, free-few, strings-numbered, strings-right}
 use Rattle.stab_shots.proofs.part_recording.PartRecording.advance.Goals as goal
 
-pub run_recording_pivots-requires-clause-same_length : goal.run_recording_pivots-requires-clause-same_length
-run_recording_pivots-requires-clause-same_length c = c.requires.sized.string
-
-pub run_recording_pivots-requires-clause-pivots_length : goal.run_recording_pivots-requires-clause-pivots_length
-run_recording_pivots-requires-clause-pivots_length c = c.requires.sized.written
-
-pub run_recording_pivots-requires-clause-strings_length : goal.run_recording_pivots-requires-clause-strings_length
-run_recording_pivots-requires-clause-strings_length c = ap (λ (k : PivotsState). k.qubits) c.truncate.ensures.value ∙ c.requires.sized.strings
+pub run_recording_pivots-requires-clause-sized : goal.run_recording_pivots-requires-clause-sized
+run_recording_pivots-requires-clause-sized c = record {
+  string = c.requires.sized.string;
+  scratch = c.requires.sized.written;
+  strings = ap (λ (k : PivotsState). k.qubits) c.truncate.ensures.value ∙ c.requires.sized.strings;
+}
 
 pub run_recording_pivots-requires-clause-fits : goal.run_recording_pivots-requires-clause-fits
 run_recording_pivots-requires-clause-fits c =
@@ -43,11 +41,11 @@ returns c =
     let ran =
     subst (λ s. IsRun n s ys (record { stabilised = stabilises old.tableau; output = record (output_of old.outputs) { free = zeros } }) new) zero
     (subst (λ zs. IsRun n (list_coin c.new-coins.result.bits) (take c.args.count zs) (record { stabilised = stabilises old.tableau; output = record (output_of old.outputs) { free = zeros } }) new)
-    c.in_ok-cursor.ensures.steps (c.in_ok-run_recording_pivots.ensures {u = tt}).run) in
+    c.in_ok-cursor.ensures.steps (c.in_ok-run_recording_pivots.ensures {u = tt}).recorded.steps.run) in
     let keeps =
     subst (λ s. KeepsTrue n s ys kept following (record { stabilised = stabilises old.tableau; output = record (output_of old.outputs) { free = zeros } }) new) zero
     (subst (λ zs. KeepsTrue n (list_coin c.new-coins.result.bits) (take c.args.count zs) kept following (record { stabilised = stabilises old.tableau; output = record (output_of old.outputs) { free = zeros } }) new)
-    c.in_ok-cursor.ensures.steps (c.in_ok-run_recording_pivots.ensures {u = tt}).has_pivots) in
+    c.in_ok-cursor.ensures.steps (c.in_ok-run_recording_pivots.ensures {u = tt}).recorded.steps.has_pivots) in
     let here = c.requires.recorded.arrived in
     let size = c.clear_flags.ensures.size in
     let none = c.clear_flags.ensures.none in
@@ -60,10 +58,10 @@ returns c =
     record {
       sized = record {
         qubits = c.run_recording_pivots.ensures.qubits;
-        string = c.run_recording_pivots.ensures.string ∙ sized.string;
-        written = c.run_recording_pivots.ensures.pivots_length;
-        strings = c.run_recording_pivots.ensures.strings_length;
-        most = c.run_recording_pivots.ensures.most ∙ limit;
+        string = c.run_recording_pivots.ensures.sized.string;
+        written = c.run_recording_pivots.ensures.sized.scratch;
+        strings = c.run_recording_pivots.ensures.sized.strings;
+        most = c.run_recording_pivots.ensures.kept.most ∙ limit;
       };
       recorded =
           subst (λ zs. IsPartRecording n zs there) (sym (take-add c.args.from c.args.count steps)) (record {
@@ -75,7 +73,7 @@ returns c =
         others = others-not n xs ys (stabilises old.tableau) (output_of old.outputs) zeros old.free.items new here size none ran;
         number =
             strings-numbered n xs ys (stabilises old.tableau) (output_of old.outputs) zeros old.free.items new here size none ran kept following empty keeps
-            ∙ ap (min (ones after.outputs.free.items)) (c.run_recording_pivots.ensures.most ∙ limit);
+            ∙ ap (min (ones after.outputs.free.items)) (c.run_recording_pivots.ensures.kept.most ∙ limit);
         few = free-few n xs ys (stabilises old.tableau) (output_of old.outputs) zeros old.free.items new here size none ran;
         right = strings-right n xs ys (stabilises old.tableau) (output_of old.outputs) zeros old.free.items new here size none ran kept following empty keeps;
       };

@@ -1,4 +1,4 @@
-use Rattle.stab_splices.proofs.Names.{◌≡◌, ℕ, Bool, ◌+◌, ◌-◌, ◌<◌, ◌≤◌, ◌∷◌, refl, sym, ◌∙◌, ap, subst, arith, Some, length, take, drop, get_or, All, IfSome, unroll, observables_of, circuit_items, Checkpoint, checkpoint_steps, Near, last_of, Point, outputs, lengths_of, check-fits, check-whole, check-steps, longer, IsCount, conjugated_end, StaysNear, IsPastPlaces, IsConjugating, HasConjugated}
+use Rattle.stab_splices.proofs.Names.{All-drop, length-drop, StepFits, ◌≡◌, ℕ, Bool, ◌+◌, ◌-◌, ◌<◌, ◌≤◌, ◌∷◌, refl, sym, ◌∙◌, ap, subst, arith, Some, length, take, drop, get_or, All, IfSome, unroll, observables_of, circuit_items, Checkpoint, checkpoint_steps, Near, last_of, Point, outputs, lengths_of, check-fits, check-whole, check-steps, longer, IsCount, conjugated_end, StaysNear, IsPastPlaces, IsConjugating, HasConjugated}
 use Rattle.std.specs.Prelude.{slice_get}
 use Rattle.stab_splices.proofs.FollowLemmas.{some-at}
 use Rattle.stab_splices.proofs.CourseLemmas.{count-of}
@@ -44,10 +44,11 @@ passed c =
     subst (λ o. IfSome o (λ p. IsPastPlaces (unroll (circuit_items c.args.circuit.now)) c.args.span c.count_before-before.result c.count_within-inside.result c.args.change.now c.args.self.now
     p.from p.propagation p.checkpoints.items)) c.in-Some.is c.in_ok-passed.ensures.passed
 
-pub conjugating-requires-clause-few_propagated : goal.conjugating-requires-clause-few_propagated
-conjugating-requires-clause-few_propagated c =
-    let at = goal.at.conjugating-requires-clause-few_propagated c in
-    omega (arith, c.past_places.ensures.most, few at.After-as_slice-checkpoints)
+pub past_places-requires-clause-counted : goal.past_places-requires-clause-counted
+past_places-requires-clause-counted c =
+    let at = goal.at.past_places-requires-clause-counted c in
+    let among = inside at.After-count_within-inside in
+    record { first = counted at.After-count_before-before; order = among.order; within = among.within }
 
 -- the steps that it tries are counted
 
@@ -61,23 +62,33 @@ returns-clause-tried c =
     let order = c.requires.follows.1.span.new_order in
     omega (arith, c.past_places.ensures.most, c.conjugating.ensures.most, order)
 
-pub conjugating-requires-clause-few : goal.conjugating-requires-clause-few
-conjugating-requires-clause-few c =
-    let at = goal.at.conjugating-requires-clause-few c in
+pub conjugating-requires-clause-may : goal.conjugating-requires-clause-may
+conjugating-requires-clause-may c =
+    let at = goal.at.conjugating-requires-clause-may c in
     let f = c.requires.follows.1 in
+    let n = c.args.self.now.tableau.qubits in
     let ys = unroll (circuit_items c.args.circuit.now) in
     let small = few at.After-as_slice-checkpoints in
     let count = counted at.After-count_before-before in
     let d_here = here at.After-index-checkpoints-before small count in
     let went = passed at.In-Some in
-    let counts = some-at (λ (d : Checkpoint). (n : ℕ) (coins : ℕ → Bool) (a : Point) → c.in-Some.passed.from ≡ longer d.lengths (lengths_of (outputs n coins (take (c.args.span.first - d.step) (drop d.step ys)) a)))
+    let counts = some-at (λ (d : Checkpoint). (k : ℕ) (coins : ℕ → Bool) (a : Point) → c.in-Some.passed.from ≡ longer d.lengths (lengths_of (outputs k coins (take (c.args.span.first - d.step) (drop d.step ys)) a)))
     c.args.self.now.checkpoints.items (c.count_before-before.result - 1) c.index-checkpoints-before.result d_here went.from_is in
-    omega (
-      arith,
-      went.few,
-      from-few f.count f.kept f.span small count c.index-checkpoints-before.result d_here c.in-Some.passed.from counts c.args.span.first,
-      from-few f.count f.kept f.span small count c.index-checkpoints-before.result d_here c.in-Some.passed.from counts c.args.span.new_end,
-    )
+    record {
+      same_length = f.kept.has_pivots.size ∙ sym went.letters;
+      fits =
+          subst (λ k. All (StepFits k) (drop c.args.span.new_end ys)) (sym went.letters)
+          (All-drop (StepFits n) c.args.span.new_end ys (check-fits n (circuit_items c.args.circuit.now) ys c.requires.checked refl c.in_ok-passed.ensures.distinct));
+      placed = went.placed;
+      few =
+          omega (
+            arith,
+            went.few,
+            from-few f.count f.kept f.span small count c.index-checkpoints-before.result d_here c.in-Some.passed.from counts c.args.span.first,
+            from-few f.count f.kept f.span small count c.index-checkpoints-before.result d_here c.in-Some.passed.from counts c.args.span.new_end,
+          );
+      few_passed = omega (arith, c.past_places.ensures.most, small, length-drop c.args.span.new_end ys);
+    }
 
 end-is : (c : After-end_place-end) → c.steps-total.result ≡ length (unroll (circuit_items c.args.circuit.now)) → c.end_place-end.result
     ≡ conjugated_end c.args.span (length (unroll (circuit_items c.args.circuit.now))) (slice_get c.args.self.now.checkpoints.items (c.count_within-inside.result + length c.in-Some-2.conjugating.rest.conjugated.items))

@@ -1,24 +1,11 @@
-use Rattle.stab_splices.proofs.Names.{◌≡◌, ℕ, ◌+◌, ◌*◌, ◌^◌, ◌<◌, ◌≤◌, None, List, Step, length-drop, check-steps, check-whole, refl, sym, ◌∙◌, ap, subst, arith, length, drop, All, All-drop, unroll, circuit_items, StepFits, check-fits, AreInOrder, IsRestFrame}
-use Rattle.stab_items.specs.Items.{Items}
-use Rattle.stab_items.specs.Steps.{most_steps, check_within}
+use Rattle.stab_splices.proofs.Names.{◌+◌, length-drop, refl, sym, ◌∙◌, ap, subst, arith, length, drop, unroll, circuit_items, AreInOrder, IsRestFrame}
+use Rattle.stab_recording.specs.PassedSteps.{MayPropagate}
 use Rattle.stab_splices.proofs.ConjugatingLemmas.{following-order, advanced-few}
 use Rattle.stab_splices.proofs.recording.Recording.conjugating.Goals as goal
 
-pub propagate_rest-requires-clause-fits : goal.propagate_rest-requires-clause-fits
-propagate_rest-requires-clause-fits c =
-    let ys = unroll (circuit_items c.args.circuit.now) in
-    let n = c.args.self.now.tableau.qubits in
-    subst (λ k. All (StepFits k) c.in_ok-cursor.cursor.left) (sym c.requires.letters)
-    (subst (All (StepFits n)) (sym c.in_ok-cursor.ensures.steps)
-    (All-drop (StepFits n) c.args.span.new_end ys (check-fits n (circuit_items c.args.circuit.now) ys c.requires.checked refl c.requires.distinct)))
-
-few : (items : Items) (n first by_frame : ℕ) (left : List Step) → check_within n items ≡ None → left ≡ drop first (unroll items) → by_frame ≤ 2 * most_steps → by_frame + length left < 2 ^ 63
-few items n first by_frame left checked rest le =
-    omega (arith, le, ap length rest, length-drop first (unroll items), check-steps items (check-whole n items checked))
-
-pub propagate_rest-requires-clause-few_propagated : goal.propagate_rest-requires-clause-few_propagated
-propagate_rest-requires-clause-few_propagated c =
-    few (circuit_items c.args.circuit.now) c.args.self.now.tableau.qubits c.args.span.new_end c.args.by_frame.now c.in_ok-cursor.cursor.left c.requires.checked c.in_ok-cursor.ensures.steps c.requires.few_propagated
+pub propagate_rest-requires-clause-may : goal.propagate_rest-requires-clause-may
+propagate_rest-requires-clause-may c =
+    subst (λ x. x) (λ i. MayPropagate c.args.self.now.strings (sym c.as_slice-2.ensures.value i) 0 (sym c.in_ok-cursor.ensures.steps i) c.args.by_frame.now c.args.passed.propagation) c.requires.may
 
 -- no more steps are counted than come after the span
 

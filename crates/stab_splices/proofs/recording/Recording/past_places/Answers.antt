@@ -8,7 +8,7 @@ few : (c : After-index-checkpoint) → length (unroll (circuit_items c.args.circ
 few c = check-steps (circuit_items c.args.circuit.now) (check-whole c.args.self.now.tableau.qubits (circuit_items c.args.circuit.now) c.requires.checked)
 
 here : (c : After-index-checkpoint) → slice_get c.args.self.now.checkpoints.items (c.args.before - 1) ≡ Some c.index-checkpoint.result.now
-here c = let f = c.requires.follows.2 in checkpoint-is f.count f.kept f.span (few c) c.requires.before c.index-checkpoint.result.now c.index-checkpoint.ensures
+here c = let f = c.requires.follows.2 in checkpoint-is f.count f.kept f.span (few c) c.requires.counted.first c.index-checkpoint.result.now c.index-checkpoint.ensures
 
 -- the lengths are those that the steps give at any point
 counts : (first : ℕ) (d : Checkpoint) (left ys : List Step) (from : Lengths) → left ≡ drop d.step ys → (k : ℕ) (others : ℕ → Bool) (a : Point)
@@ -29,13 +29,13 @@ first-left first step left following ys le is went =
 
 pub at-requires-clause-in_range : goal.at-requires-clause-in_range
 at-requires-clause-in_range c =
-    let f = c.requires.follows.2 in checkpoint-within f.count f.kept f.span (few c) c.requires.before c.index-checkpoint.result.now (here c)
+    let f = c.requires.follows.2 in checkpoint-within f.count f.kept f.span (few c) c.requires.counted.first c.index-checkpoint.result.now (here c)
 
 pub overflow_sub-span : goal.overflow_sub-span
 overflow_sub-span c =
     let at = (goal.at.overflow_sub-span c).After-index-checkpoint in
     let f = c.requires.follows.2 in
-    checkpoint-before f.count f.kept f.span (few at) c.requires.before c.index-checkpoint.result.now (here at)
+    checkpoint-before f.count f.kept f.span (few at) c.requires.counted.first c.index-checkpoint.result.now (here at)
 
 pub lengths_after-from-requires : goal.lengths_after-from-requires
 lengths_after-from-requires c =
@@ -44,7 +44,7 @@ lengths_after-from-requires c =
     record {
       few =
           subst (λ zs. AreBelow 9223372036854775808 (length zs) c.index-checkpoint.result.now.lengths) (sym c.in_ok-cursor.ensures.steps)
-          (checkpoint-below f.count f.kept f.span (few at) c.requires.before c.index-checkpoint.result.now (here at));
+          (checkpoint-below f.count f.kept f.span (few at) c.requires.counted.first c.index-checkpoint.result.now (here at));
     }
 
 pub new-requires : goal.new-requires
@@ -54,7 +54,7 @@ new-requires c =
     record {
       in_range =
           subst (λ bits. c.lengths_after-from.result.free ≤ length bits) (sym c.as_slice-free.ensures.value)
-          (from-within f.count f.kept f.span (few at) c.requires.before c.index-checkpoint.result.now (here at) c.lengths_after-from.result
+          (from-within f.count f.kept f.span (few at) c.requires.counted.first c.index-checkpoint.result.now (here at) c.lengths_after-from.result
           (λ k others a. counts c.args.span.first c.index-checkpoint.result.now c.in_ok-cursor.cursor.left (unroll (circuit_items c.args.circuit.now)) c.lengths_after-from.result c.in_ok-cursor.ensures.steps k others a
           (c.lengths_after-from.ensures.value k others a)));
     }
@@ -66,39 +66,39 @@ left c le =
     c.in_ok-cursor.ensures.steps c.lengths_after-from.ensures.left
 
 at-first : (c : After-index-checkpoint) → c.index-checkpoint.result.now.step ≤ c.args.span.first
-at-first c = let f = c.requires.follows.2 in checkpoint-before f.count f.kept f.span (few c) c.requires.before c.index-checkpoint.result.now (here c)
+at-first c = let f = c.requires.follows.2 in checkpoint-before f.count f.kept f.span (few c) c.requires.counted.first c.index-checkpoint.result.now (here c)
 
 long : (c : In_ok-propagation) → length c.in_ok-propagation.propagation.letters ≡ c.args.self.now.tableau.qubits
 long c = letters-long c.args.self.now.tableau.qubits c.len.result c.in_ok-propagation.propagation c.len.ensures.value c.in_ok-propagation.ensures.value
 
-pub propagate_places-requires-clause-fits : goal.propagate_places-requires-clause-fits
-propagate_places-requires-clause-fits c =
-    let at = goal.at.propagate_places-requires-clause-fits c in
+pub propagate_places-requires-clause-may : goal.propagate_places-requires-clause-may
+propagate_places-requires-clause-may c =
+    let at = goal.at.propagate_places-requires-clause-may c in
+    let f = c.requires.follows.2 in
     let ys = unroll (circuit_items c.args.circuit.now) in
     let n = c.args.self.now.tableau.qubits in
+    let size = long at.In_ok-propagation in
+    let small = few at.After-index-checkpoint in
+    let rest = left at.In_ok-propagation (at-first at.After-index-checkpoint) in
+    let is = c.in_ok-propagation.ensures.value in
     let distinct : All HasDistinctQubits ys = subst (All HasDistinctQubits) c.in_ok-cursor.ensures.all c.in_ok-cursor.ensures.distinct in
-    subst (λ k. All (StepFits k) c.lengths_after-from.new.cursor.left) (sym (long at.In_ok-propagation))
-    (subst (All (StepFits n)) (sym (left at.In_ok-propagation (at-first at.After-index-checkpoint)))
-    (All-drop (StepFits n) c.args.span.first ys (check-fits n (circuit_items c.args.circuit.now) ys c.requires.checked refl distinct)))
-
-pub propagate_places-requires-clause-few : goal.propagate_places-requires-clause-few
-propagate_places-requires-clause-few c =
-    let at = goal.at.propagate_places-requires-clause-few c in
-    let f = c.requires.follows.2 in
-    omega (
-      arith,
-      from-few f.count f.kept f.span (few at.After-index-checkpoint) c.requires.before c.index-checkpoint.result.now (here at.After-index-checkpoint) c.lengths_after-from.result
-          (λ k others a. counts c.args.span.first c.index-checkpoint.result.now c.in_ok-cursor.cursor.left (unroll (circuit_items c.args.circuit.now)) c.lengths_after-from.result c.in_ok-cursor.ensures.steps k others a
-          (c.lengths_after-from.ensures.value k others a)) c.args.span.first,
-      ap (λ (w : PropagationState). w.coin) c.in_ok-propagation.ensures.value,
-      ap length (left at.In_ok-propagation (at-first at.After-index-checkpoint)),
-    )
-
-pub propagate_places-requires-clause-few_propagated : goal.propagate_places-requires-clause-few_propagated
-propagate_places-requires-clause-few_propagated c =
-    let at = goal.at.propagate_places-requires-clause-few_propagated c in
-    let ys = unroll (circuit_items c.args.circuit.now) in
-    omega (arith, ap length (left at.In_ok-propagation (at-first at.After-index-checkpoint)), length-drop c.args.span.first ys, few at.After-index-checkpoint, c.requires.none_propagated)
+    record {
+      same_length = f.kept.has_pivots.size ∙ sym size;
+      fits =
+          subst (λ k. All (StepFits k) c.lengths_after-from.new.cursor.left) (sym size)
+          (subst (All (StepFits n)) (sym rest) (All-drop (StepFits n) c.args.span.first ys (check-fits n (circuit_items c.args.circuit.now) ys c.requires.checked refl distinct)));
+      placed = subst (IsPlaced c.as_slice-free.result.now) (sym is) refl;
+      few =
+          omega (
+            arith,
+            from-few f.count f.kept f.span small c.requires.counted.first c.index-checkpoint.result.now (here at.After-index-checkpoint) c.lengths_after-from.result
+                (λ k others a. counts c.args.span.first c.index-checkpoint.result.now c.in_ok-cursor.cursor.left ys c.lengths_after-from.result c.in_ok-cursor.ensures.steps k others a
+                (c.lengths_after-from.ensures.value k others a)) c.args.span.first,
+            ap (λ (w : PropagationState). w.coin) is,
+            ap length rest,
+          );
+      few_passed = omega (arith, ap length rest, length-drop c.args.span.first ys, small, c.requires.none_propagated);
+    }
 
 -- no more steps are counted than there are from the first place on
 most-counted : (c : In_ok-propagation) → (first : ℕ) → c.lengths_after-from.new.cursor.left ≡ drop first (unroll (circuit_items c.args.circuit.now)) → (by_frame : ℕ)
@@ -172,8 +172,8 @@ returns-clause-passed c =
             ap length some,
             length-take (c.args.inside - c.args.before) (drop c.args.before cs),
             length-drop c.args.before cs,
-            c.requires.order,
-            c.requires.inside,
+            c.requires.counted.order,
+            c.requires.counted.within,
           );
       between = λ coins xs base front b.
           subst (λ x. x) (λ i. IsFrameBetween (size i) coins xs (all i) (pivot_at strings (flags i)) (flags i) base front c.args.span.old_end c.args.span.new_end c.propagate_places.new.propagation)

@@ -1,4 +1,5 @@
 use Rattle.stab_splices.proofs.Names.{◌≡◌, ℕ, ◌+◌, ◌-◌, ◌≤◌, refl, sym, ◌∙◌, ap, subst, length, take, drop, All, None, arith, Result, Ok, Err, OnErr, unroll, circuit_items, HasDistinctQubits, AreRepeats, Plan, Span, all_coins_of, StepFits, output_of, IsOldRun, IsRecording, Follows, Ascending, check-fits, check-whole, check-steps, IsCount, stop_of}
+use Rattle.stab_splices.specs.FollowedEdits.{AsksWithin}
 use Rattle.stab_splices.proofs.CountLemmas.{coins-following}
 use Rattle.stab_splices.proofs.CourseLemmas.{HasBegun, HasEnded, count-of, seen-end, seen-soon, some-before, checkpoint-within, has-begun, asked-following, ascending-here, old-run, has-ended}
 use Rattle.stab_splices.proofs.recording.Recording.replay.Given.{Over}
@@ -38,12 +39,18 @@ begun g c few first = has-begun c.requires.follows few first c.in_ok-replay.repl
 abbrev planned : (total stride : ℕ) (s : Span) (next base window : ℕ) → Plan
 planned total stride s next base window = record { total = total; stride = stride; old_end = s.old_end; new_end = s.new_end; next = next; base = base; window = window }
 
--- no more coins are asked for than all steps use up
-asked : (g : Over) (c : After-follow g) → c.in_ok-replay.replay.cursor.all ≡ unroll (circuit_items c.args.circuit.now)
-    → g.C.Coins.asks c.follow.new.coins ≤ g.C.Coins.asks c.args.coins.now + all_coins_of (unroll (circuit_items c.args.circuit.now))
-asked g c all =
+-- no more coins are asked for than there may be
+asked : (g : Over) (c : After-follow g) → length (unroll (circuit_items c.args.circuit.now)) ≤ 1048576
+    → IsCount (c.args.span.first + 1) c.args.self.now.checkpoints.items c.count_before-before.result
+    → HasBegun c.args.self.now.tableau.qubits (g.C.Coins.sequence c.args.coins.now) c.args.stride (unroll (circuit_items c.args.circuit.now)) c.args.self.now
+    c.count_before-before.result c.in_ok-replay.replay
+    → AsksWithin c.args.stride (unroll (circuit_items c.args.circuit.now)) c.args.span.first (g.C.Coins.asks c.args.coins.now) (g.C.Coins.asks c.follow.new.coins)
+asked g c few first begins =
     let asked = c.follow.ensures.asked in
-    omega (arith, asked, coins-following c.in_ok-replay.replay.step c.in_ok-replay.replay.cursor.all, ap all_coins_of all)
+    record {
+      all = omega (arith, asked, coins-following c.in_ok-replay.replay.step c.in_ok-replay.replay.cursor.all, ap all_coins_of begins.all);
+      near = asked-following c.requires.follows few first c.in_ok-replay.replay begins _ _ asked;
+    }
 
 -- the replay ended, whichever old steps are followed
 end_of : (g : Over) (c : In_ok-end g)
@@ -72,9 +79,10 @@ stop_is g c few =
 -- how many steps were followed
 followed : (g : Over) (c : After-place_of-place g) → length (unroll (circuit_items c.args.circuit.now)) ≤ 1048576
     → c.follow.new.self.step ≤ stop_of c.args.span (length (unroll (circuit_items c.args.circuit.now))) c.follow.new.self.step c.args.self.now.checkpoints.items c.in_ok-end.end
+    → c.in_ok-replay.replay.applied ≡ 0 → c.in_ok-replay.replay.by_frame ≡ 0
     → (c.follow.new.self.applied + (c.follow.new.self.by_frame + (c.place_of-place.result - c.follow.new.self.step))) + c.in_ok-replay.replay.step
     ≡ stop_of c.args.span (length (unroll (circuit_items c.args.circuit.now))) c.follow.new.self.step c.args.self.now.checkpoints.items c.in_ok-end.end
-followed g c few order = omega (arith, c.in_ok-end.ensures.costs.counted, stop_is g c few, order)
+followed g c few order applied by_frame = omega (arith, c.in_ok-end.ensures.costs.counted, applied, by_frame, stop_is g c few, order)
 
 pub place_of-place-requires : goal.place_of-place-requires
 place_of-place-requires g c =
@@ -89,6 +97,13 @@ overflow_sub-followed g c =
     let begins = begun g at.In_ok-replay (few g at.After-as_slice) (first g at.After-count_before-before) in
     let ended = end_of g at.In_ok-end c.requires.follows (few g at.After-as_slice) (first g at.After-count_before-before) begins (following g at.After-as_slice-3) in
     omega (arith, ended.order, stop_is g at.After-place_of-place (few g at.After-as_slice))
+
+pub overflow_add-followed : goal.overflow_add-followed
+overflow_add-followed g c =
+    let at = goal.at.overflow_add-followed g c in
+    let begins = begun g at.In_ok-replay (few g at.After-as_slice) (first g at.After-count_before-before) in
+    let ended = end_of g at.In_ok-end c.requires.follows (few g at.After-as_slice) (first g at.After-count_before-before) begins (following g at.After-as_slice-3) in
+    omega (arith, followed g at.After-place_of-place (few g at.After-as_slice) ended.order begins.applied begins.by_frame, ended.within, few g at.After-as_slice)
 
 pub overflow_add-span : goal.overflow_add-span
 overflow_add-span g c =
@@ -162,12 +177,6 @@ follow-requires-clause-few_tried g c =
     let at = goal.at.follow-requires-clause-few_tried g c in
     omega (arith, c.requires.tried, few g at.After-as_slice)
 
-pub returns-clause-tried : goal.returns-clause-tried
-returns-clause-tried g c =
-    let at = goal.at.returns-clause-tried g c in
-    let order = c.requires.follows.span.new_order in
-    omega (arith, c.in_ok-end.ensures.tried, c.requires.tried, c.steps.ensures.value, few g at.After-as_slice, order)
-
 pub follow-requires-clause-repeats : goal.follow-requires-clause-repeats
 follow-requires-clause-repeats g c =
     let at = goal.at.follow-requires-clause-repeats g c in
@@ -178,37 +187,19 @@ pub returns-in_err-end-clause-asked : goal.returns-in_err-end-clause-asked
 returns-in_err-end-clause-asked g c =
     let at = goal.at.returns-in_err-end-clause-asked g c in
     let begins = begun g at.In_ok-replay (few g at.After-as_slice) (first g at.After-count_before-before) in
-    asked g at.After-follow begins.all
+    asked g at.After-follow (few g at.After-as_slice) (first g at.After-count_before-before) begins
 
 pub returns-in_err-prepared-clause-asked : goal.returns-in_err-prepared-clause-asked
 returns-in_err-prepared-clause-asked g c =
     let at = goal.at.returns-in_err-prepared-clause-asked g c in
     let begins = begun g at.In_ok-replay (few g at.After-as_slice) (first g at.After-count_before-before) in
-    asked g at.After-follow begins.all
+    asked g at.After-follow (few g at.After-as_slice) (first g at.After-count_before-before) begins
 
 pub returns-clause-asked : goal.returns-clause-asked
 returns-clause-asked g c =
     let at = goal.at.returns-clause-asked g c in
     let begins = begun g at.In_ok-replay (few g at.After-as_slice) (first g at.After-count_before-before) in
-    asked g at.After-follow begins.all
-
-pub returns-in_err-end-clause-asked_after : goal.returns-in_err-end-clause-asked_after
-returns-in_err-end-clause-asked_after g c =
-    let at = goal.at.returns-in_err-end-clause-asked_after g c in
-    let begins = begun g at.In_ok-replay (few g at.After-as_slice) (first g at.After-count_before-before) in
-    asked-following c.requires.follows (few g at.After-as_slice) (first g at.After-count_before-before) c.in_ok-replay.replay begins _ _ c.follow.ensures.asked
-
-pub returns-in_err-prepared-clause-asked_after : goal.returns-in_err-prepared-clause-asked_after
-returns-in_err-prepared-clause-asked_after g c =
-    let at = goal.at.returns-in_err-prepared-clause-asked_after g c in
-    let begins = begun g at.In_ok-replay (few g at.After-as_slice) (first g at.After-count_before-before) in
-    asked-following c.requires.follows (few g at.After-as_slice) (first g at.After-count_before-before) c.in_ok-replay.replay begins _ _ c.follow.ensures.asked
-
-pub returns-clause-asked_after : goal.returns-clause-asked_after
-returns-clause-asked_after g c =
-    let at = goal.at.returns-clause-asked_after g c in
-    let begins = begun g at.In_ok-replay (few g at.After-as_slice) (first g at.After-count_before-before) in
-    asked-following c.requires.follows (few g at.After-as_slice) (first g at.After-count_before-before) c.in_ok-replay.replay begins _ _ c.follow.ensures.asked
+    asked g at.After-follow (few g at.After-as_slice) (first g at.After-count_before-before) begins
 
 pub prepare-requires : goal.prepare-requires
 prepare-requires g c =
@@ -230,22 +221,6 @@ commit-requires-clause-following g c =
     let ready = ended.ready _ (record { tableau = refl; output = refl; observables = refl; strings = refl; window = refl; checkpoints = refl }) c.observables.result c.in_ok-prepared.prepared c.in_ok-prepared.ensures.prepared in
     ready.following c.prepare.new.self c.prepare.ensures.unchanged
 
-pub returns-clause-kept : goal.returns-clause-kept
-returns-clause-kept g c =
-    let at = goal.at.returns-clause-kept g c in
-    let begins = begun g at.In_ok-replay (few g at.After-as_slice) (first g at.After-count_before-before) in
-    let ended = end_of g at.In_ok-end c.requires.follows (few g at.After-as_slice) (first g at.After-count_before-before) begins (following g at.After-as_slice-3) in
-    let ready = ended.ready _ (record { tableau = refl; output = refl; observables = refl; strings = refl; window = refl; checkpoints = refl }) c.observables.result c.in_ok-prepared.prepared c.in_ok-prepared.ensures.prepared in
-    subst (λ count. IsRecording c.args.self.now.tableau.qubits (g.C.Coins.sequence c.args.coins.now) c.args.stride (unroll (circuit_items c.args.circuit.now)) count c.commit.new.self)
-    c.observables.ensures.value
-    (ready.kept c.prepare.new.self c.prepare.ensures.unchanged (fitting g at.After-as_slice begins.distinct) c.commit.new.self c.commit.ensures.committed)
-
-pub returns-clause-distinct : goal.returns-clause-distinct
-returns-clause-distinct g c =
-    let at = goal.at.returns-clause-distinct g c in
-    let begins = begun g at.In_ok-replay (few g at.After-as_slice) (first g at.After-count_before-before) in
-    begins.distinct
-
 pub returns-clause-qubits : goal.returns-clause-qubits
 returns-clause-qubits g c =
     let at = goal.at.returns-clause-qubits g c in
@@ -254,34 +229,32 @@ returns-clause-qubits g c =
     let ready = ended.ready _ (record { tableau = refl; output = refl; observables = refl; strings = refl; window = refl; checkpoints = refl }) c.observables.result c.in_ok-prepared.prepared c.in_ok-prepared.ensures.prepared in
     (ready.kept c.prepare.new.self c.prepare.ensures.unchanged (fitting g at.After-as_slice begins.distinct) c.commit.new.self c.commit.ensures.committed).qubits
 
-pub returns-clause-asks_free : goal.returns-clause-asks_free
-returns-clause-asks_free g c =
-    let at = goal.at.returns-clause-asks_free g c in
+pub returns-clause-followed : goal.returns-clause-followed
+returns-clause-followed g c =
+    let at = goal.at.returns-clause-followed g c in
     let begins = begun g at.In_ok-replay (few g at.After-as_slice) (first g at.After-count_before-before) in
     let ended = end_of g at.In_ok-end c.requires.follows (few g at.After-as_slice) (first g at.After-count_before-before) begins (following g at.After-as_slice-3) in
     let ready = ended.ready _ (record { tableau = refl; output = refl; observables = refl; strings = refl; window = refl; checkpoints = refl }) c.observables.result c.in_ok-prepared.prepared c.in_ok-prepared.ensures.prepared in
-    let asks = c.in_ok-end.ensures.costs.asks_free in
-    omega (arith, asks, ready.flags c.prepare.new.self c.prepare.ensures.unchanged c.commit.new.self c.commit.ensures.committed)
-
-pub returns-clause-applied : goal.returns-clause-applied
-returns-clause-applied g c =
-    let at = goal.at.returns-clause-applied g c in
-    let begins = begun g at.In_ok-replay (few g at.After-as_slice) (first g at.After-count_before-before) in
-    let ended = end_of g at.In_ok-end c.requires.follows (few g at.After-as_slice) (first g at.After-count_before-before) begins (following g at.After-as_slice-3) in
-    ended.applied _ (followed g at.After-place_of-place (few g at.After-as_slice) ended.order)
-
-pub returns-clause-few : goal.returns-clause-few
-returns-clause-few g c =
-    let at = goal.at.returns-clause-few g c in
-    let begins = begun g at.In_ok-replay (few g at.After-as_slice) (first g at.After-count_before-before) in
-    λ xs count far kept span agree.
-    let ended = end_of g at.In_ok-end (record { old = xs; count = count; kept = kept; span = span; differ = tt }) (few g at.After-as_slice) (first g at.After-count_before-before) begins (following g at.After-as_slice-3) in
-    ended.few _ (followed g at.After-place_of-place (few g at.After-as_slice) ended.order) (seen-soon (g.C.Coins.sequence c.args.coins.now) (planned c.steps.result c.args.stride c.args.span c.max.result c.len.result c.args.self.now.window) c.follow.new.self.step begins.qubits begins.all c.as_slice-3.ensures.value refl c.in_ok-end.ensures.ended.soon) far agree
-
-pub returns-clause-counted : goal.returns-clause-counted
-returns-clause-counted g c =
-    let at = goal.at.returns-clause-counted g c in
-    let begins = begun g at.In_ok-replay (few g at.After-as_slice) (first g at.After-count_before-before) in
-    λ xs count kept span.
-    let ended = end_of g at.In_ok-end (record { old = xs; count = count; kept = kept; span = span; differ = tt }) (few g at.After-as_slice) (first g at.After-count_before-before) begins (following g at.After-as_slice-3) in
-    ended.counted _ (followed g at.After-place_of-place (few g at.After-as_slice) ended.order) (seen-soon (g.C.Coins.sequence c.args.coins.now) (planned c.steps.result c.args.stride c.args.span c.max.result c.len.result c.args.self.now.window) c.follow.new.self.step begins.qubits begins.all c.as_slice-3.ensures.value refl c.in_ok-end.ensures.ended.soon)
+    let took = followed g at.After-place_of-place (few g at.After-as_slice) ended.order begins.applied begins.by_frame in
+    let soon =
+    seen-soon (g.C.Coins.sequence c.args.coins.now) (planned c.steps.result c.args.stride c.args.span c.max.result c.len.result c.args.self.now.window) c.follow.new.self.step begins.qubits begins.all
+    c.as_slice-3.ensures.value refl c.in_ok-end.ensures.ended.soon in
+    let costs = c.in_ok-end.ensures.costs in
+    let order = c.requires.follows.span.new_order in
+    record {
+      kept =
+          subst (λ count. IsRecording c.args.self.now.tableau.qubits (g.C.Coins.sequence c.args.coins.now) c.args.stride (unroll (circuit_items c.args.circuit.now)) count c.commit.new.self)
+          c.observables.ensures.value
+          (ready.kept c.prepare.new.self c.prepare.ensures.unchanged (fitting g at.After-as_slice begins.distinct) c.commit.new.self c.commit.ensures.committed);
+      distinct = begins.distinct;
+      way = record {
+        most = ended.applied _ took;
+        few = λ xs count far kept span agree.
+            (end_of g at.In_ok-end (record { old = xs; count = count; kept = kept; span = span; differ = tt }) (few g at.After-as_slice) (first g at.After-count_before-before) begins (following g at.After-as_slice-3)).few _ took soon far agree;
+        counted = λ xs count kept span.
+            (end_of g at.In_ok-end (record { old = xs; count = count; kept = kept; span = span; differ = tt }) (few g at.After-as_slice) (first g at.After-count_before-before) begins (following g at.After-as_slice-3)).counted _ took soon;
+      };
+      tried = omega (arith, c.in_ok-end.ensures.tried, c.requires.tried, c.steps.ensures.value, few g at.After-as_slice, order);
+      asks = omega (arith, costs.asks, begins.applied);
+      asks_free = omega (arith, costs.asks_free, ready.flags c.prepare.new.self c.prepare.ensures.unchanged c.commit.new.self c.commit.ensures.committed);
+    }
