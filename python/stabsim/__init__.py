@@ -12,7 +12,7 @@ Everything is computed by the program, which is found by the variable STABSIM, i
 package adds: what it makes of Stim's text, error models and their samples. docs/use/python.md of the repository begins with examples.
 
 Modules lie in folders by subject, and each folder begins with a page on what is in it. A module imports from its own folder and from those
-before it alone, except for types, in this order: `errors`, `checking` and `program` beside this page, `formats`, `text`, `shots`, `questions`,
+before it alone, except for types, in this order: `errors`, `checking`, `program` and `bars` beside this page, `formats`, `text`, `shots`, `questions`,
 `noise`, `collecting`, `session`, `diagrams`, `circuit`, `page`, and the commands beside this page. `codes` imports `checking` alone.
 """
 

@@ -6,6 +6,7 @@ import signal
 import stat
 import subprocess
 import sys
+from collections.abc import Sequence
 
 PACKAGE = pathlib.Path(__file__).resolve().parent
 HELPING = {"--help", "-h", "help"}
@@ -14,11 +15,11 @@ HELPING = {"--help", "-h", "help"}
 MOST_BYTES = 1 << 20
 
 
-def run_program() -> int:
-    """Runs the program that STABSIM names, or else the shipped one, with the words of the command line, in place of this process. If its
-    output goes into a pipe, this process passes it on: a pipe that is closed then ends the command without a word, as it ends other
+def run_program(given: Sequence[str] | None = None) -> int:
+    """Runs the program that STABSIM names, or else the shipped one, with these words or those of the command line, in place of this process.
+    If its output goes into a pipe, this process passes it on: a pipe that is closed then ends the command without a word, as it ends other
     commands."""
-    program, words = chosen_program(), ["stabsim", *sys.argv[1:]]
+    program, words = chosen_program(), ["stabsim", *(sys.argv[1:] if given is None else given)]
     if not program:
         return 2
     if HELPING.intersection(words):

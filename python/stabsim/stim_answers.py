@@ -2,6 +2,7 @@
 
 import argparse
 import contextlib
+import itertools
 import pathlib
 import sys
 from collections.abc import Iterable, Iterator
@@ -11,9 +12,9 @@ import numpy as np
 from numpy.typing import NDArray
 
 from stabsim import codes, program
-from stabsim.circuit.circuit import from_stim
+from stabsim.circuit.circuit import Circuit, from_stim
 from stabsim.circuit.measured import m2d
-from stabsim.diagrams import Kind
+from stabsim.diagrams import OF_TICKS, Kind
 from stabsim.formats import formats
 from stabsim.noise import drawing
 from stabsim.noise.models import ErrorModel, error_model
@@ -31,10 +32,11 @@ TASKS = {
 # Types of pictures, by Stim's names.
 KINDS: dict[str, Kind] = {
     "timeline-svg": "timeline", "timeslice-svg": "timeslice", "time-slice-svg": "timeslice", "detslice-svg": "detslice",
-    "detector-slice-svg": "detslice", "matchgraph-svg": "matchgraph", "match-graph-svg": "matchgraph",
+    "detector-slice-svg": "detslice", "detslice-with-ops-svg": "detslice-with-ops", "time+detector-slice-svg": "detslice-with-ops",
+    "matchgraph-svg": "matchgraph", "match-graph-svg": "matchgraph",
 }
-# How many shots are drawn together.
-TOGETHER = 8192
+# How many shots are drawn together, and how many bits of shots with noise if more than a block is.
+TOGETHER, MOST_BITS = 8192, 1 << 26
 
 
 def bytes_in(path: str | None) -> bytes:
@@ -92,6 +94,38 @@ def write_shots(given: argparse.Namespace, shots: Iterable[tuple[Bits, Bits]], i
             if alone:
                 alone.write(formats.WRITERS[given.obs_out_format](observables, formats.kinds_of(0, 0, observables.shape[1])))
         out.flush()
+
+
+def draw(given: argparse.Namespace, text: str) -> None:
+    """The records of shots with noise, or their detectors, perhaps with observables after them."""
+    if given.out_format == "ptb64":
+        formats.check_groups(given.shots)
+    shots = shots_of(given, from_stim(text))
+    # If shots are refused, an older file stays.
+    first = next(shots, b"")
+    with contextlib.ExitStack() as files:
+        out: BinaryIO = sys.stdout.buffer if given.out is None else files.enter_context(open(given.out, "wb"))
+        for written in itertools.chain([first], shots):
+            out.write(written)
+        out.flush()
+
+
+def shots_of(given: argparse.Namespace, circuit: Circuit) -> Iterator[bytes]:
+    """Shots as they are written, a few at a time."""
+    write, seeds = formats.WRITERS[given.out_format], {"seed": given.seed, "first_shot": given.first_shot}
+    records, detectors, observables = circuit.widths()
+    if given.command == "sample":
+        kinds = formats.kinds_of(records, 0, 0)
+        return (write(some, kinds) for some in circuit.iter_sample(given.shots, together(records), **seeds))
+    kinds = formats.kinds_of(0, detectors, observables * given.append_observables)
+    width = sum(kinds.values())
+    pairs = circuit.iter_detect(given.shots, together(detectors + observables), **seeds)
+    return (write(np.append(*both, axis=1)[:, :width], kinds) for both in pairs)
+
+
+def together(width: int) -> int:
+    """How many shots of this many bits are drawn together: whole blocks, of which a table has at most MOST_BITS if it can."""
+    return drawing.BLOCK * max(1, min(TOGETHER, MOST_BITS // max(width, 1)) // drawing.BLOCK)
 
 
 def analyze_errors(given: argparse.Namespace) -> None:
@@ -167,8 +201,7 @@ def diagram(given: argparse.Namespace) -> None:
     """A picture of a circuit."""
     noisy = from_stim(text_in(given.input))
     kind, circuit = KINDS[given.type], noisy.circuit
-    is_of_ticks = kind in ("timeslice", "detslice")
-    ticks = ticks_of(given.tick) if given.tick else range(circuit.num_ticks + 1) if is_of_ticks else None
+    ticks = ticks_of(given.tick) if given.tick else range(circuit.num_ticks + 1) if kind in OF_TICKS else None
     detectors = None
     if given.filter_coords:
         detectors = named_by(given.filter_coords, circuit.detector_coordinates())

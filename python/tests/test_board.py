@@ -227,17 +227,7 @@ def test_a_qubit_that_the_session_has_not_is_explained(board, item):
     assert refused.value.number == 6 and "0 to 25" in refused.value.explanation
 
 
-def test_a_noisy_file_is_opened_without_its_noise_and_says_so(tmp_path):
-    file = tmp_path / "noisy.stim"
-    file.write_text("R 0 1\nDEPOLARIZE2(0.01) 0 1\nM(0.02) 0 1\nDETECTOR rec[-1]\n")
-    board = Board(opened_of(str(file)))
-    opened = board.opened()
-    board.close()
-    assert opened["notice"].startswith("The noise of 2 lines is left out")
-    assert opened["circuit"] == "R 0 1\nM 0 1\nDETECTOR rec[-1]\n"
-
-
-def test_of_a_file_without_noise_nothing_is_said(board):
+def test_of_a_file_that_is_read_as_it_is_nothing_is_said(board):
     assert board.opened()["notice"] == ""
 
 

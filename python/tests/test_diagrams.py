@@ -280,6 +280,16 @@ def test_a_picture_is_saved_as_svg_alone(tmp_path):
     assert [file.name for file in tmp_path.iterdir()] == ["x.SVG"]
 
 
+def test_what_acts_at_a_tick_is_drawn_over_the_regions_there():
+    c = stabsim.Circuit("R 0 1\nTICK\nCX 0 1\nH 1\nTICK\nH 1\nM 1\nDETECTOR rec[-1]\nM 0\nDETECTOR rec[-1]")
+    both, regions, acting = (c.diagram(kind, tick=1, **some) for kind, some in (
+        ("detslice-with-ops", {"detectors": ["D0"]}), ("detslice", {"detectors": ["D0"]}), ("timeslice", {})))
+    # Two layers, each over the same regions; qubits have their numbers once in each.
+    both, regions, acting = ([it.text for it in its.elements if isinstance(it, elements.Words)] for its in (both, regions, acting))
+    assert both.count("0") == both.count("1") == 2 and both.count("D0") == 2
+    assert sorted(both) == sorted(acting + 2 * [it for it in regions if it not in ("0", "1", "at tick 1")])
+
+
 def test_what_is_asked_wrongly_is_said():
     with pytest.raises(IndexError, match="tick 99 is not from 0 to "):
         REPETITION.diagram("timeslice", tick=99)

@@ -127,16 +127,17 @@ def test_a_rule_keeps_the_records_of_heralded_errors():
     assert circuit.text == "HERALDED_ERASE(0) 0\nHERALDED_ERASE(0.25) 1\nM 0\n"
 
 
-def test_a_page_saves_the_records_of_heralded_errors_without_their_noise(tmp_path):
+def test_a_page_saves_heralded_errors_as_they_were_given(tmp_path):
     file = tmp_path / "heralded.stim"
     file.write_text("R 0\nH_XY 1\nHERALDED_ERASE(0.1) 0 1\nM 0 # last\n")
     board = Board(opened_of(str(file)))
     opened = board.opened()
     written = board.written()
     board.close()
-    assert "The noise of 1 line is left out" in opened["notice"]
-    assert opened["circuit"] == "R 0\nS 1\nY 1\nR 2\nMR 2\nMR 2\nM 0\n"
-    assert written == "R 0\nH_XY 1\nR 2\nMR 2\nMR 2\nM 0 # last\n"
+    assert opened["notice"] == "2 lines are rewritten."
+    assert [line for line in opened["circuit"].splitlines() if "CORRELATED" not in line and not line.startswith("E(")] \
+        == ["R 0", "S 1", "Y 1", "R 2", "MR 2", "MR 2", "M 0"]
+    assert written == file.read_text()
 
 
 # Circuits in which qubit 1 makes the records of item 0, with that item as a refusal names it.

@@ -35,7 +35,7 @@ def test_undo_of_the_detector_that_is_chosen_lets_go_of_it(open_page):
     page.wait(lambda: page.ask("page.shown.bit") == "D0")
     undo(page)
     assert page.ask("page.shown.bit") is None and "No detector chosen" in page.find("about-detector").text
-    assert page.find("numbers").text.endswith("0 detectors · 0 observables") and banner(page) == []
+    assert "· 0 detectors · 0 observables ·" in page.find("numbers").text and banner(page) == []
 
 
 def test_undo_of_the_block_that_holds_the_chosen_item_leaves_its_place_chosen(open_page):
@@ -217,3 +217,12 @@ def test_a_circuit_of_thirteen_megabytes_is_opened_and_said_to_be_read(open_page
     page.wait(lambda: page.history() == ["opened", "open great.stim"])
     page.wait(lambda: page.find("message").text.startswith("great.stim is opened"))
     assert page.browser.execute_script("return said[0]") == "great.stim: 13.0 MB are being read …"
+
+
+def test_a_bit_that_is_not_there_is_not_chosen(open_page):
+    page = open_page("R 0\nTICK\nM 0\nDETECTOR rec[-1]\n")
+    page.browser.get_log("browser")
+    for bit, found in (("D0", "D0"), ("D7", None), ("L0", None)):
+        page.ask("page.shown.chooseBit(words[0])", bit)
+        assert page.ask("page.shown.bit") == found
+    assert "No detector chosen" in page.find("about-detector").text and page.browser.get_log("browser") == []

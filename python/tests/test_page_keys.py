@@ -267,3 +267,43 @@ def test_the_timeline_says_where_it_is(page):
     page.go_to(1)
     slider = page.find("timeline")
     assert [slider.get_attribute(f"aria-{name}") for name in ("valuemin", "valuemax", "valuenow", "valuetext")] == ["0", "2", "1", "tick 1, outside blocks"]
+
+
+SHORT = "R 0 1\nTICK\nM 0 1\nDETECTOR rec[-1]\n"
+# What is opened, and what has the focus then.
+PLACES = {
+    "the picture": ("picture", "#picture"), "the text": ("text", "#text"), "the entry line": ("words", "#words"), "the field for search": ("search-words", None),
+    "the circuit as text": ("source-text", None), "a button": ("undo", None), "the number that is asked for": ("asked", None), "the list of keys": ("keys", None),
+    "a menu": ("choice", None),
+}
+
+
+@pytest.mark.parametrize("place", PLACES)
+def test_ctrl_s_saves_from_everywhere(open_page, tmp_path, place):
+    saved = tmp_path / "saved.stim"
+    page = open_page(SHORT, "--save", str(saved))
+    name, selector = PLACES[place]
+    page.choose_qubit(0)
+    if selector:
+        page.focus(selector)
+    elif name == "search-words":
+        page.press("/")
+    elif name == "source-text":
+        page.click("#as-text")
+        page.wait(lambda: page.focused() == name)
+    elif name == "undo":
+        page.press("x")
+        page.wait(lambda: len(page.history()) == 2)
+        page.focus("#undo")
+    elif name == "asked":
+        page.press("o")
+    elif name == "keys":
+        page.press("?")
+    else:
+        page.press(Keys.ENTER)
+    page.wait(lambda: page.browser.execute_script("return document.getElementById(arguments[0]).contains(document.activeElement)", name))
+    if name == "source-text":
+        page.press("H 1", Keys.ENTER)
+    page.press("s", held=(Keys.CONTROL,))
+    page.wait(saved.exists)
+    assert saved.read_text() == {"undo": page.circuit(), "source-text": "H 1\n" + SHORT}.get(name, SHORT)

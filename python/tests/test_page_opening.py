@@ -59,22 +59,21 @@ def test_room_is_made_for_some_more_qubits(named, now, room):
 def test_another_circuit_is_an_entry_that_is_taken_back(board):
     board.edit([Edit("insert", "0", "X 3")])
     board.mark()
-    told = board.open(opened("M 0\nX_ERROR(0.1) 0\n", "other.stim"))
-    assert (told["event"], told["name"], told["circuit"]) == ("opened", "other.stim", "M 0\n")
-    assert told["notice"].startswith("The noise of 1 line") and [entry["text"] for entry in told["entries"]] == ["insert 0 X 3", "open other.stim"]
+    told = board.open(opened("ISWAP 0 1\nM 0\n", "other.stim"))
+    assert (told["event"], told["name"], told["circuit"]) == ("opened", "other.stim", "SWAP 0 1\nCZ 0 1\nS 0 1\nM 0\n")
+    assert told["notice"] == "1 line is rewritten." and [entry["text"] for entry in told["entries"]] == ["insert 0 X 3", "open other.stim"]
     board.edit([Edit("insert", "0", "X 0")])
     # A script begins with the circuit that was opened last.
     assert board.script() == "insert 0 X 0\n"
     back = board.go(1)
     assert (back["event"], back["name"], back["notice"], back["circuit"]) == ("opened", "coins.stim", "", "X 3\n" + COINS)
-    assert board.go(3)["circuit"] == "X 0\nM 0\n"
+    assert board.go(3)["circuit"] == "X 0\nSWAP 0 1\nCZ 0 1\nS 0 1\nM 0\n"
 
 
 def test_of_lines_that_became_others_each_is_told():
     source = opened("R 0 1 2\nX_ERROR(0.1) 0\n# as it was\nMXX 0 1\nSQRT_XX 0 1\nM(0.01) 2\n")
-    assert source.notice == "2 lines are rewritten. The noise of 2 lines is left out: what is shown and saved is the circuit without it."
+    assert source.notice == "2 lines are rewritten." and len(source.rewritten) == 2
     assert source.rewritten[0] == "line 4: MXX 0 1 is MPP X0*X1" and source.rewritten[1].startswith("line 5: SQRT_XX 0 1 is ")
-    assert source.left_out[0] == "line 2: X_ERROR(0.1) 0"
     assert opened("R 0\nM 0\n").notice == ""
 
 

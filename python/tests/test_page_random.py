@@ -12,7 +12,8 @@ COIN = "RX 0\nR 1 2\nTICK\nM 0 1\nDETECTOR rec[-1]\nDETECTOR rec[-2]\nMPP X0*Z1 
 NESTED = "R 3 5\nREPEAT 2 {\n    REPEAT 2 {\n        H 3\n        TICK\n    }\n    M 3\n}\n"
 # Gates that the program reads as others, with comments.
 WRITTEN = "# two\nRX 0 1\nTICK\nISWAP 0 1 # and more\nREPEAT 2 {\n    H_XY 0\n    MXX 0 1\n    TICK\n}\nDETECTOR rec[-1] rec[-2]\n"
-CIRCUITS = (BLOCK, codes.surface_code(3, 3), COIN, NESTED, WRITTEN)
+NOISY = "R 0 1\nX_ERROR(0.1) 0 1\nTICK\nCX 0 1\nDEPOLARIZE2(0.01) 0 1\nREPEAT 2 {\n    TICK\n    MR(0.02) 1\n    E(0.1) X0 Z1\n    DETECTOR rec[-1]\n}\nHERALDED_ERASE(0.1) 0\nM 0\n"
+CIRCUITS = (BLOCK, codes.surface_code(3, 3), COIN, NESTED, WRITTEN, NOISY)
 RUNS, EVENTS = 20, 300
 # Lets go of all that a page loaded anew does not have, and answers what is chosen.
 LET_GO = """(() => {
@@ -28,6 +29,7 @@ LET_GO = """(() => {
   shown.showSince('edit');
   shown.takeFaces(true);
   shown.takeWires(false);
+  views.text.takeWrap(false);
   document.documentElement.removeAttribute('style');
   document.querySelector('main').dataset.pane === 'circuit' || document.querySelector('#tabs button').click();
   const kept = { chosen: shown.chosen, moment: shown.moment, bit: shown.bit, theme: document.documentElement.dataset.theme };
@@ -92,7 +94,7 @@ SHOWN = """(() => {
   const { shown, views } = page;
   const text = (id) => document.getElementById(id).textContent;
   return {
-    title: document.title, numbers: text('numbers'), name: text('name'), items: text('items-said'), moment: text('moment-said') + text('round-said'),
+    title: document.title, numbers: text('numbers'), name: text('name'), moment: text('moment-said') + text('round-said'),
     rows: [...document.querySelectorAll('#text .row')].map((it) => it.dataset.path + ' ' + it.className + ' ' + it.textContent),
     inspector: text('inspector'), history: [...document.querySelectorAll('#edits li')].map((it) => it.className + it.textContent), layout: JSON.stringify(views.layout.elements()),
     timeline: JSON.stringify(views.timeline.elements()), undo: document.getElementById('undo').disabled, redo: document.getElementById('redo').disabled,

@@ -6,23 +6,28 @@ import stabsim
 from browsing import Keys, needs_browser
 from stabsim import codes
 from stabsim.collecting import matching
-from stabsim.page.rate_process import MODELS, counted
+from stabsim.page.noise import MODELS, OWN
+from stabsim.page.rate_process import counted
 
 CODE = codes.repetition_code(3, 1)
 
 
-def test_the_rate_of_a_repetition_code_is_that_of_a_vote():
+NOISY = str(stabsim.NoiseModel.code_capacity(0.15).on(CODE))
+
+
+@pytest.mark.parametrize("text, model, chance", [(CODE, "code capacity", 0.15), (NOISY, OWN, 0), (NOISY.replace("0.15", "0.9"), "code capacity", 0.15)])
+def test_the_rate_of_a_repetition_code_is_that_of_a_vote(text, model, chance):
     # Each of three qubits is flipped by X or Y, two thirds of 0.15, and a vote is wrong if two or three are.
     flipped = 0.1
     wrong = 3 * flipped**2 * (1 - flipped) + flipped**3
-    *_, last = counted(CODE, "code capacity", 0.15)
+    *_, last = counted(text, model, chance)
     low, best, high = last["rate"]
     assert last["errors"] >= 500 and last["shots"] % 1024 == 0
     assert low < wrong < high and best == last["errors"] / last["shots"] and best == pytest.approx(wrong, rel=0.15)
 
 
 @pytest.mark.parametrize("text, model, said", [
-    (CODE, "none", "there is no model none"),
+    (CODE, "none", "there is no model none"), (CODE, OWN, "the circuit has no noise"),
     ("R 0\nM 0\nDETECTOR rec[-1]\n", "SD6", "no observable"),
     (CODE, "EM3", "CX"),
 ])
@@ -53,13 +58,13 @@ def test_all_models_of_the_literature_are_offered():
 def test_the_rate_is_counted_in_the_background_and_kept_as_that_before_an_edit(open_page):
     page = open_page(CODE)
     offers = "#choice button"
-    page.click("#about-rate .ask")
+    page.click("#about-rate .ask:last-child")
     page.wait(lambda: [it.split(":")[0] for it in page.texts(offers)] == list(MODELS))
     page.press(*[Keys.ARROW_DOWN] * list(MODELS).index("code capacity"), Keys.ENTER)
     page.wait(lambda: page.focused() == "asked")
     page.find("asked").clear()
     page.find("asked").send_keys("0.15", Keys.ENTER)
-    page.wait(lambda: page.texts("#about-rate .ask") == ["Count ▾"] and "shots wrong" in page.find("about-rate").text)
+    page.wait(lambda: page.texts("#about-rate .ask:last-child") == ["Count ▾"] and "shots wrong" in page.find("about-rate").text)
     said = page.texts("#about-rate p")[0]
     assert said.endswith(" shots wrong · code capacity 0.15") and float(page.texts("#about-rate h3")[0].removeprefix("Rate ")) == pytest.approx(0.028, rel=0.15)
     page.type_on(0, "x")
@@ -71,9 +76,9 @@ def test_counting_is_stopped_and_what_has_no_rate_says_so(open_page):
     # So seldom an error takes long to be met.
     page = open_page(codes.surface_code(3, 3))
     page.ask("page.link.ask({ask: 'rate', model: 'SD6', chance: 0.000001})")
-    page.wait(lambda: page.texts("#about-rate .ask") == ["Stop"])
+    page.wait(lambda: page.texts("#about-rate .ask:last-child") == ["Stop"])
     page.wait(lambda: " of " in page.find("about-rate").text)
-    page.click("#about-rate .ask")
-    page.wait(lambda: page.texts("#about-rate .ask") == ["Count ▾"] and " of " in page.find("about-rate").text)
+    page.click("#about-rate .ask:last-child")
+    page.wait(lambda: page.texts("#about-rate .ask:last-child") == ["Count ▾"] and " of " in page.find("about-rate").text)
     page.ask("page.link.ask({ask: 'rate', model: 'EM3', chance: 0.001})")
-    page.wait(lambda: "CX" in page.find("about-rate").text and page.texts("#about-rate .ask") == ["Count ▾"])
+    page.wait(lambda: "CX" in page.find("about-rate").text and page.texts("#about-rate .ask:last-child") == ["Count ▾"])

@@ -2,6 +2,7 @@
 
 import os
 
+import pytest
 import stabsim
 from browsing import Keys, needs_browser
 from stabsim import codes
@@ -169,18 +170,19 @@ def is_running(file):
     return True
 
 
-def test_a_long_search_says_how_far_it_is_and_can_be_ended(open_page, tmp_path, monkeypatch):
+@pytest.mark.parametrize("kind, more", [("everywhere", {}), ("own noise", {"noise": codes.Noise.uniform(0.01)})])
+def test_a_long_search_says_how_far_it_is_and_can_be_ended(open_page, tmp_path, monkeypatch, kind, more):
     pid = tmp_path / "pid"
     slow = tmp_path / "slow"
     slow.write_text(SLOW.format(program=stabsim.find_program(), pid=pid))
     slow.chmod(0o755)
     monkeypatch.setitem(os.environ, "STABSIM", str(slow))
-    page = open_page(codes.surface_code(3, 2))
+    page = open_page(codes.surface_code(3, 2, **more))
     ask_distance(page)
     page.wait(lambda: "no set of 1" in about(page, "distance") and is_running(pid))
     # The button is the end, also if more is said while it is pressed.
     page.point_at("#about-distance .ask").click_and_hold().perform()
-    page.ask("page.views.distance.take({state: 'running', is_marked: false, said: 'no set of 2', errors: []}, page.shown.state.items)")
+    page.ask("page.views.distance.take({state: 'running', kind: words[0], said: 'no set of 2', errors: []}, page.shown.state.items)", kind)
     page.point_at("#about-distance .ask").release().perform()
     page.wait(lambda: "the search was stopped" in about(page, "distance") and not is_running(pid))
     ask_distance(page)
@@ -188,4 +190,4 @@ def test_a_long_search_says_how_far_it_is_and_can_be_ended(open_page, tmp_path, 
     # So is an edit, since the circuit is another.
     page.go_to(6)
     page.type_on(10, "x")
-    page.wait(lambda: len(page.history()) == 2 and not is_running(pid) and page.texts("#about-distance .ask") == ["Compute"])
+    page.wait(lambda: len(page.history()) == 2 and not is_running(pid) and page.texts("#about-distance .ask") == ["Compute", "▾"])

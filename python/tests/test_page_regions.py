@@ -1,4 +1,4 @@
-"""What the page shows of regions, of the time of detectors, of refusals and of noise, in a browser."""
+"""What the page shows of regions, of the time of detectors, and of refusals, in a browser."""
 
 import pytest
 from browsing import Keys, needs_browser
@@ -100,15 +100,15 @@ def test_a_refusal_is_explained_where_there_is_no_form(page):
     assert "item 5" in page.find("message").text
 
 
-def test_what_was_left_out_of_a_noisy_file_stays_in_sight(open_page):
-    page = open_page("R 0\nX_ERROR(0.1) 0\nTICK\nM 0\n")
-    assert page.find("left-out").text.startswith("The noise of 1 line is left out")
+def test_which_lines_were_rewritten_stays_in_sight(open_page):
+    page = open_page("R 0 1\nISWAP 0 1\nTICK\nM 0\n")
+    assert page.find("left-out").text == "1 line is rewritten."
     page.type_on(0, "x")
     page.wait(lambda: len(page.history()) == 2)
     assert page.find("left-out").is_displayed()
 
 
-def test_of_a_file_without_noise_nothing_is_said(page):
+def test_of_a_file_that_is_read_as_it_is_nothing_is_said(page):
     assert not page.find("left-out").is_displayed()
 
 

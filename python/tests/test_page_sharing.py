@@ -21,9 +21,9 @@ def page(open_page):
 def test_a_circuit_is_pasted_and_undo_brings_the_old_one_back(page):
     page.browser.execute_script(
         "const data = new DataTransfer(); data.setData('text', arguments[0]);"
-        "document.body.dispatchEvent(new ClipboardEvent('paste', {clipboardData: data, bubbles: true, cancelable: true}));", "H 5\nX_ERROR(0.1) 5\nM 5\n")
+        "document.body.dispatchEvent(new ClipboardEvent('paste', {clipboardData: data, bubbles: true, cancelable: true}));", "H 5\nXCZ 5 6\nM 5\n")
     page.wait(lambda: page.history() == ["opened", "open pasted.stim"])
-    assert page.circuit() == "H 5\nM 5\n" and page.find("left-out").text.startswith("The noise of 1 line")
+    assert page.circuit() == "H 5\nCX 6 5\nM 5\n" and page.find("left-out").text == "1 line is rewritten."
     page.click("#undo")
     page.wait(lambda: page.circuit() == FOUR)
     assert not page.find("left-out").is_displayed()
@@ -47,9 +47,9 @@ def drop(page, is_taken, **data):
 
 def test_a_circuit_is_dropped_as_a_file_or_as_text(page, tmp_path):
     file = tmp_path / "dropped_file.stim"
-    file.write_text("R 3\nDEPOLARIZE1(0.1) 3\nM 3\n")
+    file.write_text("R 3\nXCZ 3 2\nM 3\n")
     drop(page, lambda: page.history() == ["opened", "open dropped_file.stim"], files=[str(file)])
-    assert page.circuit() == "R 3\nM 3\n" and page.find("left-out").text.startswith("The noise of 1 line")
+    assert page.circuit() == "R 3\nCX 2 3\nM 3\n" and page.find("left-out").text == "1 line is rewritten."
     text = [{"mimeType": "text/plain", "data": "H 2\n"}]
     drop(page, lambda: page.history()[-1] == "open dropped.stim" and page.circuit() == "H 2\n", items=text)
 
@@ -116,6 +116,6 @@ def test_a_refusal_names_the_line_marks_the_word_and_says_what_to_do(page):
 
 def test_what_became_of_lines_is_told_in_one_line_with_a_list(page):
     paste(page, "R 0 1\nX_ERROR(0.1) 0\nMXX 0 1\n")
-    page.wait(lambda: page.find("left-out").text.startswith("1 line is rewritten. The noise of 1 line is left out"))
+    page.wait(lambda: page.find("left-out").text == "1 line is rewritten.")
     page.click("#left-out")
-    page.wait(lambda: page.texts("#choice button") == ["line 3: MXX 0 1 is MPP X0*X1", "line 2: X_ERROR(0.1) 0"])
+    page.wait(lambda: page.texts("#choice button") == ["line 3: MXX 0 1 is MPP X0*X1"])

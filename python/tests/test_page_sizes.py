@@ -75,7 +75,7 @@ HIDDEN_TOOLS = """(() => {
 TOOL_LETTERS = "[...document.querySelectorAll('#palette svg text')].map((it) => [it.textContent, Number(it.getAttribute('font-size'))])"
 
 
-@pytest.mark.parametrize("size", [(1280, 900), (1024, 768), (800, 600), (390, 844), (375, 667)])
+@pytest.mark.parametrize("size", [(1280, 900), (1024, 768), (800, 600), (720, 450), (390, 844), (375, 667)])
 def test_all_tools_are_in_sight_with_letters_that_can_be_read(open_page, size):
     page = open_page(CODE)
     with settled_emulation(page.browser):
@@ -276,6 +276,37 @@ def test_a_long_item_is_seen_whole_and_what_is_refused_of_it_is_in_sight(open_pa
     page.wait(lambda: page.texts("#fault") and page.texts("#fault")[0].endswith("^^^"))
     # Carets are at the end of what is shown.
     assert page.ask("(({scrollLeft, scrollWidth, clientWidth}) => scrollLeft + clientWidth >= scrollWidth - 1 && scrollLeft > 0)(document.getElementById('fault'))")
+
+
+# The rows whose words have no room, and how high each row is.
+CUT_ROWS = """[...document.querySelectorAll('#text .row')].filter((it) => it.scrollHeight > it.clientHeight || it.scrollWidth > it.clientWidth).map((it) => it.dataset.path)"""
+HEIGHTS = "Object.fromEntries([...document.querySelectorAll('#text .row')].map((it) => [it.dataset.path, [it.offsetTop, it.offsetHeight]]))"
+
+
+@pytest.mark.parametrize("size", [(1280, 900), (800, 600)])
+def test_long_items_are_wrapped_in_rows_that_have_room_for_them(open_page, size):
+    page = open_page(CODE)
+    with settled_emulation(page.browser):
+        show(page, *size, 1)
+        assert "17" in page.ask(CUT_ROWS) and {height for _, height in page.ask(HEIGHTS).values()} == {24}
+        page.click("#lines")
+        page.press("l")
+        page.settle()
+        found = page.ask(HEIGHTS)
+        # A folded block says no more than there is room for.
+        assert set(page.ask(CUT_ROWS)) <= {"36", "0+"} and found["17"][1] >= 48
+        tops = sorted(found.values())
+        assert all(top + height == after for (top, height), (after, _) in zip(tops, tops[1:]))
+        # Arrows go from row to row.
+        page.choose("17")
+        page.press(Keys.ARROW_DOWN)
+        assert page.ask("page.views.text.selected") == "18"
+        page.press(Keys.ARROW_UP)
+        assert page.ask("page.views.text.selected") == "17"
+        page.click("#lines")
+        page.press("l")
+        page.settle()
+        assert {height for _, height in page.ask(HEIGHTS).values()} == {24}
 
 
 def test_the_circuit_as_one_text_is_wrapped_until_that_is_switched_off(open_page):

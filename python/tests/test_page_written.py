@@ -64,12 +64,6 @@ def test_lines_beside_an_edit_stay_as_they_were_given(board):
     assert board.written() == TEXT and board.opened()["written"][0] == ("2", 2, "H_XY 0")
 
 
-def test_noise_is_left_out_and_its_lines_stay_else_as_they_were_given():
-    board = Board(opened("R 0 1 # all\nX_ERROR(0.1) 0\nMXX(0.01) 0 1 # both\nM(0.02) 1 # one\n"))
-    assert board.written() == "R 0 1 # all\nMXX 0 1 # both\nM 1 # one\n"
-    board.close()
-
-
 def test_a_text_that_is_applied_is_kept_as_it_is_written_and_undo_brings_the_one_before_back(board):
     board.edit_text(opened(TEXT.replace("# each round", "# all rounds\n  H 0 # more")))
     assert board.written() == TEXT.replace("# each round", "# all rounds\n  H 0 # more")

@@ -152,6 +152,7 @@ def test_explain_errors_names_the_lines_that_make_an_error(tmp_path, wrote):
     (["timeline-svg"], {"kind": "timeline"}), (["match-graph-svg"], {"kind": "matchgraph"}), (["timeslice-svg", "--tick", "1"], {"kind": "timeslice", "tick": 1}),
     (["time-slice-svg"], {"kind": "timeslice", "tick": range(2)}), (["detslice-svg", "--tick", "0:2"], {"kind": "detslice", "tick": range(2)}),
     (["detector-slice-svg", "--tick=1", "--filter_coords", "2,5:L0"], {"kind": "detslice", "tick": 1, "detectors": ["D1", "L0"]}),
+    (["detslice-with-ops-svg", "--tick=1"], {"kind": "detslice-with-ops", "tick": 1}),
     (["detslice-svg", "--tick=1", "--filter_coords", "D0:2"], {"kind": "detslice", "tick": 1, "detectors": ["D0", "D1"]}),
 ])
 def test_diagram_draws_what_the_package_draws(words, asked, wrote):

@@ -19,6 +19,7 @@ from stabsim.errors import Refused, UnsupportedNoise
 from stabsim.formats import bits
 from stabsim.noise.models import ErrorModel, error_model
 from stabsim.noise.noisy_records import RecordNoise, record_noise_of
+from stabsim.noise.pauli_observables import pauli_observables
 from stabsim.questions.coins import CoinTable
 from stabsim.questions.distances import Distance, Letters
 from stabsim.questions.faults import FaultTable
@@ -86,7 +87,7 @@ class Circuit(Described):
         if "known_numbers" in vars(self):
             has = self.known_numbers
             about = f"{has.qubits} qubits, {has.steps} steps, {has.detectors} detectors"
-        noisy = len(self.profile.left_out) if "profile" in vars(self) else 0
+        noisy = self.profile.noisy_lines if "profile" in vars(self) else 0
         lines = "of them" if about.endswith("lines") else f"line{'s' * (noisy > 1)}"
         return f"<stabsim.Circuit: {about}{f', noise in {noisy} {lines}' if noisy else ''}>"
 
@@ -202,6 +203,9 @@ class Circuit(Described):
         if not flips and not self.noise:
             return super().detected(both, width, shots, seed, first_shot, executor, parts, flips)
         shots, first_shot = chunks.checked(shots, first_shot)
+        if not flips and pauli_observables(self.text):
+            # Their records may be random where their sum with the Paulis is not; this refuses such.
+            self.circuit.faults()
         # Without noise all shots are the same, if no coin decides them.
         quiet = bits.unpacked(self.packed("detect_both" if both else "detect", width, 1, seed, 0, None, 1), width)
         flipped = self.flipped(shots, seed, first_shot)[:, :width]
@@ -229,7 +233,7 @@ class Circuit(Described):
                         coins=tuple(coin._replace(path=cut_path(coin.path, self.made)) for coin in bit.coins)) for bit in super().explain()]
 
     def distance(self, *, everywhere: bool = False, letters: Letters = "all", most: int | None = None, graphlike: bool = False,
-                 sure_only: bool = False, count: bool = False) -> Distance:
+                 sure_only: bool = False, count: bool = False, workers: int = 1) -> Distance:
         """The least number of errors that flip an observable and no detector: exact, for any circuit.
 
         Of a circuit with noise, errors are those of the noise: `ErrorModel.distance`, for which chances don't count, so disjoint errors are
@@ -240,6 +244,10 @@ class Circuit(Described):
         flip at most two detectors, after any other gave way to the X and the Z at each of its qubits, which takes less time. count:
         `Distance.count` says how many such sets there are, which takes longer the more there are. Raises stabsim.Refused,
         18 NotDeterministic, as `faults` does; with sure_only random bits are left out.
+
+        workers: how many processes look, for the same answer. One has two seconds; then all look for each further number of errors in
+        turn, a part of the sets each, and each time for fewer ones first. So it pays if a number takes several times as long as the one
+        before it. If tqdm is there, a line on a terminal says how far they are. Ctrl-C ends them. Not beside graphlike or count.
 
         >>> import stabsim
         >>> c = stabsim.Circuit("R 0 1 2\\nI[X] 0 1 2\\nMPP Z0*Z1 Z1*Z2\\nDETECTOR rec[-1]\\nDETECTOR rec[-2]\\nM 0\\nOBSERVABLE_INCLUDE(0) rec[-1]")
@@ -252,12 +260,13 @@ class Circuit(Described):
         ['X0 of item 1', 'X1 of item 1']
         """
         if everywhere or not self.noise:
-            found = super().distance(everywhere=everywhere, letters=letters, most=most, graphlike=graphlike, sure_only=sure_only, count=count)
+            found = super().distance(everywhere=everywhere, letters=letters, most=most, graphlike=graphlike, sure_only=sure_only, count=count,
+                                     workers=workers)
             return replace(found, errors=tuple(replace(error, path=cut_path(error.path, self.made)) for error in found.errors))
         if letters != "all":
             checking.one_of("letters", letters, get_args(Letters))
             raise ValueError(f"letters is {letters!r}: give everywhere=True with it, since errors here are those of the noise")
-        return error_model(self, approximate_disjoint_errors=True, sure_only=sure_only).distance(most=most, graphlike=graphlike, count=count)
+        return error_model(self, approximate_disjoint_errors=True, sure_only=sure_only).distance(most=most, graphlike=graphlike, count=count, workers=workers)
 
     def diagram(self, kind: Kind, *, tick: Ticks | None = None, detectors: Iterable[int | str] | None = None) -> Diagram:
         """A picture, which a notebook shows and `save` writes as SVG, in light and dark colours.
@@ -265,6 +274,7 @@ class Circuit(Described):
         - `timeline`: a wire for each qubit, noise too; a block is drawn once.
         - `timeslice`: what acts on the qubits, where they lie, after the TICK of this number, or with tick=0 from the beginning on.
         - `detslice`: the regions of detectors at that TICK: which Paulis there flip each. detectors: some alone, as 3, "D3" or "L0".
+        - `detslice-with-ops`: both, what acts over the regions.
         - `matchgraph`: detectors, and a line for each error of the noise that flips one or two of them; of a circuit without noise, for each
           single fault of X or Z.
 
@@ -334,8 +344,8 @@ def from_stim(text: str) -> Circuit:
     """Reads a circuit of Stim's, with its noise, and judges it: what `Circuit` does of a text once it is asked something.
 
     Instructions that the program does not read become those that it reads. Raises stabsim.Refused, with the user's line, if
-    something can't be: Pauli targets of observables, which are no records, over 1,024 qubits, or what Stim refuses too.
-    Sweep bits are 0: `with_sweep_bits` gives others.
+    something can't be: over 1,024 qubits, or what Stim refuses too. Sweep bits are 0: `with_sweep_bits` gives others. Pauli targets of
+    observables count in error models, in distances of noise, and in what `detect` draws of it.
 
     >>> import stabsim
     >>> print(stabsim.from_stim("ISWAP 3 5").circuit)

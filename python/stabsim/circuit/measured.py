@@ -71,7 +71,7 @@ def swept(circuit: Circuit, sweep_bits: Bits | Packed, shots: int) -> Bits:
     if len(given) != shots:
         raise ValueError(f"sweep_bits is of {len(given)} shots, and records is of {shots}: give as many")
     text, bit_of_line = as_errors(circuit.text)
-    marks, table = faults_of(judged(text), True, False, {})
+    marks, table, _ = faults_of(judged(text), True)
     flipped = np.zeros((given.shape[1], table.num_detectors + table.num_observables), dtype=np.bool_)
     for source in marks.sources:
         if source.line in bit_of_line:

@@ -2,7 +2,7 @@
 
 import functools
 import pathlib
-from collections.abc import Iterable, Sequence
+from collections.abc import Callable, Iterable, Sequence
 from dataclasses import dataclass, field
 from os import PathLike
 from typing import TYPE_CHECKING, Literal, get_args
@@ -12,7 +12,7 @@ from stabsim.diagrams.elements import Element
 from stabsim.diagrams.matchgraph import Graph, drawn_graph, graph_of, rows_of_faults
 from stabsim.diagrams.places import places_of
 from stabsim.diagrams.regions import marked_text, regions_of
-from stabsim.diagrams.slices import Panel, layer_elements, regions_elements, side_by_side
+from stabsim.diagrams.slices import Panel, faces_elements, layer_elements, regions_elements, side_by_side
 from stabsim.diagrams.svg import Theme, svg_of
 from stabsim.diagrams.ticks import Placed, layers_of, numbers_of, placed
 from stabsim.diagrams.timeline import drawn_timeline, qubits_of
@@ -22,7 +22,8 @@ if TYPE_CHECKING:
     from stabsim.circuit.circuit import Circuit
     from stabsim.noise.models import ErrorModel
 
-Kind = Literal["timeline", "timeslice", "detslice", "matchgraph"]
+Kind = Literal["timeline", "timeslice", "detslice", "detslice-with-ops", "matchgraph"]
+OF_TICKS = ("timeslice", "detslice", "detslice-with-ops")
 Ticks = int | range | Sequence[int]
 
 
@@ -80,16 +81,23 @@ def diagram_of(circuit: "Circuit", kind: Kind, tick: Ticks | None, detectors: It
     checking.one_of("kind", kind, get_args(Kind))
     some = None if detectors is None else checking.several("detectors", detectors, "[3, 'D4', 'L0']")
     circuit.numbers()
-    if kind in ("timeslice", "detslice") and tick is None:
+    if kind in OF_TICKS and tick is None:
         raise ValueError(f"a {kind} is of a tick: tick=3")
-    if kind in ("timeline", "matchgraph") and tick is not None or kind != "detslice" and detectors is not None:
+    if kind not in OF_TICKS and tick is not None or not kind.startswith("detslice") and detectors is not None:
         raise ValueError(f"a {kind} is of the whole circuit" if tick is not None else f"a {kind} is not of some detectors")
     if kind == "timeline":
         return made(kind, drawn_timeline(circuit.items if noisy is None else noisy))
     if kind == "matchgraph":
         return made(kind, drawn_graph(faults_graph(circuit), circuit.detector_coordinates(), ticks_of_detectors(circuit)))
     ticks = numbers_of(0 if tick is None else tick, circuit.num_ticks)
-    panels = time_panels(circuit, ticks) if kind == "timeslice" else region_panels(circuit, ticks, some)
+    if kind == "timeslice":
+        panels = time_panels(circuit, ticks)
+    elif kind == "detslice":
+        panels = region_panels(circuit, ticks, some, regions_elements)
+    else:
+        # What acts at a tick is drawn over the regions there, layer by layer.
+        faces = region_panels(circuit, ticks, some, faces_elements)
+        panels = [over(it, layer) for tick, it in zip(ticks, faces) for layer in time_panels(circuit, [tick])]
     places = places_of(circuit.qubit_coordinates(), qubits_of(circuit.items))
     return made(kind, side_by_side(panels, places))
 
@@ -110,8 +118,8 @@ def time_panels(circuit: "Circuit", ticks: list[int]) -> list[Panel]:
     return panels
 
 
-def region_panels(circuit: "Circuit", ticks: list[int], detectors: Iterable[int | str] | None) -> list[Panel]:
-    """The regions of detectors, all or some, at some ticks."""
+def region_panels(circuit: "Circuit", ticks: list[int], detectors: Iterable[int | str] | None, draw: Callable[..., list[Element]]) -> list[Panel]:
+    """The regions of detectors, all or some, at some ticks; draw: what draws them by their names where qubits are."""
     numbers = circuit.numbers()
     every = range(numbers.detectors)
     wanted = set(every) if detectors is None else {bit_of(it, numbers.detectors, numbers.observables) for it in detectors}
@@ -120,8 +128,13 @@ def region_panels(circuit: "Circuit", ticks: list[int], detectors: Iterable[int 
         table = type(circuit)(marked_text(circuit.items, tick, numbers.qubits)).faults(sure_only=True)
         names = {bit: f"D{bit}" if bit in every else f"L{bit - numbers.detectors}" for bit in wanted}
         shown = {names[bit]: letters for bit, letters in regions_of(table).items() if bit in names}
-        panels.append(Panel(f"at tick {tick}", functools.partial(regions_elements, shown)))
+        panels.append(Panel(f"at tick {tick}", functools.partial(draw, shown)))
     return panels
+
+
+def over(regions: Panel, layer: Panel) -> Panel:
+    """One panel over another, with the upper one's title."""
+    return Panel(layer.title, lambda places: [*regions.draw(places), *layer.draw(places)])
 
 
 def bit_of(name: int | str, detectors: int, observables: int) -> int:

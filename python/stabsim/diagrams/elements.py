@@ -49,7 +49,6 @@ class Glyph:
     side: float
     role: str
     label: str = ""
-    small: str = ""
 
 
 Element = Path | Words | Glyph

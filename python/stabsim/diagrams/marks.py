@@ -104,7 +104,7 @@ def is_drawn(mark: Mark, spots: Spots) -> bool:
 
 def draw_glyph(mark: Valued, spots: Spots, at: Point) -> list[Element]:
     side = spots.length(mark["side"]) if mark["side"] else spots.side
-    return [Glyph(mark["shape"], *mark.beside(spots, at), side, mark["role"], mark["label"], mark["small"])]
+    return [Glyph(mark["shape"], *mark.beside(spots, at), side, mark["role"], mark["label"])]
 
 
 def draw_words(mark: Valued, spots: Spots, at: Point) -> list[Element]:

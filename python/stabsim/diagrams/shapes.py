@@ -117,12 +117,7 @@ def draw_label(glyph: Glyph, numbers: list[float], paint: Paint) -> list[Path | 
     return [Words(said, *at(glyph, x, y), min(letters["most"], glyph.side * size * part), paint.colour, weight=600)]
 
 
-def draw_small(glyph: Glyph, numbers: list[float], paint: Paint) -> list[Path | Words]:
-    x, y, size = numbers
-    return [Words(glyph.small, *at(glyph, x, y), glyph.side * size, paint.colour, weight=600)] if glyph.small else []
-
-
 # How each kind of part is drawn.
 DRAWN: dict[str, Callable[[Glyph, list[float], Paint], list[Path | Words]]] = {
-    "circle": draw_circle, "line": draw_line, "box": draw_box, "poly": draw_polygon, "label": draw_label, "small": draw_small,
+    "circle": draw_circle, "line": draw_line, "box": draw_box, "poly": draw_polygon, "label": draw_label,
 }

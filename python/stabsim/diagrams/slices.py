@@ -84,11 +84,14 @@ def factors_of(action: Action) -> list[Values]:
 
 
 def regions_elements(regions: Mapping[str, Letters], places: Places) -> list[Element]:
-    """Qubits, and over them regions by their names, greater ones first, so that none hides another."""
-    found = ground(places, {})
-    for name, letters in sorted(regions.items(), key=lambda it: -len(it[1])):
-        found += region_elements(name, letters, places)
-    return found
+    """Qubits, and over them regions by their names."""
+    return ground(places, {}) + faces_elements(regions, places)
+
+
+def faces_elements(regions: Mapping[str, Letters], places: Places) -> list[Element]:
+    """Regions by their names, greater ones first, so that none hides another."""
+    ordered = sorted(regions.items(), key=lambda it: -len(it[1]))
+    return [element for name, letters in ordered for element in region_elements(name, letters, places)]
 
 
 def region_elements(name: str, letters: Letters, places: Places) -> list[Element]:

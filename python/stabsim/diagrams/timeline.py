@@ -164,10 +164,9 @@ def chance_text(item: Instruction) -> str:
 
 
 def records_text(item: Instruction, now: Numbering) -> str:
-    """The records of a detector or observable, by their numbers."""
-    records = [now.records.plus(int(target[4:-1])).text for target in item.targets if target.startswith("rec[")]
-    shown = [f"M{record}" for record in records[:MOST_RECORDS]]
-    return " ".join(shown + [f"and {len(records) - MOST_RECORDS} more"] * (len(records) > MOST_RECORDS)) or "0"
+    """The records of a detector or observable, by their numbers, and its Paulis."""
+    added = [f"M{now.records.plus(int(target[4:-1])).text}" if target.startswith("rec[") else target.upper() for target in item.targets]
+    return " ".join(added[:MOST_RECORDS] + [f"and {len(added) - MOST_RECORDS} more"] * (len(added) > MOST_RECORDS)) or "0"
 
 
 def qubits_of(items: Iterable[Item]) -> set[int]:

@@ -4,7 +4,7 @@ import itertools
 import pathlib
 from collections.abc import Callable
 from os import PathLike
-from typing import Literal, NamedTuple, TypeVar, overload
+from typing import Literal, TypeVar, overload
 
 import numpy as np
 from numpy.typing import NDArray
@@ -13,11 +13,10 @@ from stabsim import checking
 from stabsim.errors import BadShots
 from stabsim.formats import bits
 from stabsim.formats.combining import starts_of
-from stabsim.formats.table_lines import begins_of, numbers_in
+from stabsim.formats.words import COMMA, LINE_END, SPACE, ZERO, Bytes, numbers_in, words_in_lines
 
 Bits = NDArray[np.bool_]
 Packed = NDArray[np.uint8]
-Bytes = NDArray[np.uint8]
 Format = Literal["01", "b8", "r8", "hits", "dets", "ptb64"]
 
 # How many bits of each kind a shot has, by the prefix of the kind.
@@ -26,7 +25,6 @@ Read = Callable[[Bytes, Kinds], Bits]
 Write = Callable[[Bits, Kinds], bytes]
 Function = TypeVar("Function")
 
-LINE_END, SPACE, COMMA, ZERO = ord("\n"), ord(" "), ord(","), ord("0")
 # How many zeros a byte of r8 counts that no 1 follows, and how many shots ptb64 has together.
 LONG, TOGETHER = 255, 64
 ADD_UP = "num_measurements, num_detectors and num_observables add up to"
@@ -164,22 +162,6 @@ def write_r8(shots: Bits, kinds: Kinds) -> bytes:
     return written.tobytes()
 
 
-class Words(NamedTuple):
-    """The words of some lines: where each begins and ends, int64 (words,), in which line it is, and whether it is the first there."""
-
-    starts: NDArray[np.int64]
-    ends: NDArray[np.int64]
-    lines: NDArray[np.int64]
-    is_first: NDArray[np.bool_]
-
-
-def words_of(data: Bytes, separator: int) -> Words:
-    """The words of lines, between which a separator is."""
-    ends = np.flatnonzero((data == separator) | (data == LINE_END))
-    is_last = data[ends] == LINE_END
-    return Words(begins_of(ends), ends, np.cumsum(is_last) - is_last, np.append(True, is_last[:-1])[: len(ends)])
-
-
 def places_in(data: Bytes, starts: NDArray[np.int64], ends: NDArray[np.int64], lines: NDArray[np.int64]) -> NDArray[np.int64]:
     """The numbers from starts to ends, each of 1 to 9 digits, which are in these lines."""
     lengths = ends - starts
@@ -199,7 +181,7 @@ def table_of(lines: NDArray[np.int64], places: NDArray[np.int64], count: int, wi
 
 def read_hits(data: Bytes, kinds: Kinds) -> Bits:
     text = lines_in(data)
-    words = words_of(text, COMMA)
+    words = words_in_lines(text, COMMA)
     # A line without hits is one empty word.
     is_some = ~((words.starts == words.ends) & words.is_first & (text[words.ends] == LINE_END))
     starts, ends, lines = (it[is_some] for it in words[:3])
@@ -211,24 +193,40 @@ def write_hits(shots: Bits, kinds: Kinds) -> bytes:
 
 
 def read_dets(data: Bytes, kinds: Kinds) -> Bits:
-    text = lines_in(data)
-    words = words_of(text, SPACE)
+    count, lines, places = ones_of_dets(lines_in(data), kinds)
+    return table_of(lines, places, count, sum(kinds.values()))
+
+
+def ones_of_dets(text: Bytes, kinds: Kinds) -> tuple[int, NDArray[np.int64], NDArray[np.int64]]:
+    """How many shots lines of dets have, and in which shot and at which place each 1 is, in the order of the lines."""
+    words = words_in_lines(text, SPACE)
     heads = np.flatnonzero(words.is_first)
     shots = range(len(heads))
     refuse_any(words.ends[heads] - words.starts[heads] != len(SHOT), shots, "it does not begin with the word shot")
     letters = text[words.starts[heads, None] + np.arange(len(SHOT))]
     refuse_any(np.any(letters != np.frombuffer(SHOT, dtype=np.uint8), axis=1), shots, "it does not begin with the word shot")
     starts, ends, lines = (it[~words.is_first] for it in words[:3])
+    return len(heads), lines, ones_in(text, starts, ends, lines, kinds)
+
+
+def ones_in(data: Bytes, starts: NDArray[np.int64], ends: NDArray[np.int64], lines: NDArray[np.int64], kinds: Kinds) -> NDArray[np.int64]:
+    """The place among all bits of each word from starts to ends, as `D3`, which are in these lines: the kinds come one after another."""
     refuse_any(starts == ends, lines, "it has two spaces side by side, or one at its end")
-    # A word has a place and a kind, and the kinds come one after another.
     first, count = np.zeros(256, dtype=np.int64), np.full(256, -1, dtype=np.int64)
     for letter, begin in zip(kinds, itertools.accumulate(kinds.values(), initial=0)):
         first[ord(letter)], count[ord(letter)] = begin, kinds[letter]
-    its = text[starts]
+    its = data[starts]
     refuse_any(count[its] < 0, lines, "a word is none of M, D and L with a number")
-    places = places_in(text, starts + 1, ends, lines)
+    places = places_in(data, starts + 1, ends, lines)
     refuse_any(places >= count[its], lines, "a number is past the bits of its kind, of which num_measurements, num_detectors or num_observables says how many there are")
-    return table_of(lines, first[its] + places, len(heads), sum(kinds.values()))
+    found: NDArray[np.int64] = first[its] + places
+    return found
+
+
+def rows_of_dets(written: bytes, kinds: Kinds) -> tuple[NDArray[np.int64], NDArray[np.int64]]:
+    """The ones of shots in the format dets as the rows of a CSR matrix: int64 (shots + 1,) and int64 (ones,)."""
+    count, lines, places = ones_of_dets(np.frombuffer(written, dtype=np.uint8), kinds)
+    return starts_of(np.bincount(lines, minlength=count)), places
 
 
 def write_dets(shots: Bits, kinds: Kinds) -> bytes:
@@ -245,9 +243,14 @@ def read_ptb64(data: Bytes, kinds: Kinds) -> Bits:
     return groups.view(np.bool_).transpose(0, 2, 1).reshape(len(groups) * TOGETHER, width)
 
 
+def check_groups(shots: int) -> None:
+    """Raises ValueError if ptb64 can't have this many shots."""
+    if shots % TOGETHER:
+        raise ValueError(f"ptb64 has a multiple of {TOGETHER} shots, and not {shots}")
+
+
 def write_ptb64(shots: Bits, kinds: Kinds) -> bytes:
-    if len(shots) % TOGETHER:
-        raise ValueError(f"ptb64 has a multiple of {TOGETHER} shots, and not {len(shots)}")
+    check_groups(len(shots))
     groups = shots.reshape(len(shots) // TOGETHER, TOGETHER, shots.shape[1]).transpose(0, 2, 1)
     return np.packbits(groups, axis=2, bitorder="little").tobytes()
 

@@ -6,10 +6,9 @@ from collections.abc import Sequence
 from dataclasses import dataclass, replace
 from typing import NamedTuple
 
-from stabsim.text import names
 from stabsim.text.profile import made_of
 from stabsim.text.reading import Item, Line, content_of, items_of, parts_of
-from stabsim.text.sizes import sizes_of
+from stabsim.text.sizes import records_of, sizes_of
 
 # A channel that acts after others is of another line too.
 CHAINED = "ELSE_CORRELATED_ERROR"
@@ -174,7 +173,7 @@ def counts_of_line(line: str) -> Counts:
 def records_of_line(line: str) -> int:
     """How many records one line makes."""
     parts = parts_of(content_of(line))
-    return len(parts.targets) if parts and parts.name in names.MEASUREMENTS else 0
+    return records_of(parts) if parts else 0
 
 
 def observables_in(lines: Sequence[str]) -> set[int]:

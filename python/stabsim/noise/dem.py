@@ -11,7 +11,7 @@ from numpy.typing import NDArray
 
 from stabsim.errors import BadErrorModel, Refused
 from stabsim.formats.combining import Chances, Numbers, odd, starts_of
-from stabsim.formats.table_lines import LINE_END, SPACE, begins_of, numbers_in
+from stabsim.formats.words import SPACE, numbers_in, words_in_lines
 from stabsim.noise.decomposing import Parts
 from stabsim.program import FILE_NAME
 from stabsim.text import names
@@ -136,14 +136,11 @@ class Run:
 def targets_of(words: list[str], shifts: Numbers) -> Numbers:
     """The targets of errors, as those of a `Flat`, by their words and by how much their detectors are shifted."""
     data = np.frombuffer("".join(f"{its}\n" for its in words).encode(), dtype=np.uint8)
-    is_last = data == LINE_END
-    ends = np.flatnonzero(is_last | (data == SPACE))
-    starts = begins_of(ends)
-    errors = np.cumsum(is_last[ends]) - is_last[ends]
+    starts, ends, errors, is_first = words_in_lines(data, SPACE)
     letters = data[starts] & ~np.uint8(LOWER)
     # A ^ has its number among all, and a target how many there are before it since its error began.
     carets = np.cumsum(letters == CARET)
-    before = np.append(0, carets[is_last[ends]])[errors]
+    before = np.append(0, carets[np.append(is_first[1:], True)[: len(starts)]])[errors]
     is_target = (letters == ord("D")) | (letters == ord("L"))
     is_observable = letters[is_target] == ord("L")
     numbers = numbers_in(data, starts[is_target] + 1, ends[is_target])

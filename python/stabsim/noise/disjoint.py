@@ -13,6 +13,7 @@ from numpy.typing import NDArray
 from stabsim.formats.combining import Chances, Numbers, combined, starts_of
 from stabsim.noise import drawing
 from stabsim.noise.marking import Source
+from stabsim.noise.sourced import Rows, errors_of
 
 Bits = NDArray[np.bool_]
 # What `errors_of` gives of a source.
@@ -80,10 +81,11 @@ def starts_of_sums(totals: Chances) -> Chances:
     return np.append(0.0, np.cumsum(totals)[:-1])
 
 
-def noise_of(sources: Sequence[Source], flips: Sequence[Flips], width: int) -> Noise | None:
-    """The noise of sources, each with what its errors flip; None if all of them are independent."""
+def noise_of(sources: Sequence[Source], table: Rows) -> Noise | None:
+    """The noise of sources, by what X and Z of each mark flip; None if all of them are independent."""
     if all(source.place is None for source in sources):
         return None
+    flips = [errors_of(source, table) for source in sources]
     alone = [its for source, its in zip(sources, flips) if source.place is None]
     runs: list[Run] = []
     for source, its in zip(sources, flips):
@@ -93,7 +95,7 @@ def noise_of(sources: Sequence[Source], flips: Sequence[Flips], width: int) -> N
             runs[-1].append(its)
     counts = starts_of(np.array([len(chances) for chances, _, _ in alone], dtype=np.int64))
     joined = combined(*together([(chances, sets + first, columns) for (chances, sets, columns), first in zip(alone, counts)]))
-    return Noise(joined.chances, joined.indptr, joined.indices, disjoint_of(runs), width)
+    return Noise(joined.chances, joined.indptr, joined.indices, disjoint_of(runs), table.num_detectors + table.num_observables)
 
 
 def disjoint_of(runs: Sequence[Run]) -> Disjoint:

@@ -7,10 +7,8 @@ import numpy as np
 from numpy.typing import NDArray
 
 from stabsim import program
-from stabsim.formats.combining import Numbers, starts_of
-from stabsim.formats.table_lines import flips_of as flips_in
-from stabsim.noise.marking import Source
-from stabsim.noise.sourced import flips_of
+from stabsim.formats.combining import Numbers
+from stabsim.formats.formats import rows_of_dets
 
 Bits = NDArray[np.bool_]
 
@@ -27,8 +25,8 @@ class Flipped:
     @classmethod
     def of(cls, lines: Sequence[str], detectors: int, observables: int, sure_only: bool = False) -> "Flipped":
         """Asks the program; sure_only: leaves out what coins decide, which else is refused."""
-        written = program.run(["faults", *["--deterministic_only"] * sure_only], "\n".join([*lines, ""]))
-        return cls(*flips_in(written, {"D": 0, "L": detectors}), detectors, observables)
+        written = program.run(["faults", "--out_format", "dets", *["--deterministic_only"] * sure_only], "\n".join([*lines, ""]))
+        return cls(*rows_of_dets(written, {"D": detectors, "L": observables}), detectors, observables)
 
     def pairs(self, first: int, count: int) -> tuple[Numbers, Numbers]:
         """Of this many marks from one on, pairs, ascending, of a line and what it flips."""
@@ -40,14 +38,3 @@ class Flipped:
         found = np.zeros(len(self.indptr) - 1, dtype=np.bool_)
         found[np.searchsorted(self.indptr, np.flatnonzero(is_meant[self.indices]), side="right") - 1] = True
         return np.logical_or(found[::2], found[1::2])
-
-
-def rows_of_errors(several: Sequence[tuple[Source, Numbers]], flipped: Flipped) -> tuple[Numbers, Numbers]:
-    """What some of the errors of sources flip, as a CSR matrix."""
-    lengths, columns = [np.zeros(0, dtype=np.int64)], [np.zeros(0, dtype=np.int64)]
-    for source, some in several:
-        if len(some):
-            sets, its = flips_of(source.letters, source.all_marks()[some], flipped)
-            lengths.append(np.bincount(sets, minlength=len(some)))
-            columns.append(its)
-    return starts_of(np.concatenate(lengths).astype(np.int64)), np.concatenate(columns)

@@ -6,9 +6,9 @@ from typing import TYPE_CHECKING
 import numpy as np
 from numpy.typing import NDArray
 
-from stabsim import program
 from stabsim.formats.combining import combined, rows_of, starts_of
 from stabsim.noise.sat_problem import sat_problem
+from stabsim.questions.distance_search import distance_text
 from stabsim.questions.distances import CHANCELESS, Distance, distance_of, option_words
 
 if TYPE_CHECKING:
@@ -62,7 +62,7 @@ def sat_problem_of_model(model: "ErrorModel") -> str:
     return sat_problem([its.tolist() for its in flipping], len(numbers), model.num_detectors)
 
 
-def distance_of_model(model: "ErrorModel", most: int | None, graphlike: bool, count: bool) -> Distance:
+def distance_of_model(model: "ErrorModel", most: int | None, graphlike: bool, count: bool, workers: int) -> Distance:
     """The distance over the mechanisms that have a chance, or over their parts if the model is decomposed and graph-like errors are asked
     for: with the numbers of the mechanisms. Its errors are left to be placed."""
     numbers = np.flatnonzero(model.chances > 0)
@@ -75,7 +75,7 @@ def distance_of_model(model: "ErrorModel", most: int | None, graphlike: bool, co
         rows, columns = rows_of(numbers, model.indptr, model.indices)
     flipping = flipping_of(rows, columns, model.num_detectors + model.num_observables)
     text = circuit_text(flipping, model.num_detectors, len(numbers))
-    found = distance_of(program.run(["distance", *option_words(most, graphlike, count)], text).decode())
+    found = distance_of(distance_text(text, option_words(graphlike, count, workers), most, workers))
     places = sorted((error.steps - STEPS_BEFORE) // STEPS_OF_EACH for error in found.errors)
     searched = PARTS if is_of_parts else "graph-like errors" if graphlike else "all errors"
     mechanisms = tuple(sorted(numbers[places].tolist())) if places else ()

@@ -16,14 +16,15 @@ from stabsim.formats import bits, combining, sparse
 from stabsim.noise import dem, drawing
 from stabsim.noise.causes import Cause, Causes
 from stabsim.noise.decomposing import Parts, parts_of
-from stabsim.noise.disjoint import Noise, noise_of, together
+from stabsim.noise.disjoint import Noise, noise_of
+from stabsim.noise.gauges import with_gauges
+from stabsim.noise.joining import joined_errors
 from stabsim.noise.marked_faults import faults_of, profile_of
 from stabsim.noise.marking import Marked
 from stabsim.noise.model_distance import distance_of_model, sat_problem_of_model
-from stabsim.noise.sourced import Rows, errors_of
+from stabsim.noise.sourced import Rows
 from stabsim.questions.circuit_errors import CircuitError
 from stabsim.questions.distances import Distance
-from stabsim.questions.gauges import gauges_of, with_gauges
 from stabsim.shots import chunks
 from stabsim.shots.seeds import SeededBits, SeededBytes, drawn_seed, seeded
 from stabsim.text.coordinates import detector_rows, places_of
@@ -192,10 +193,10 @@ class ErrorModel:
             raise ValueError("this model was read, and not made of a circuit, so what makes its mechanisms is not known")
         return self.causes.of(mechanism)
 
-    def distance(self, *, most: int | None = None, graphlike: bool = False, count: bool = False) -> Distance:
+    def distance(self, *, most: int | None = None, graphlike: bool = False, count: bool = False, workers: int = 1) -> Distance:
         """The least number of mechanisms that flip an observable and together no detector, by the program: of those that have a chance,
         each counts as one error. `Distance.mechanisms` has their numbers; of a model that was made of a circuit, `Distance.errors` has
-        an error for each, with the path of its item of noise, and its step. most and count: as of `Circuit.distance`, of sets of mechanisms.
+        an error for each, with the path of its item of noise, and its step. most, count and workers: as of `Circuit.distance`, of sets of mechanisms.
         graphlike: only mechanisms that flip at most two detectors; of a decomposed model only such parts, as Stim does, each with the
         number of a mechanism that has it.
 
@@ -205,7 +206,7 @@ class ErrorModel:
         >>> print(found, found.mechanisms, [(str(error), error.steps) for error in found.errors])
         distance 2 of all errors (0, 1) [('X0', 2), ('X1', 2)]
         """
-        found = distance_of_model(self, most, graphlike, count)
+        found = distance_of_model(self, most, graphlike, count, workers)
         if self.causes is None or not all(self.causes.of(it) for it in found.mechanisms):
             # It was read, or a coin makes one.
             return found
@@ -354,8 +355,7 @@ def error_model(circuit: "str | Circuit", *, decompose: bool = False, ignore_dec
     detector(1) D0
     """
     profile = profile_of(circuit)
-    basis = gauges_of(profile.circuit.text) if allow_gauge_detectors else {}
-    marks, table = faults_of(profile, approximate_disjoint_errors, sure_only, basis)
+    marks, table, basis = faults_of(profile, approximate_disjoint_errors, sure_only, allow_gauge_detectors)
     model = model_of(marks, table, detector_rows(places_of(profile.circuit.items())), profile)
     if basis:
         model = with_gauges(model, basis)
@@ -370,9 +370,6 @@ def decomposed(model: ErrorModel, ignore_failures: bool) -> ErrorModel:
 
 def model_of(circuit: Marked, table: Rows, coordinates: NDArray[np.float64], profile: Profile) -> ErrorModel:
     """The model of a marked circuit, whose table of faults has X and Z of each mark, one after the other, and which was made of a profile."""
-    parts = [errors_of(source, table) for source in circuit.sources]
-    firsts = combining.starts_of(np.array([len(chances) for chances, _, _ in parts], dtype=np.int64))
-    joined = combining.combined(*together([(chances, errors + first, columns) for (chances, errors, columns), first in zip(parts, firsts)]))
+    joined = joined_errors(circuit.sources, table)
     return ErrorModel(joined.chances, joined.indptr, joined.indices, table.num_detectors, table.num_observables, coordinates, circuit.approximated,
-                      causes=Causes(tuple(circuit.sources), joined.mechanisms.astype(np.int32), profile.text),
-                      noise=noise_of(circuit.sources, parts, table.num_detectors + table.num_observables))
+                      causes=Causes(tuple(circuit.sources), joined.mechanisms.astype(np.int32), profile.text), noise=noise_of(circuit.sources, table))

@@ -7,7 +7,7 @@ from stabsim.noise.marking import Source, paulis_of
 from stabsim.questions.circuit_errors import CircuitError
 from stabsim.text.names import FIRST, NOISE
 from stabsim.text.reading import Block, Instruction, Item, without
-from stabsim.text.sizes import total
+from stabsim.text.sizes import Sizes, sizes_of
 
 
 def placed(items: Sequence[Item], source: Source, rounds: Sequence[int], at: int) -> CircuitError:
@@ -15,18 +15,17 @@ def placed(items: Sequence[Item], source: Source, rounds: Sequence[int], at: int
 
     items: those of the circuit with noise. Steps, records and paths are counted without it.
     """
-    steps = records = place = 0
+    before, place = Sizes(), 0
     for item in items:
         if isinstance(item, Block) and item.line < source.line < item.end:
             inner = placed(item.items, source, rounds[1:], at)
-            steps += rounds[0] * total(without(item.items, NOISE), False)
-            records += rounds[0] * total(without(item.items, NOISE), True)
-            record = None if inner.record is None else records + inner.record
-            return replace(inner, steps=steps + inner.steps, path=f"{place}/{inner.path}", record=record)
+            before = before.before(sizes_of(without(item.items, NOISE)), rounds[0])
+            record = None if inner.record is None else before.records + inner.record
+            return replace(inner, steps=before.steps + inner.steps, path=f"{place}/{inner.path}", record=record)
         if isinstance(item, Instruction) and is_of(item, source):
-            return at_item(item, source, at, CircuitError(steps, str(place), record=records))
+            return at_item(item, source, at, CircuitError(before.steps, str(place), record=before.records))
         quiet = list(without([item], NOISE))
-        steps, records, place = steps + total(quiet, False), records + total(quiet, True), place + len(quiet)
+        before, place = before.before(sizes_of(quiet), 1), place + len(quiet)
     raise ValueError(f"there is no noise in line {source.line}")
 
 

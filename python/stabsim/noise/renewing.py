@@ -19,12 +19,13 @@ from stabsim.errors import Refused, UnsupportedNoise
 from stabsim.formats.combining import Numbers
 from stabsim.noise.causes import Causes, is_fed_back
 from stabsim.noise.changed_lines import CHAINED, Change, blocks_around, change_of, is_of_no_region, noisy_items, quiet_lines
-from stabsim.noise.flipped import Flipped, rows_of_errors
+from stabsim.noise.flipped import Flipped
 from stabsim.noise.marked_faults import undetermined
 from stabsim.noise.marking import Marker, Source
 from stabsim.noise.renewal import NONE, Renewal, moved_by
 from stabsim.noise.renewing_circuit import renewed_circuit
 from stabsim.noise.renewing_rounds import in_blocks, renewed_in_rounds
+from stabsim.noise.sourced import rows_of_errors
 from stabsim.text.judging import judged
 from stabsim.text.reading import Line
 from stabsim.text.rewriting import WrongWord

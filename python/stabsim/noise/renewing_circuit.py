@@ -19,9 +19,10 @@ from stabsim.noise.causes import Causes
 from stabsim.noise.changed_lines import (
     DECLARING, Change, Counts, counts_of, counts_of_line, list_begin, noisy_items, observables_in, quiet_lines, reach_of, with_blocks,
 )
-from stabsim.noise.flipped import Bits, Flipped, rows_of_errors
+from stabsim.noise.flipped import Bits, Flipped
 from stabsim.noise.marking import Marker, Source
 from stabsim.noise.renewal import Renewal, moved_by
+from stabsim.noise.sourced import by_source, rows_of_errors
 from stabsim.text.coordinates import detector_coordinates
 
 if TYPE_CHECKING:
@@ -29,7 +30,7 @@ if TYPE_CHECKING:
 
 PLACING = ("DETECTOR", "SHIFT_COORDS")
 NUMBER = re.compile(r"\d+")
-# How many errors are asked for again, and how often the cut is moved further back.
+# How many errors are asked for again, if that is not half of all or less, and how often the cut is moved further back.
 MOST_ASKED = 60_000
 MOST_CUTS = 3
 # How many lines, and how many instructions with noise on either side of the edit, are looked at first.
@@ -226,8 +227,7 @@ class Renewing:
         errors = self.errors_that_differ(asked, start, others)
         firsts = self.firsts[start : self.begin + 1] - self.firsts[start]
         parts = [(source, np.arange(source.times())) for source in asked.added]
-        some = [(source, errors[low:high] - first) for source, first, (low, high) in zip(asked.between, firsts, bounds_of(errors, firsts))]
-        rows = rows_of_errors([*some, *parts], asked.new)
+        rows = rows_of_errors([*by_source(asked.between, errors, firsts), *parts], asked.new)
         return self.renewed(asked, errors + self.firsts[start], rows, text)
 
     def errors_that_differ(self, asked: Asked, start: int, others: Bits) -> Numbers:
@@ -272,12 +272,6 @@ class Renewing:
         return model, rank[mechanisms]
 
 
-def bounds_of(errors: Numbers, firsts: Numbers) -> list[tuple[int, int]]:
-    """Which of errors, ascending, are of each source, by the first error of each."""
-    bounds = np.searchsorted(errors, firsts).tolist()
-    return list(zip(bounds, bounds[1:]))
-
-
 def renewed_circuit(model: "ErrorModel", causes: Causes, change: Change, text: str, qubits: int) -> "ErrorModel | None":
     """The model of a text, from that of the text before an edit of the circuit; None if it is not seen how, or if too much is another."""
     edit = Edit(with_blocks(change), qubits, model.num_detectors, model.num_observables)
@@ -288,7 +282,7 @@ def renewed_circuit(model: "ErrorModel", causes: Causes, change: Change, text: s
     cut = edit.cut_with(2 * edit.looks[1], renewing.first_cut())
     for _ in range(MOST_CUTS):
         # If most errors are asked for again, it is as well to make the model anew.
-        if renewing.errors_from(cut) > MOST_ASKED:
+        if renewing.errors_from(cut) > max(MOST_ASKED, len(causes.mechanisms) // 2):
             return None
         asked = Asked.of(edit, cut)
         if asked.is_as_before(edit):

@@ -14,9 +14,10 @@ import numpy as np
 from stabsim.formats.combining import Numbers, rows_of
 from stabsim.noise.causes import Causes
 from stabsim.noise.changed_lines import ALWAYS_QUIET, Change, blocks_around, counts_of, noisy_items, quiet_lines
-from stabsim.noise.flipped import Flipped, rows_of_errors
+from stabsim.noise.flipped import Flipped
 from stabsim.noise.marking import Marker, Source
 from stabsim.noise.renewal import Renewal, moved_by
+from stabsim.noise.sourced import rows_of_errors
 
 if TYPE_CHECKING:
     from stabsim.noise.models import ErrorModel

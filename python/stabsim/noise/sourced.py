@@ -1,12 +1,13 @@
 """What the errors of a circuit's noise flip, by the table of faults of the circuit with marks."""
 
+from collections.abc import Sequence
 from typing import Protocol
 
 import numpy as np
 from numpy.typing import NDArray
 
-from stabsim.formats import combining
-from stabsim.noise.marking import Marks, Source
+from stabsim.formats.combining import Chances, Numbers, odd, rows_of, starts_of
+from stabsim.noise.marking import Source
 
 
 class Rows(Protocol):
@@ -25,20 +26,33 @@ class Rows(Protocol):
     def num_observables(self) -> int: ...
 
 
-def errors_of(source: Source, table: Rows) -> tuple[NDArray[np.float64], NDArray[np.int64], NDArray[np.int64]]:
-    """The errors of a source: the chance of each, and pairs of an error and what it flips, ascending."""
-    marks = source.all_marks()
-    return np.full(len(marks), source.chance), *flips_of(source.letters, marks, table)
+def errors_of(source: Source, table: Rows) -> tuple[Chances, Numbers, Numbers]:
+    """The errors of a source: the chance of each, and pairs, ascending, of an error and what it flips."""
+    count = source.times()
+    return np.full(count, source.chance), *flips_of([(source, np.arange(count))], table)
 
 
-def flips_of(letters: str, marks: Marks, table: Rows) -> tuple[NDArray[np.int64], NDArray[np.int64]]:
-    """Pairs, ascending, of an error and what it flips: of letters on the marks of each row."""
-    rows = []
-    errors = []
-    for place, letter in enumerate(letters):
+def rows_of_errors(several: Sequence[tuple[Source, Numbers]], table: Rows) -> tuple[Numbers, Numbers]:
+    """What some of the errors of sources flip, as a CSR matrix."""
+    errors, columns = flips_of(several, table)
+    return starts_of(np.bincount(errors, minlength=sum(len(some) for _, some in several))), columns
+
+
+def flips_of(several: Sequence[tuple[Source, Numbers]], table: Rows) -> tuple[Numbers, Numbers]:
+    """Pairs, ascending, of an error and what it flips, of some of the errors of sources, counted one after another."""
+    lines, errors, first = [np.zeros(0, dtype=np.int64)], [np.zeros(0, dtype=np.int64)], 0
+    for source, some in several:
+        marks = source.all_marks()[some]
         # X of a mark is an even line of the table, and Z the odd one after it; Y is both.
-        for second in [0] * (letter in "XY") + [1] * (letter in "ZY"):
-            rows.append(2 * marks[:, place] + second)
-            errors.append(np.arange(len(marks)))
-    of_row, columns = combining.rows_of(np.concatenate(rows), table.indptr, table.indices)
-    return combining.odd(np.concatenate(errors)[of_row], columns, table.num_detectors + table.num_observables)
+        chosen = [(place, second) for place, letter in enumerate(source.letters) for second in (0, 1) if letter in ("XY", "ZY")[second]]
+        lines += [2 * marks[:, place] + second for place, second in chosen]
+        errors += [np.arange(first, first + len(some))] * len(chosen)
+        first += len(some)
+    of_row, columns = rows_of(np.concatenate(lines), table.indptr, table.indices)
+    return odd(np.concatenate(errors)[of_row], columns, table.num_detectors + table.num_observables)
+
+
+def by_source(sources: Sequence[Source], errors: Numbers, firsts: Numbers) -> list[tuple[Source, Numbers]]:
+    """Errors, ascending, by the sources that they are of, as each counts its own; firsts: the first error of each, and how many there are."""
+    bounds = np.searchsorted(errors, firsts).tolist()
+    return [(source, errors[low:high] - first) for source, first, low, high in zip(sources, firsts.tolist(), bounds, bounds[1:]) if low < high]

@@ -29,14 +29,13 @@ class Piece:
 
 @dataclass(frozen=True)
 class Given:
-    """A text that was given, and the lines that the program reads in its place.
+    """A text that was given, and the lines that a session reads in its place.
 
-    text: as it was given; copy: without noise, with the given line from which each of its lines comes; left_out: the given lines that have noise.
+    text: as it was given; copy: what is read, with the given line from which each of its lines comes.
     """
 
     text: str
     copy: Copy
-    left_out: frozenset[int] = frozenset()
 
     @classmethod
     def of_read(cls, text: str) -> "Given":
@@ -64,30 +63,17 @@ class Given:
         return found
 
     def is_rewritten(self, origin: int) -> bool:
-        """Whether the program reads others in the place of a given line."""
+        """Whether others are read in the place of a given line."""
         first, count = self.runs[origin]
-        given, (key, _, text) = self.lines[origin - 1], self.said[first]
-        return count != 1 or (given.text != text and name_of(plain(given.content)) != name_of(key))
+        return count != 1 or self.line(origin) != self.said[first][2]
 
     def line(self, origin: int) -> str:
-        """A given line without its noise."""
-        if not self.is_rewritten(origin):
-            return self.said[self.runs[origin][0]][2]
-        line = self.lines[origin - 1]
-        parts = line.parts
-        if parts and self.is_heralded(origin):
-            # Its records stay, and are known without noise.
-            return " ".join([line.indentation + "MPAD", *["0"] * len(parts.targets)])
-        return line.without_arguments() if parts and parts.arguments and parts.name in names.MEASURING else line.text
-
-    def is_heralded(self, origin: int) -> bool:
-        """Whether a given line has heralded errors."""
-        parts = self.lines[origin - 1].parts
-        return parts is not None and parts.name in names.HERALDED
+        """A given line."""
+        return self.lines[origin - 1].text
 
     def is_loose(self, origin: int) -> bool:
-        """Whether a given line is a comment, is blank, or says nothing to the program and is no noise."""
-        return origin not in self.runs and origin not in self.left_out
+        """Whether a given line is a comment, is blank, or does nothing."""
+        return origin not in self.runs
 
     def pieces(self, now: Sequence[str]) -> Iterator[Piece]:
         """The lines of a circuit, as a session writes it, in pieces that were given as one line, and single ones that were not."""
@@ -109,8 +95,7 @@ class Given:
     def written(self, circuit: str) -> str:
         """A circuit, as a session writes it, with the given lines in the place of those that are as they were."""
         now = circuit.split("\n")[:-1]
-        # No line without noise is read as heralded errors are.
-        pieces = [it for piece in self.pieces(now) for it in (self.apart(piece) if piece.origin and self.is_heralded(piece.origin) else [piece])]
+        pieces = list(self.pieces(now))
         text = self.text_of(now, pieces)
         # A known record has a qubit of its own, which another circuit may need: then no line stays that is read as others.
         if self.has_rewritten and plain_lines(text) != [line.strip() for line in now]:
@@ -147,8 +132,8 @@ class Given:
 
 
 def plain_lines(text: str) -> list[str]:
-    """The lines that the program reads of a text, as a session writes them."""
-    return [plain(content) for line in profile_of(text)[0].circuit.lines if (content := content_of(line))]
+    """The lines that are read of a text, as a session writes them."""
+    return [plain(content) for line in profile_of(text)[0].noisy.lines if (content := content_of(line))]
 
 
 def name_of(line: str) -> str:

@@ -6,24 +6,25 @@ import time
 from collections.abc import Iterator, Sequence
 from typing import Any
 
-import numpy as np
-from numpy.typing import NDArray
-
 import stabsim
 from stabsim.page.at_once import differing, made_at_once
 from stabsim.page.edits import Edit, Made, name_of, undoing
 from stabsim.page.explaining import explained, refuse_unread
 from stabsim.page.following import following
 from stabsim.page.lines import LineEdits, between
+from stabsim.page.noise import has_noise, session_of
 from stabsim.page.opening import Opened
 from stabsim.page.room import may_name, qubits_named, room_for
 from stabsim.page.saving import write_whole
+from stabsim.page.telling import line_of, lists_of, names_of, place_of
 from stabsim.session.history import Change
 from stabsim.text.coordinates import coordinates_of, detector_rows, qubit_rows
 
 Message = dict[str, Any]
 # How many edits are made one by one: more take longer than to open the session anew on what they make.
 MOST_SINGLE = 3
+# In how many lines it is looked for the items that differ.
+MOST_LINES = 5000
 
 
 @dataclasses.dataclass
@@ -58,7 +59,7 @@ class Board:
         self.source = self.kept_text = source
         self.save_to = save
         self.seed = seed
-        self.session = stabsim.Circuit(source.text).edit(seed=seed)
+        self.session = session_of(source.text, seed)
         # Of how many qubits tabs have heard: an edit that was refused may have made room for more.
         self.qubits_told = self.session.numbers().qubits
         self.entries: list[Entry] = []
@@ -85,7 +86,7 @@ class Board:
         """All that a tab has to know when it opens."""
         return {
             "event": "opened", "name": self.source.name, "notice": self.source.notice,
-            "notes": [*self.source.rewritten, *self.source.left_out], "written": shown_of(self.kept_text, self.text()), "deterministic": self.deterministic,
+            "notes": self.source.rewritten, "written": shown_of(self.kept_text, self.text()), "deterministic": self.deterministic,
             "entries": [entry.message() for entry in self.entries],
             "marked": sorted(self.marked, key=place_of), "saves": self.save_to is not None, **self._now(), **self.whole(),
         }
@@ -110,12 +111,21 @@ class Board:
         """Makes what is done with whole lines one entry."""
         return self._enter(made.name, list(made.then), True, list(made.first))
 
-    def edit_text(self, source: Opened) -> Message:
+    def edit_text(self, source: Opened, name: str = "") -> Message:
         """Makes the circuit another text, by the edits of the items that differ. ValueError if none does."""
         edits = between(self.text(), source.text)
         if not edits:
             raise ValueError("nothing is changed")
-        return self._enter(f"edit the text: {name_of(edits)}", edits, text=source)
+        return self._enter(name or f"edit the text: {name_of(edits)}", edits, text=source)
+
+    def put_noise(self, source: Opened, name: str, age: int) -> Message:
+        """Makes the circuit of an age another text, which differs in noise alone. ValueError if it was changed meanwhile."""
+        if age != self.age:
+            raise ValueError("the circuit was changed meanwhile")
+        if source.text.count("\n") > MOST_LINES:
+            # To find the items that differ takes far longer than to open all anew.
+            return self.edit([Edit("open", source.name, source.text, source=source)], name)
+        return self.edit_text(source, name)
 
     def split(self, place: str, number: int) -> Message:
         """Splits one round off a block."""
@@ -170,10 +180,13 @@ class Board:
         return self.kept_text.given.written(self.text())
 
     def script(self) -> str:
-        """An edit script that makes the edits made so far, of the circuit that was opened last."""
+        """An edit script that makes the edits made so far, of the circuit that was opened last. ValueError if one of them has noise."""
         made = self.entries[:self.position]
         first = max((number for number, entry in enumerate(made, 1) if entry.opens()), default=0)
-        return "".join(edit.lines() for entry in made[first:] for edit in entry.forth)
+        script = "".join(edit.lines() for entry in made[first:] for edit in entry.forth)
+        if has_noise(self.source.text) or any(has_noise(edit.item) for entry in made[first:] for edit in entry.forth):
+            raise ValueError("edit scripts have no noise: export the circuit")
+        return script
 
     def coins_of(self, bit: str) -> list[int]:
         """The numbers of the coins that decide a detector or observable, as D3 or L0; none if it is the same for all coins."""
@@ -267,7 +280,9 @@ class Board:
         bits = self.session.detectors(), self.session.observables()
         try:
             text, undone = made_at_once(self.text(), edits)
-            session = stabsim.Circuit(text).edit(seed=self.seed, qubits=self.session.numbers().qubits)
+            judge = any(has_noise(edit.item) for edit in edits)
+            qubits = self.session.numbers().qubits
+            session = stabsim.Circuit(text).edit(seed=self.seed, qubits=qubits) if judge else session_of(text, self.seed, qubits)
         except (stabsim.Refused, ValueError, IndexError):
             return False
         self._take(session)
@@ -291,7 +306,7 @@ class Board:
             if edit.kind in ("insert", "replace") and may_name(edit.item, room):
                 room = room_for(qubits_named(edit.item), room)
         if room > now:
-            self._take(stabsim.Circuit(self.text()).edit(seed=self.seed, qubits=room))
+            self._take(session_of(self.text(), self.seed, room))
 
     def _take(self, session: stabsim.Session) -> None:
         """Takes another session in the place of the one there is."""
@@ -324,7 +339,7 @@ class Board:
             self.session.split(edit.place, int(edit.item))
         elif edit.kind == "open":
             assert edit.source
-            self._take(stabsim.Circuit(edit.item).edit(seed=self.seed))
+            self._take(session_of(edit.item, self.seed))
             self.source = edit.source
         else:
             self.session.delete(edit.place)
@@ -367,24 +382,3 @@ def shown_of(kept: Opened, circuit: str) -> list[tuple[str, int, str]]:
 def deterministic_line(text: str) -> str:
     """Which detectors, and then observables, of a circuit are the same for all coins."""
     return "".join(map(line_of, stabsim.Circuit(text).deterministic()))
-
-
-def line_of(bits: NDArray[np.bool_]) -> str:
-    """Bits as characters 0 and 1."""
-    return (bits.astype(np.uint8) + ord("0")).tobytes().decode("ascii")
-
-
-def lists_of(places: NDArray[np.float64]) -> list[list[float]]:
-    """Coordinates, a list for each row, without what is nan."""
-    rows: list[list[float]] = places.tolist()
-    return [[number for number in row if number == number] for row in rows] if np.isnan(places).any() else rows
-
-
-def names_of(changed: stabsim.Changed) -> list[str]:
-    """What changed, as `D3` for detectors and `L0` for observables."""
-    return [f"D{number}" for number in changed.detectors] + [f"L{number}" for number in changed.observables]
-
-
-def place_of(name: str) -> tuple[str, int]:
-    """Detectors before observables, each by number."""
-    return name[0], int(name[1:])

@@ -1,27 +1,26 @@
 """The distance of the circuit, asked for on the page: the least number of errors that flip an observable and no detector."""
 
 import asyncio
-import tempfile
-from asyncio.subprocess import DEVNULL, PIPE, Process
-from collections.abc import Awaitable, Callable, Iterable
+import os
+from collections.abc import Awaitable, Callable
 from typing import Any
 
 import stabsim
-from stabsim import program
 from stabsim.page.board import Board, Message
+from stabsim.page.distance_questions import EVERYWHERE, KINDS, MARKED, errors_marked, question_of
+from stabsim.page.noise import OWN, has_noise
 from stabsim.page.tabs import Start
-from stabsim.questions.circuit_errors import CircuitError
-from stabsim.text.reading import Block, Item, items_of
+from stabsim.questions.distance_search import Search
+from stabsim.questions.distances import Distance, distance_of
+from stabsim.text.reading import items_of
 
 # Up to how many marked errors the session itself is asked, and up to how many errors in a set: it answers at once then.
 MOST_AT_ONCE = 3000
 MOST_IN_SET = 4
-# What the program writes in front of what it says while it looks.
-TOLD = "distance: "
 
 
 class DistanceSearch:
-    """What all tabs see of the distance: what was said last of it, and the search that goes on in a process of its own."""
+    """What all tabs see of the distance: what was said last of it, and the search that goes on in processes of its own."""
 
     def __init__(self, tell: Callable[[Message], None], start: Start) -> None:
         self.tell = tell
@@ -29,30 +28,35 @@ class DistanceSearch:
         self.told = message_of("none", 0)
         self.task: asyncio.Task[None] | None = None
 
-    async def ask(self, call: Callable[..., Awaitable[Any]], board: Board) -> None:
-        """Asks for the distance of the board's circuit, by `call` in the board's thread: of errors that it marks, or else of all."""
-        age, text = await call(lambda: (board.age, board.text()))
-        count = errors_marked(items_of(text))
-        if 0 < count <= MOST_AT_ONCE:
+    async def ask(self, call: Callable[..., Awaitable[Any]], board: Board, chosen: str) -> None:
+        """Asks for the distance of the board's circuit, by `call` in the board's thread: of errors of the kind that is chosen, or with "" of
+        its own noise, else of those that it marks, else of all. ValueError if there is no such kind."""
+        if chosen and chosen not in KINDS:
+            raise ValueError(f"there are no errors {chosen}")
+        age, text, printed = await call(lambda: (board.age, board.text(), board.session.printed()))
+        count = errors_marked(items_of(printed))
+        kind = chosen or (OWN if has_noise(text) else MARKED if count else EVERYWHERE)
+        if kind == MARKED and 0 < count <= MOST_AT_ONCE:
             try:
-                lines = await call(board.distance, MOST_IN_SET)
+                found = distance_of("\n".join(await call(board.distance, MOST_IN_SET)))
             except stabsim.Refused as fault:
                 self.say("refused", age, said=" ".join(str(fault).split()))
                 return
-            if not lines[0].startswith("none up to"):
-                self.found(age, True, lines)
+            if found.most is None:
+                self.found(age, kind, found)
                 return
-        self.begin(age, count > 0, text)
+        # What the program prints has noise in tags, which it does not read.
+        self.begin(age, kind, text if kind == OWN else printed)
 
-    def found(self, age: int, is_marked: bool, lines: list[str]) -> None:
-        """Says what the program answered, of the circuit of an age."""
-        errors = [{"steps": it.steps, "path": it.path, "name": str(it), "record": it.record} for it in map(CircuitError.of_line, lines[1:])]
-        self.say("found", age, is_marked=is_marked, first=lines[0], errors=errors)
+    def found(self, age: int, kind: str, found: Distance) -> None:
+        """Says what was found, of the circuit of an age."""
+        errors = [{"steps": it.steps, "path": it.path, "name": str(it), "record": it.record} for it in found.errors]
+        self.say("found", age, kind=kind, first=str(found), errors=errors)
 
-    def begin(self, age: int, is_marked: bool, text: str) -> None:
+    def begin(self, age: int, kind: str, text: str) -> None:
         """Begins to look, and ends the search before it."""
         self.end()
-        self.task = self.start(self.search(age, is_marked, text))
+        self.task = self.start(self.search(age, kind, text))
 
     def end(self) -> None:
         """Ends the search, if one goes on."""
@@ -74,63 +78,39 @@ class DistanceSearch:
         self.told = message_of(state, age, before=before, **more)
         self.tell(self.told)
 
-    async def search(self, age: int, is_marked: bool, text: str) -> None:
-        """Has a process look, and says to tabs what it says, until the answer is there."""
-        self.say("running", age, is_marked=is_marked)
+    async def search(self, age: int, kind: str, text: str) -> None:
+        """Has all processors look, and says to tabs how far they are, until the answer is there."""
+        self.say("running", age, kind=kind)
         try:
-            lines = await self.lines_of(age, is_marked, text)
+            found = await self.distance_of(age, kind, text)
         except stabsim.StabsimError as fault:
             self.say("refused", age, said=" ".join(str(fault).split()))
             return
-        self.found(age, is_marked, lines)
+        self.found(age, kind, found)
 
-    async def lines_of(self, age: int, is_marked: bool, text: str) -> list[str]:
-        """The lines that the program writes."""
-        words = ["distance", "--progress", *([] if is_marked else ["--everywhere"])]
-        with tempfile.NamedTemporaryFile(prefix="stabsim-", suffix=".stim") as file:
-            file.write(program.bytes_of(text))
-            file.flush()
-            process = await asyncio.create_subprocess_exec(program.find_program(), *words, "--in", file.name, stdin=DEVNULL, stdout=PIPE, stderr=PIPE)
-            try:
-                said = await self.hear(process, age, is_marked)
-                assert process.stdout
-                written = (await process.stdout.read()).decode()
-                status = await process.wait()
-            finally:
-                if process.returncode is None:
-                    process.kill()
-                    await process.wait()
-        if status:
-            raise program.failure(program.find_program(), status, said)
-        return written.splitlines()
+    async def distance_of(self, age: int, kind: str, text: str) -> Distance:
+        """The distance by what the program writes."""
+        loop, task, workers = asyncio.get_running_loop(), asyncio.current_task(), len(os.sched_getaffinity(0))
 
-    async def hear(self, process: Process, age: int, is_marked: bool) -> str:
-        """Says to tabs what the process says while it looks; answers what else it says."""
-        rest = ""
-        assert process.stderr
-        async for line in process.stderr:
-            said = line.decode(errors="replace")
-            if said.startswith(TOLD):
-                self.say("running", age, is_marked=is_marked, said=said.removeprefix(TOLD).strip())
-            else:
-                rest += said
-        return rest
+        def told(said: str) -> None:
+            # What was said before the search was stopped may come after that.
+            if task and not task.cancelling():
+                self.say("running", age, kind=kind, said=said)
+
+        def hear(excluded: int, done: int) -> None:
+            said = f"no set of {excluded}" * (excluded > 0) + f"; of {excluded + 1}, {done} of {workers} parts" * (done > 0)
+            loop.call_soon_threadsafe(told, said.removeprefix("; "))
+
+        question = await asyncio.to_thread(question_of, kind, text)
+        search = Search(question.text, question.words, workers, hear)
+        try:
+            return question.read(await asyncio.to_thread(search.answer))
+        finally:
+            search.end()
 
 
-def message_of(state: str, age: int, *, is_marked: bool = False, first: str = "", errors: list[Message] | None = None, said: str = "",
+def message_of(state: str, age: int, *, kind: str = "", first: str = "", errors: list[Message] | None = None, said: str = "",
                before: str = "") -> Message:
-    """What tabs hear: `state` is none, running, refused or found. first: the first line of the answer, as `distance 3 of all marked errors`;
-    errors: those of the set; said: what is said else; before: the first line of the answer before the last edits."""
-    return {"event": "distance", "state": state, "age": age, "is_marked": is_marked, "first": first, "errors": errors or [], "said": said,
-            "before": before}
-
-
-def errors_marked(items: Iterable[Item]) -> int:
-    """How many errors items mark by `I`: three at each target, or fifteen at each pair, with the rounds of blocks written out."""
-    count = 0
-    for item in items:
-        if isinstance(item, Block):
-            count += item.repeat * errors_marked(item.items)
-        elif item.name == "I":
-            count += len(item.targets) // 2 * 15 if item.tag == "pairs" else len(item.targets) * 3
-    return count
+    """What tabs hear: `state` is none, running, refused or found. kind: of which errors; first: the first line of the answer, as `distance 3 of
+    all marked errors`; errors: those of the set; said: what is said else; before: the first line of the answer before the last edits."""
+    return {"event": "distance", "state": state, "age": age, "kind": kind, "first": first, "errors": errors or [], "said": said, "before": before}

@@ -5,6 +5,7 @@ import re
 import stabsim
 from stabsim import program
 from stabsim.page.edits import Edit
+from stabsim.page.noise import quiet
 from stabsim.page.room import MOST_MORE, MOST_QUBITS
 from stabsim.text import names
 from stabsim.text.reading import items_of, lines_at, walk
@@ -14,9 +15,9 @@ EXPLAINED = range(1, 12)
 QUBIT_OUT_OF_RANGE = 6
 # The number of the line at fault, which is in front of it.
 LINE_NUMBER = re.compile(r"\d+: ")
-# The name of each line, and the bracket of its arguments if it has some; and names by which, in capitals, an item is read as it is.
-FIRST_WORDS = re.compile(r"^[ \t]*([^\s([{}]+)(?:\[[^\]\n]*\])?(\()?", re.MULTILINE)
-READ_PLAINLY = frozenset((*names.READ, "REPEAT"))
+# The name of each line; and what the page shows, in capitals.
+FIRST_WORDS = re.compile(r"^[ \t]*([^\s([{}]+)", re.MULTILINE)
+SHOWN = frozenset((*names.READ, *names.NOISE))
 
 
 def explained(refused: stabsim.Refused, edit: Edit, circuit: str, qubits: int) -> stabsim.Refused:
@@ -25,7 +26,7 @@ def explained(refused: stabsim.Refused, edit: Edit, circuit: str, qubits: int) -
     if edit.kind in ("split", "open") or refused.number not in EXPLAINED:
         return refused
     said = refused.explanation
-    checked = refusal_of(edited(circuit, edit))
+    checked = refusal_of(quiet(edited(circuit, edit)))
     if checked and checked.number == refused.number:
         said = checked.explanation
     elif refused.number == QUBIT_OUT_OF_RANGE:
@@ -43,16 +44,16 @@ def refusal_of(text: str) -> stabsim.Refused | None:
 
 
 def refuse_unread(item: str) -> None:
-    """Refuses an item, as the program does, that has noise or instructions which it does not read: the page shows none."""
-    if all(name in READ_PLAINLY and not (bracket and name in names.MEASUREMENTS) for name, bracket in FIRST_WORDS.findall(item)):
+    """Refuses an item, as the program does, that has instructions which are neither read nor noise: the page shows none."""
+    if all(name in SHOWN or name == "REPEAT" for name in FIRST_WORDS.findall(item)):
         return
     try:
         items = items_of(item)
     except stabsim.Refused:
         # The session says what is wrong.
         return
-    if any(it.name not in names.READ or it.name in names.MEASUREMENTS and it.arguments for it in walk(items) if it.repeat is None):
-        program.run(["check"], item)
+    for unread in (it for it in walk(items) if it.repeat is None and it.name not in SHOWN):
+        program.run(["check"], str(unread))
 
 
 def without_line_number(said: str) -> str:

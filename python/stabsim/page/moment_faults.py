@@ -9,9 +9,9 @@ import numpy as np
 from numpy.typing import NDArray
 
 import stabsim
-from stabsim import program
-from stabsim.formats.table_lines import flips_of
+from stabsim.noise.flipped import Flipped
 from stabsim.page import moments
+from stabsim.page.noise import quiet
 from stabsim.text.reading import Line, lines_of
 
 # Letters X, Y and Z on qubits.
@@ -42,8 +42,8 @@ class MomentFaults:
         if not numbers.qubits:
             return cls(0, numbers.detectors, np.zeros(1, dtype=np.int64), np.zeros(0, dtype=np.int64))
         mark = "I " + " ".join(map(str, range(numbers.qubits)))
-        lines = program.run(["faults", "--deterministic_only"], marked_text(text, mark))
-        return cls(numbers.qubits, numbers.detectors, *flips_of(lines, {"D": 0, "L": numbers.detectors}))
+        table = Flipped.of([marked_text(text, mark)], numbers.detectors, numbers.observables, sure_only=True)
+        return cls(numbers.qubits, numbers.detectors, table.indptr, table.indices)
 
     def flips(self, moment: int, qubit: int) -> dict[str, list[str]]:
         """What X, Y and Z on a qubit at the end of a moment flip, as `D3` and `L0`."""
@@ -100,9 +100,9 @@ class MomentFaults:
 
 
 def marked_text(text: str, mark: str) -> str:
-    """A circuit with a mark at the end of each moment, and no other: an `I` of its own does nothing, and would have rows too. It
-    cuts moments all the same, as each gate does."""
-    lines = lines_of(moments.marked(text, PLACE))
+    """A circuit without noise, with a mark at the end of each moment, and no other: an `I` of its own does nothing, and would have rows
+    too. It cuts moments all the same, as each gate does."""
+    lines = lines_of(moments.marked(quiet(text), PLACE))
     return "\n".join(line.text for line in lines if not is_idle(line)).replace(PLACE, mark)
 
 

@@ -1,6 +1,7 @@
 """The part of a circuit in which lookbacks may name records that edits move: from the first item that they touch to the last one that looks back
 past them. In front of it stands one measurement with as many records as are looked back to."""
 
+import bisect
 import functools
 import itertools
 from collections.abc import Iterator, Sequence
@@ -8,6 +9,7 @@ from dataclasses import dataclass
 
 from stabsim.noise.changed_lines import counts_of, reach_of
 from stabsim.page.edits import Edit
+from stabsim.page.noise import quiet_lines
 
 
 @dataclass(frozen=True)
@@ -43,24 +45,25 @@ def nearby(circuit: str, edits: Sequence[Edit]) -> Nearby:
     # After those that are deleted each place is one of a later item.
     first, end = min(touched), min(max(touched) + len(edits), len(begins) - 1)
     reach = max([outline.reaches[first], *(reach_of(edit.item) for edit in edits)])
-    above, records = counts_of(lines[: begins[first]]), 0
-    while end < len(begins) - 1 and records < reach:
-        records += counts_of(lines[begins[end] : begins[end + 1]]).records
-        end += 1
-    measured = " ".join(["M", *["0"] * min(above.records, reach)])
-    return Nearby("\n".join([measured, *lines[begins[first] : begins[end]], ""]), first, above.detectors)
+    # One item more for each that is past the edits, until no lookback reaches back to them.
+    end = min(max(end, bisect.bisect_left(outline.records, outline.records[end] + reach)), len(begins) - 1)
+    measured = " ".join(["M", *["0"] * min(outline.records[first], reach)])
+    return Nearby("\n".join([measured, *lines[begins[first] : begins[end]], ""]), first, outline.detectors[first])
 
 
 @dataclass(frozen=True)
 class Outline:
     """The lines of a circuit.
 
-    begins: at which of them each item of its outermost list begins, and the end; reaches: how far the lookbacks go of each item and those after it.
+    begins: at which of them each item of its outermost list begins, and the end; reaches: how far the lookbacks go of each item and those after it;
+    records, detectors: how many there are in front of each, and in all.
     """
 
     lines: list[str]
     begins: list[int]
     reaches: list[int]
+    records: list[int]
+    detectors: list[int]
 
 
 @functools.lru_cache(maxsize=1)
@@ -68,11 +71,12 @@ def outline_of(circuit: str) -> Outline:
     """The outline of a circuit, kept until that of another is asked for."""
     lines = circuit.removesuffix("\n").split("\n")
     begins = [*item_begins(lines), len(lines)]
-    reaches = list(map(reach_of, ["\n".join(lines[first:end]) for first, end in itertools.pairwise(begins)]))
-    furthest = [0]
-    for reach in reversed(reaches):
-        furthest.append(max(furthest[-1], reach))
-    return Outline(lines, begins, furthest[::-1])
+    items = [lines[first:end] for first, end in itertools.pairwise(begins)]
+    reaches = [reach_of("\n".join(item)) for item in reversed(items)]
+    counts = [counts_of(list(quiet_lines(item))) for item in items]
+    return Outline(lines, begins, list(itertools.accumulate(reaches, max, initial=0))[::-1],
+                   list(itertools.accumulate((it.records for it in counts), initial=0)),
+                   list(itertools.accumulate((it.detectors for it in counts), initial=0)))
 
 
 def item_begins(lines: Sequence[str]) -> Iterator[int]:

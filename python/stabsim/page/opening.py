@@ -29,16 +29,15 @@ class BadLink(ValueError):
 
 @dataclass(frozen=True)
 class Opened:
-    """A circuit's text that the program reads, its name, and what became of lines that were given, if they are others now.
+    """A circuit's text that a session reads, its name, and what became of lines that were given, if they are others now.
 
-    rewritten, left_out: notes, one for each line that became others, and that lost noise; read: the text as it was given, if the program reads others
-    in the place of some of its lines.
+    rewritten: notes, one for each line that became others; read: the text as it was given, if a session reads others in the place of some of
+    its lines.
     """
 
     text: str
     name: str = UNNAMED
     rewritten: tuple[str, ...] = ()
-    left_out: tuple[str, ...] = ()
     read: Given | None = None
 
     @functools.cached_property
@@ -49,36 +48,33 @@ class Opened:
     @property
     def notice(self) -> str:
         """What became of them all, in one line, or nothing."""
-        said = []
-        if self.rewritten:
-            said.append(f"{lines_said(self.rewritten)} {'is' if len(self.rewritten) == 1 else 'are'} rewritten.")
-        if self.left_out:
-            said.append(f"The noise of {lines_said(self.left_out)} is left out: what is shown and saved is the circuit without it.")
-        return " ".join(said)
-
-
-def lines_said(notes: tuple[str, ...]) -> str:
-    return "1 line" if len(notes) == 1 else f"{len(notes):,} lines"
+        count = len(self.rewritten)
+        return "" if not count else "1 line is rewritten." if count == 1 else f"{count:,} lines are rewritten."
 
 
 def opened(given: str, name: str = UNNAMED) -> Opened:
-    """A text of Stim's as a circuit that the program reads, without its noise. A refusal names the line that was given."""
+    """A text of Stim's as a circuit that a session reads, with its noise. A refusal names the line that was given."""
     read = stabsim.from_stim(given)
     if read.circuit is read:
         # The program reads it as it is.
         return Opened(given, name)
-    copy = read.profile.circuit
+    copy = read.profile.noisy
     assert isinstance(copy, Copy), "the program does not read it as it is"
-    kept = Given(read.text, copy, frozenset(read.profile.left_out))
-    return Opened(read.circuit.text, name, tuple(rewritten_of(read)), tuple(read.left_out), kept)
+    return Opened(copy.text, name, tuple(rewritten_of(read.text, copy)), Given(read.text, copy))
 
 
-def rewritten_of(read: stabsim.StimCircuit) -> Iterator[str]:
-    """What lines without noise became that the program reads otherwise."""
-    copy, given = read.profile.circuit, read.text.split("\n")
+def with_noise(given: str, model: stabsim.NoiseModel | None, name: str = UNNAMED) -> Opened:
+    """A text with the noise of a model, or with none, in the place of its own."""
+    bare = stabsim.without_noise(given)
+    return opened(model.on(bare).text if model else bare, name)
+
+
+def rewritten_of(text: str, copy: Copy) -> Iterator[str]:
+    """What lines of a text became that are read otherwise."""
+    given = text.split("\n")
     for origin, lines in itertools.groupby(zip(copy.origins, copy.lines), key=operator.itemgetter(0)):
         before, after = given[origin - 1].strip(), [line.strip() for _, line in lines]
-        if after != [before] and origin not in read.profile.left_out:
+        if after != [before]:
             yield f"line {origin}: {before} is {'; '.join(after)}"
 
 

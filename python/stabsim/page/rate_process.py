@@ -4,18 +4,14 @@ as JSON, whenever more shots are counted (rates.py)."""
 import json
 import signal
 import sys
-from collections.abc import Callable, Iterator
+from collections.abc import Iterator
 
 import stabsim
 from stabsim import program
 from stabsim.collecting import matching
 from stabsim.page.board import Message
+from stabsim.page.noise import OWN, has_noise, model_of, quiet
 
-# The models of the literature, each by its name.
-MODELS: dict[str, Callable[[float], stabsim.NoiseModel]] = {
-    "uniform": stabsim.NoiseModel.uniform, "SD6": stabsim.NoiseModel.sd6, "SI1000": stabsim.NoiseModel.si1000, "EM3": stabsim.NoiseModel.em3,
-    "code capacity": stabsim.NoiseModel.code_capacity, "phenomenological": stabsim.NoiseModel.phenomenological,
-}
 # It is counted until there are this many shots or errors, by parts of a size.
 MOST_SHOTS, ENOUGH_ERRORS, PART = 1_000_000, 500, 1024
 
@@ -35,15 +31,21 @@ def main() -> None:
 
 
 def counted(text: str, name: str, chance: float) -> Iterator[Message]:
-    """What is counted so far of a circuit without noise with that of a model of the literature."""
-    if name not in MODELS:
-        raise ValueError(f"there is no model {name}")
-    noisy = MODELS[name](chance).on(text)
-    model = stabsim.error_model(noisy, decompose=True, ignore_decomposition_failures=True, approximate_disjoint_errors=True)
+    """What is counted so far of a circuit with its own noise, or in its place with that of a model of the literature."""
+    model = stabsim.error_model(noisy_of(text, name, chance), decompose=True, ignore_decomposition_failures=True, approximate_disjoint_errors=True)
     if not model.num_observables:
         raise ValueError("the circuit has no observable")
     for sums in stabsim.collect({name: model}, ("matching", matching.decoder), shots=MOST_SHOTS, errors=ENOUGH_ERRORS, seed=0, part_shots=PART):
         yield {"shots": sums.shots, "errors": sums.errors, "rate": list(sums.rate())}
+
+
+def noisy_of(text: str, name: str, chance: float) -> str | stabsim.Circuit:
+    """A circuit with the noise that has a name."""
+    if name != OWN:
+        return model_of(name, chance).on(quiet(text))
+    if not has_noise(text):
+        raise ValueError("the circuit has no noise")
+    return text
 
 
 def tell(said: Message) -> None:

@@ -21,7 +21,8 @@ from stabsim.page.files import file_response, guard, page_response
 from stabsim.page.known import NOT_YET, QUESTIONS, Known
 from stabsim.page.lines import repeated, reversed_, taken_out
 from stabsim.page.nearby import outline_of
-from stabsim.page.opening import Opened, opened
+from stabsim.page.noise import model_of
+from stabsim.page.opening import Opened, opened, with_noise
 from stabsim.page.rates import RateCount
 from stabsim.page.tabs import Tab
 from stabsim.page.ways import detector_of, mark_of, ways_of
@@ -186,7 +187,7 @@ class Server:
 
     async def answer_to(self, tab: Tab, question: Message) -> Message:
         asked = question["ask"]
-        if asked in ("edit", "split", "open", "go", "step", "lines", "text"):
+        if asked in ("edit", "split", "open", "go", "step", "lines", "text", "noise"):
             return await self.changed_by(question)
         if asked == "mark":
             await self.tell_of(self.board.mark)
@@ -199,7 +200,7 @@ class Server:
         elif asked == "why":
             return {"coins": await self.call(self.board.coins_of, str(question["bit"]))}
         elif asked == "distance":
-            await self.distances.ask(self.call, self.board)
+            await self.distances.ask(self.call, self.board, str(question["kind"]))
         elif asked == "end distance":
             self.distances.end()
         elif asked == "rate":
@@ -234,6 +235,8 @@ class Server:
             return {**await self.change(self.board.edit_text, source), "said": source.notice}
         if asked == "lines":
             return await self.change(self.edit_lines, question)
+        if asked == "noise":
+            return await self.put_noise(str(question["model"]), float(question["chance"]))
         edits, inside = [Edit.of_message(it) for it in question["edits"]], question.get("round")
         if not edits:
             raise ValueError("no edit")
@@ -241,6 +244,13 @@ class Server:
         if inside:
             return await self.change(self.board.edit_in_round, edits, str(inside["place"]), int(inside["number"]), keep)
         return await self.change(self.board.edit, edits, str(question.get("name", ""))[:MOST_LETTERS], keep)
+
+    async def put_noise(self, name: str, chance: float) -> Message:
+        """Puts the noise of a model on the circuit, or without a name takes all out; other tabs are answered while it is made."""
+        model = model_of(name, chance) if name else None
+        age, text, called = await self.call(lambda: (self.board.age, self.board.written(), self.board.source.name))
+        source = await asyncio.to_thread(with_noise, text, model, called)
+        return await self.change(self.board.put_noise, source, f"noise {name} {chance:g}" if name else "no noise", age)
 
     def edit_lines(self, question: Message) -> Message:
         """Does something with whole lines, in the board's thread."""

@@ -11,6 +11,7 @@ from numpy.typing import NDArray
 import stabsim
 from stabsim.page import moments
 from stabsim.page.at_once import Node, Opened, nodes_of
+from stabsim.page.noise import CHANNEL
 from stabsim.text.reading import Instruction, items_of
 from stabsim.text.sizes import steps_of
 
@@ -112,8 +113,8 @@ def rounds_of(block: Opened) -> int:
 
 
 def steps_in(line: str) -> int:
-    """How many steps the instruction of a line has."""
-    return sum(steps_of(item) for item in items_of(line) if isinstance(item, Instruction))
+    """How many steps the instruction of a line has: noise has none."""
+    return 0 if CHANNEL.match(line) else sum(steps_of(item) for item in items_of(line) if isinstance(item, Instruction))
 
 
 def bits_of(pauli: str) -> dict[int, int]:

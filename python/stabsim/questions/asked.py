@@ -13,6 +13,7 @@ from stabsim import checking, program
 from stabsim.formats import bits
 from stabsim.questions import coins, faults
 from stabsim.questions.coins import CoinTable
+from stabsim.questions.distance_search import distance_text
 from stabsim.questions.distances import Distance, Letters, distance_of, of_marks, option_words
 from stabsim.questions.faults import FaultTable
 from stabsim.questions.random_bits import RandomBit, bit_of
@@ -41,6 +42,11 @@ class Numbers:
     coins: int
 
 
+def numbers_of(said: bytes) -> Numbers:
+    """The numbers that `check` says of a circuit."""
+    return Numbers(**{name: int(number) for name, _, number in (line.partition(": ") for line in said.decode().splitlines())})
+
+
 @dataclass(frozen=True)
 class Asked:
     """A text, and what the program says of it."""
@@ -59,8 +65,7 @@ class Asked:
     @functools.cached_property
     def known_numbers(self) -> Numbers:
         """The same, which is asked for once."""
-        lines = self.checked().decode().split("\n")
-        return Numbers(**{name: int(number) for name, _, number in (line.partition(": ") for line in lines if line)})
+        return numbers_of(self.checked())
 
     def checked(self) -> bytes:
         """What `check` says."""
@@ -310,7 +315,7 @@ class Asked:
         return way_of(program.run(["propagate", "--at", place, *["--every"] * every, string], self.asked).decode())
 
     def distance(self, *, everywhere: bool = False, letters: Letters = "all", most: int | None = None, graphlike: bool = False,
-                 sure_only: bool = False, count: bool = False) -> Distance:
+                 sure_only: bool = False, count: bool = False, workers: int = 1) -> Distance:
         """The least number of errors that flip an observable and no detector: exact, for any circuit.
 
         Errors are X, Y and Z at each target of `I`; I[X], I[Y], I[Z] and I[XZ] have these letters alone, and I[pairs] all fifteen
@@ -319,6 +324,10 @@ class Asked:
         that are looked for. graphlike: only errors that flip at most two detectors, after any other gave way to the X and the Z at each
         of its qubits, which takes less time. count: `Distance.count` says how many such sets there are, which takes longer the more there
         are. Raises stabsim.Refused, 18 NotDeterministic, as `faults` does; with sure_only random bits are left out.
+
+        workers: how many processes look, for the same answer. One has two seconds; then all look for each further number of errors in
+        turn, a part of the sets each, and each time for fewer ones first. So it pays if a number takes several times as long as the one
+        before it. If tqdm is there, a line on a terminal says how far they are. Ctrl-C ends them. Not beside graphlike or count.
 
         >>> import stabsim
         >>> c = stabsim.Circuit("R 0 1 2\\nI[X] 0 1 2\\nMPP Z0*Z1 Z1*Z2\\nDETECTOR rec[-1]\\nDETECTOR rec[-2]\\nM 0\\nOBSERVABLE_INCLUDE(0) rec[-1]")
@@ -329,7 +338,7 @@ class Asked:
         """
         checking.one_of("letters", letters, get_args(Letters))
         self.numbers()
-        words = [*["--everywhere"] * everywhere, *([] if letters == "all" else ["--letters", letters]), *option_words(most, graphlike, count),
+        words = [*["--everywhere"] * everywhere, *([] if letters == "all" else ["--letters", letters]), *option_words(graphlike, count, workers),
                  *["--deterministic_only"] * sure_only]
-        found = distance_of(program.run(["distance", *words], self.asked).decode(), everywhere)
+        found = distance_of(distance_text(self.asked, words, most, workers), everywhere)
         return found if everywhere else of_marks(found, self.asked)

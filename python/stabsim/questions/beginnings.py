@@ -6,7 +6,7 @@ from dataclasses import dataclass, field
 
 from stabsim.text.names import ANNOTATIONS, MEASUREMENTS, RESETS
 from stabsim.text.reading import Block, Instruction, Item
-from stabsim.text.sizes import total
+from stabsim.text.sizes import sizes_of
 
 # How the state that a reset makes, or its opposite, is made at random, and then measured.
 RANDOM = {"R": ("RX", "M"), "RX": ("R", "MX"), "RY": ("R", "MY")}
@@ -70,6 +70,6 @@ def written_out(items: Iterable[Item]) -> Iterator[Instruction]:
     """The instructions, with those of a block in each of its rounds; a block without steps may have any number of these, and is left out."""
     for item in items:
         if isinstance(item, Block):
-            yield from itertools.chain.from_iterable(written_out(item.items) for _ in range(item.repeat if total(item.items, False) else 0))
+            yield from itertools.chain.from_iterable(written_out(item.items) for _ in range(item.repeat if sizes_of(item.items).steps else 0))
         else:
             yield item

@@ -6,7 +6,7 @@ import numpy as np
 from numpy.typing import NDArray
 
 from stabsim import checking
-from stabsim.formats.table_lines import rows_of
+from stabsim.questions.table_rows import rows_of
 
 
 @dataclass(frozen=True)
@@ -71,5 +71,5 @@ def table_of(lines: bytes, widths: tuple[int, int, int], bits: NDArray[np.bool_]
     """The table of the lines that the program writes of coins, as `17 3/0 c12 M4 M9 D2 L0`; widths: how many records, detectors and
     observables there are; bits: those of coins 0."""
     records, detectors, observables = widths
-    rows = rows_of(lines, {"M": 0, "D": records, "L": records + detectors})
+    rows = rows_of(lines, {"M": records, "D": detectors, "L": observables})
     return CoinTable(rows.steps, rows.paths, rows.numbers, rows.indptr, rows.indices, records, detectors, observables, bits)

@@ -51,11 +51,13 @@ class Distance:
         return f"{found}{limit} of {self.searched}"
 
 
-def option_words(most: int | None, graphlike: bool, count: bool) -> list[str]:
-    """The options of how far, and of which errors, a distance is looked for, and whether its sets are counted."""
+def option_words(graphlike: bool, count: bool, workers: int) -> list[str]:
+    """The options of which errors a distance is looked for, and whether its sets are counted, each of which one process does."""
     if graphlike and count:
         raise ValueError("count=True is of all errors, and not beside graphlike=True")
-    return [*([] if most is None else ["--most", str(checking.whole("most", most))]), *["--graphlike"] * graphlike, *["--count"] * count]
+    if checking.whole("workers", workers, 1) > 1 and (graphlike or count):
+        raise ValueError(f"workers is {workers}: give 1 beside {'graphlike' if graphlike else 'count'}=True")
+    return [*["--graphlike"] * graphlike, *["--count"] * count]
 
 
 def distance_of(text: str, everywhere: bool = False) -> Distance:

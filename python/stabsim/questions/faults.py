@@ -6,7 +6,7 @@ import numpy as np
 from numpy.typing import NDArray
 
 from stabsim import checking
-from stabsim.formats.table_lines import rows_of
+from stabsim.questions.table_rows import rows_of
 
 
 @dataclass(frozen=True)
@@ -59,5 +59,4 @@ class FaultTable:
 
 def table_of(lines: bytes, detectors: int, observables: int, everywhere: bool) -> FaultTable:
     """The table of the lines that the program writes of faults, as `1207 3/0/2 X17 D24 D31 L0`."""
-    rows = rows_of(lines, {"D": 0, "L": detectors})
-    return FaultTable(rows.steps, rows.paths, rows.letters, rows.numbers, rows.indptr, rows.indices, detectors, observables, everywhere)
+    return FaultTable(*rows_of(lines, {"D": detectors, "L": observables}), detectors, observables, everywhere)

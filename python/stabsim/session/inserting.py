@@ -7,7 +7,7 @@ from typing import TYPE_CHECKING
 from stabsim.questions.circuit_errors import CircuitError
 from stabsim.text import names
 from stabsim.text.reading import Block, Instruction, Item, items_of
-from stabsim.text.sizes import total
+from stabsim.text.sizes import sizes_of
 
 if TYPE_CHECKING:
     from stabsim.session.session import Session
@@ -30,7 +30,8 @@ def located(items: tuple[Item, ...], number: int, is_record: bool, above: str = 
     none."""
     for place, item in enumerate(items):
         path = f"{above}{place}"
-        once = total(item.items if isinstance(item, Block) else (item,), is_record)
+        its = sizes_of(item.items if isinstance(item, Block) else (item,))
+        once = its.records if is_record else its.steps
         if number >= once * (item.repeat or 1):
             number -= once * (item.repeat or 1)
         elif isinstance(item, Block):

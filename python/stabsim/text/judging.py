@@ -1,5 +1,7 @@
 """Texts of Stim's, judged by the program, with refusals that speak of the user's lines."""
 
+from dataclasses import replace
+
 from stabsim import checking, program
 from stabsim.errors import Refused
 from stabsim.text.profile import Profile, profile_of
@@ -14,10 +16,9 @@ def judged(text: str) -> Profile:
         return Profile.of_read(text, said)
     profile = becoming(text)
     try:
-        program.run(["check"], profile.judged.text)
+        return replace(profile, counts=program.run(["check"], profile.judged.text))
     except Refused as refused:
         raise in_users_words(refused, profile) from None
-    return profile
 
 
 def said_of(text: str) -> bytes | None:

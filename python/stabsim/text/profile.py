@@ -15,9 +15,10 @@ from stabsim.text.noise_lines import check_channel, check_measurement
 from stabsim.text.reading import Instruction, Item, Line, Parts, content_of, is_number, items_of, lines_of
 from stabsim.text.rewriting import WrongWord, rewritten
 from stabsim.text.sweeping import is_swept
-from stabsim.text.targets import LONG_NUMBER, qubits_of
+from stabsim.text.targets import LONG_NUMBER, PAULI, qubits_of
 
 MOST_QUBITS = 1024
+OBSERVABLE = "OBSERVABLE_INCLUDE"
 
 
 @dataclass
@@ -78,7 +79,7 @@ class Profile:
 
     text: Stim's; circuit: without noise; noisy: with the channels and chances that do something; judged: as the circuit, with lines that name the
     qubits of channels and do nothing, so that the program judges these too; left_out: what is left out of each line of noise; said: what
-    `check` says of the text, if the program reads it as it is.
+    `check` says of the text, if the program reads it as it is; counts: what it says of what is judged, once it was.
     """
 
     text: str
@@ -87,12 +88,18 @@ class Profile:
     judged: Copy | Unchanged = field(default_factory=Copy)
     left_out: dict[int, str] = field(default_factory=dict)
     said: bytes | None = None
+    counts: bytes = b""
+
+    @property
+    def noisy_lines(self) -> int:
+        """How many lines have noise."""
+        return sum(not what.endswith(OBSERVABLE) for what in self.left_out.values())
 
     @classmethod
     def of_read(cls, text: str, said: bytes) -> "Profile":
         """The profile of a text that the program reads, which stays as it is."""
         copy = Unchanged(text)
-        return cls(text, copy, copy, copy, said=said)
+        return cls(text, copy, copy, copy, said=said, counts=said)
 
     def add(self, origin: int, made: Made) -> None:
         """Adds what one line becomes in each text."""
@@ -128,6 +135,8 @@ def made_of(line: Line, parts: Parts | None, before: str, spare: Callable[[], in
         return Made([line.text], [line.text], [line.text])
     if parts.name in names.UNREAD_NOISE:
         return channel(line, parts, before, spare)
+    if parts.name == OBSERVABLE and any(map(PAULI.fullmatch, parts.targets)):
+        return observable(line, parts)
     return instruction(line, parts, spare)
 
 
@@ -141,6 +150,16 @@ def channel(line: Line, parts: Parts, before: str, spare: Callable[[], int]) -> 
         noisy, quiet = ([line.indentation + str(Instruction(line.number, *it)) for it in made if it.name not in left] for left in ((), names.NOISE))
         return Made(quiet, noisy, [judged, *quiet], line.content)
     return Made([], [] if parts.name in names.IDLE else [line.text], [judged], line.content)
+
+
+def observable(line: Line, parts: Parts) -> Made:
+    """What an observable with Pauli targets becomes: no record has these, so only errors can flip them, and they are kept beside noise."""
+    paulis = [target for target in parts.targets if PAULI.fullmatch(target)]
+    records = tuple(target for target in parts.targets if target not in paulis)
+    _, hash_sign, comment = line.text.partition("#")
+    quiet = line.indentation + str(Instruction(line.number, parts.name, parts.tag, parts.arguments, records)) + f" #{comment}" * bool(hash_sign)
+    judged = " ".join(["QUBIT_COORDS", *(target[1:] for target in paulis)])
+    return Made([quiet], [line.text], [quiet, judged], f"{' '.join(paulis)} of {OBSERVABLE}")
 
 
 def instruction(line: Line, parts: Parts, spare: Callable[[], int]) -> Made:

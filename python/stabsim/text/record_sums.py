@@ -6,8 +6,8 @@ from dataclasses import dataclass, field
 import numpy as np
 
 from stabsim.formats.combining import Numbers
-from stabsim.text.names import MEASUREMENTS
 from stabsim.text.reading import Block, Instruction, Item
+from stabsim.text.sizes import observable_of, records_of
 
 
 @dataclass
@@ -49,13 +49,11 @@ def sums_of(items: Iterable[Item]) -> Sums:
 
 def sums_of_one(item: Instruction) -> Sums:
     """What one instruction adds up."""
-    if item.name in MEASUREMENTS:
-        return Sums(records=len(item.targets))
     if item.name == "DETECTOR":
         return Sums(detectors=1, of_detectors=pairs_of(0, item))
     if item.name == "OBSERVABLE_INCLUDE":
-        return Sums(of_observables=pairs_of(int(item.numbers()[0]), item))
-    return Sums()
+        return Sums(of_observables=pairs_of(observable_of(item), item))
+    return Sums(records=records_of(item))
 
 
 def pairs_of(number: int, item: Instruction) -> Numbers:

@@ -6,7 +6,7 @@ from dataclasses import dataclass
 
 from stabsim.errors import Refused
 from stabsim.text import names
-from stabsim.text.reading import Block, Instruction, Item, items_of, lines_like
+from stabsim.text.reading import Block, Instruction, Item, Parts, items_of, lines_like
 
 QUBIT = re.compile(r"(?<!\d)\d+")
 # Lines that are a TICK, or may open or close a block.
@@ -15,10 +15,11 @@ TICKING = re.compile(r"^(?:[ \t\r]*TICK|[^{}\n]*[{}]).*", re.MULTILINE | re.IGNO
 
 @dataclass(frozen=True)
 class Sizes:
-    """How many qubits, records, detectors, observables and ticks there are: of qubits and observables, one more than the greatest
+    """How many qubits, steps, records, detectors, observables and ticks there are: of qubits and observables, one more than the greatest
     number that is named."""
 
     qubits: int = 0
+    steps: int = 0
     records: int = 0
     detectors: int = 0
     observables: int = 0
@@ -26,8 +27,8 @@ class Sizes:
 
     def before(self, later: "Sizes", rounds: int) -> "Sizes":
         """With this many rounds of others after it."""
-        return Sizes(max(self.qubits, later.qubits), self.records + rounds * later.records, self.detectors + rounds * later.detectors,
-                     max(self.observables, later.observables), self.ticks + rounds * later.ticks)
+        return Sizes(max(self.qubits, later.qubits), self.steps + rounds * later.steps, self.records + rounds * later.records,
+                     self.detectors + rounds * later.detectors, max(self.observables, later.observables), self.ticks + rounds * later.ticks)
 
 
 def sizes_of(items: Iterable[Item]) -> Sizes:
@@ -46,11 +47,10 @@ def sizes_of_one(item: Instruction) -> Sizes:
     if item.name not in names.READ:
         raise Refused(1, "UnsupportedName", item.line, f"{item.name} is not read; stabsim.from_stim reads all of Stim's instructions.")
     if item.name == "DETECTOR":
-        return Sizes(detectors=1)
+        return Sizes(steps=1, detectors=1)
     if item.name == "OBSERVABLE_INCLUDE":
-        return Sizes(observables=observable_of(item) + 1)
-    records = len(item.targets) if item.name in names.MEASUREMENTS else 0
-    return Sizes(qubits=most_of(item.targets) + 1, records=records, ticks=int(item.name == "TICK"))
+        return Sizes(steps=1, observables=observable_of(item) + 1)
+    return Sizes(most_of(item.targets) + 1, steps_of(item), records_of(item), ticks=int(item.name == "TICK"))
 
 
 def observable_of(item: Instruction) -> int:
@@ -78,17 +78,6 @@ def steps_of(item: Instruction) -> int:
     return len(item.targets) // (2 if item.name in names.TWO_QUBITS else 1)
 
 
-def records_of(item: Instruction) -> int:
+def records_of(item: Instruction | Parts) -> int:
     """How many records an instruction makes."""
     return len(item.targets) if item.name in names.MEASUREMENTS else 0
-
-
-def total(items: Iterable[Item], is_record: bool) -> int:
-    """How many steps, or records, items have."""
-    count = 0
-    for item in items:
-        if isinstance(item, Block):
-            count += item.repeat * total(item.items, is_record)
-        else:
-            count += records_of(item) if is_record else steps_of(item)
-    return count

@@ -13,11 +13,12 @@ import { facesOf, neighboursOf } from "../../stabsim/page/static/knowledge.js";
 import { actedOften, momentAt } from "../../stabsim/page/static/moments.js";
 import { neighbourOf, placesOf } from "../../stabsim/page/static/places.js";
 import { lookbacksOf, nameOfRecord, putDetector } from "../../stabsim/page/static/records.js";
-import { countRows, numberOfRow, rowsBetween } from "../../stabsim/page/static/rows.js";
+import { countLines, numberOfRow, rowsBetween } from "../../stabsim/page/static/rows.js";
 import { svgOf } from "../../stabsim/page/static/svg_pen.js";
 import { areApart } from "../../stabsim/page/static/faces.js";
 import { pathAfter, pathThere, whereAfter } from "../../stabsim/page/static/keeping.js";
 import { layerOf, letterWithAlt } from "../../stabsim/page/static/keys.js";
+import { UNWRAPPED, Wrap } from "../../stabsim/page/static/wrapping.js";
 import { sumOf } from "../../stabsim/page/static/layers.js";
 import { writtenOf } from "../../stabsim/page/static/row_parts.js";
 
@@ -108,8 +109,24 @@ test("runs of places and detectors are one row until they are opened", () => {
   const unfolded = new Set([items[0], items[4]]);
   const rows = rowsBetween(items, unfolded, 0, 99);
   assert.deepEqual(rows.map(({ path }) => path.join("/")), ["0", "0", "1", "2", "3", "4", "4/0", "4/1"]);
-  assert.equal(countRows(items, unfolded), rows.length);
+  assert.equal(countLines(items, unfolded), rows.length);
   for (const { number, path, run } of rows) if (!run) assert.equal(numberOfRow(items, unfolded, path), number);
+});
+
+test("a long item has as many lines as its words need, and rows are numbered by lines", () => {
+  const items = parseCircuit("H 0 1 2 3 4 5 6\nDETECTOR(1, 2) rec[-1]\nDETECTOR rec[-1]\nDETECTOR rec[-1]\nREPEAT 2 {\n    CX 10 11 12 13\n    M 0\n}\nM 0\n");
+  const wrap = new Wrap((depth) => (depth ? 8 : 10));
+  assert.deepEqual([wrap.linesOf(items[0], 0), wrap.linesOf(items[4].items[0], 1), UNWRAPPED.linesOf(items[0], 0)],
+    [["H 0 1 2 3", "4 5 6"], ["CX 10 11", "12 13"], [items[0].text]]);
+  const told = (unfolded) => rowsBetween(items, unfolded, 0, 99, wrap).map(({ number, lines, path }) => `${path.join("/")} ${number} ${lines}`);
+  assert.deepEqual(told(new Set()), ["0 0 2", "1 2 1", "4 3 1", "5 4 1"]);
+  const unfolded = new Set([items[1], items[4]]);
+  // Two lines each have the first, the run's first item by its coordinates and its lookback, and the other two.
+  assert.deepEqual(told(unfolded), ["0 0 2", "1 2 1", "1 3 3", "2 6 2", "3 8 2", "4 10 1", "4/0 11 2", "4/1 13 1", "5 14 1"]);
+  assert.equal(countLines(items, unfolded, wrap), 15);
+  // A row is found by each of its lines.
+  assert.deepEqual([0, 1, 4, 12, 14].map((at) => rowsBetween(items, unfolded, at, at + 1, wrap)[0].path.join("/")), ["0", "0", "1", "4/0", "5"]);
+  for (const { number, path, run } of rowsBetween(items, unfolded, 0, 99, wrap)) if (!run) assert.equal(numberOfRow(items, unfolded, path, wrap), number);
 });
 
 test("names are completed as far as they are the same", () => {

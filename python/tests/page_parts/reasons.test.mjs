@@ -7,6 +7,7 @@ import { countBefore, findNumbered, parseCircuit, roundsOfStep } from "../../sta
 import { placesOfCoins, qubitsOfCoins } from "../../stabsim/page/static/coins.js";
 import { drawingOf } from "../../stabsim/page/static/drawing.js";
 import { lettersAt, lettersByMoments, placesOfErrors } from "../../stabsim/page/static/fault_set.js";
+import { kindsOfErrors } from "../../stabsim/page/static/noise.js";
 
 // Steps by hand: R 2, then in each round CX 2, MR 1, MPP 1, DETECTOR 1, so 5; M 2. Coins: R 2, in each round MR 1 and MPP 1, M 2.
 const CODE = "R 0 1\nTICK\nREPEAT 3 {\n    CX 0 1 2 3\n    TICK\n    MR 1\n    MPP X0*Z2\n    DETECTOR rec[-1]\n    TICK\n}\nM 0 1\n";
@@ -53,6 +54,21 @@ test("errors are after their gates, before measurements, and at wrong records", 
 test("an error after the last gate of a round is of that round", () => {
   const items = parseCircuit("R 0 1\nREPEAT 2 {\n    TICK\n    H 0 1\n}\n");
   assert.deepEqual(placesOfErrors(items, [error(4, "1/1", "X1"), error(5, "1/1", "X0")]).map(({ moment }) => moment), [1, 2]);
+});
+
+test("errors of noise are at it, in their round", () => {
+  // Steps: R 2, in each round M 1, so that of round 1 begins with 3. A block without steps has all of its errors in its first round.
+  const items = parseCircuit("R 0 1\nREPEAT 2 {\n    TICK\n    E(0.1) X0 Y1\n    M(0.1) 0\n}\nREPEAT 3 {\n    TICK\n    X_ERROR(0.1) 0\n}\n");
+  const set = placesOfErrors(items, [error(3, "1/1", "X0*Y1"), error(4, "2/1", "X0"), error(3, "1/2", "M1", 1)]);
+  assert.deepEqual(set.map(({ name, moment, letters }) => [name, moment, [...letters]]), [
+    ["X0*Y1 of E", 2, [[0, "X"], [1, "Y"]]], ["X0 of X_ERROR", 3, [[0, "X"]]], ["wrong M 0", 2, [[0, "M"]]],
+  ]);
+});
+
+test("the distance may be asked of the errors that a circuit has", () => {
+  const kindsOf = (text) => kindsOfErrors(parseCircuit(text));
+  assert.deepEqual(kindsOf("R 0\nX 0\nM 0\n"), ["everywhere"]);
+  assert.deepEqual(kindsOf("REPEAT 2 {\n    I 0\n}\nM(0.1) 0\n"), ["own noise", "marked", "everywhere"]);
 });
 
 test("errors and coins have their marks in a drawing, broken where they are of other moments", () => {

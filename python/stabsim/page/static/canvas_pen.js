@@ -100,7 +100,7 @@ export class CanvasPen {
   }
 
   #copy(glyph) {
-    const key = `${glyph.glyph} ${glyph.side.toFixed(2)} ${glyph.role} ${glyph.label ?? ""} ${glyph.small ?? ""}`;
+    const key = `${glyph.glyph} ${glyph.side.toFixed(2)} ${glyph.role} ${glyph.label ?? ""}`;
     let picture = this.#pictures.get(key);
     if (!picture) {
       if (this.#pictures.size >= MOST_PICTURES) this.#pictures.clear();

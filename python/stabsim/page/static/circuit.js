@@ -141,7 +141,10 @@ function applyAtOnce(items, edits, noted) {
     return move;
   });
   for (const [block] of [...changed].sort(([, one], [, other]) => other - one)) recount(block);
-  const [first, end] = cutList(items, Math.min(...moves.map(({ at }) => at[0])));
+  const places = moves.map(({ at }) => at[0]);
+  // What was changed may be as many places further on as all edits together put in.
+  const further = moves.reduce((sum, { more }) => sum + Math.max(0, more), 0);
+  const [first, end] = cutList(items, Math.min(...places), Math.max(...places) + further + 1);
   recountPart(items, first, end, items.length - count);
   return moves;
 }
@@ -223,11 +226,11 @@ export function countBefore(items, name, path, rounds = []) {
   return count;
 }
 
-// The round of each block around the item at a path in which the circuit's step of a number is the item's.
+// The round of each block around the item at a path in which the circuit's step of a number is the item's; the first of a block without steps.
 export function roundsOfStep(items, path, step) {
   let left = step - countBefore(items, "steps", path);
   return blocksAround(items, path).map((block) => {
-    const round = Math.max(0, Math.min(block.count - 1, Math.floor(left / block.once.steps)));
+    const round = Math.max(0, Math.min(block.count - 1, Math.floor(left / (block.once.steps || 1))));
     left -= round * block.once.steps;
     return round;
   });

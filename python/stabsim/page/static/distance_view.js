@@ -4,8 +4,9 @@
 import { element, fill, fillOnce, icon, line, link, quiet, title } from "./boxes.js";
 import { WRONG, placesOfErrors } from "./fault_set.js";
 
-const ABOUT = "How few errors flip an observable unseen?";
-const MARKED = { true: "where I marks them", false: "everywhere" };
+const ABOUT = "How few errors flip an observable unseen? Of the circuit's own noise, else where I marks them, else everywhere";
+// Of which errors it is (distance_questions.py), with what is said of these.
+const KINDS = { "own noise": "of its own noise", marked: "of errors where I marks them", everywhere: "of errors everywhere" };
 
 export class DistanceView {
   #act;
@@ -16,7 +17,8 @@ export class DistanceView {
   #told = { state: "none" };
   #set = [];
 
-  // `act` has ask(), end(), show(set), which draws errors, and goTo(error), which shows where one is.
+  // `act` has ask(kind), by "" of what the circuit has, end(), show(set), which draws errors, goTo(error), which shows where one is,
+  // menu(opener, place, offers), and kinds(), which says of which errors it may be asked, the first those of "".
   constructor(box, act) {
     this.#act = act;
     box.append(this.#head, this.#body);
@@ -32,17 +34,29 @@ export class DistanceView {
   }
 
   #draw() {
-    const { state, first, is_marked: isMarked } = this.#told;
+    const { state, first, kind } = this.#told;
     const number = /^distance (\d+)/.exec(first ?? "")?.[1];
-    const where = ["running", "found"].includes(state) ? `of errors ${MARKED[isMarked]}` : "";
+    const where = ["running", "found"].includes(state) ? KINDS[kind] : "";
     const isRunning = state === "running";
     fillOnce(this.#head, [number, where, isRunning, this.#set.length > 0], () => [title(`Distance${number ? ` ${number}` : ""}`, where), this.#buttons(isRunning)]);
     fill(this.#body, ...this.#said());
   }
 
   #buttons(isRunning) {
-    const compute = isRunning ? button("Stop", "stop the search", this.#act.end) : button("Compute", ABOUT, this.#act.ask);
-    return element("span", "", ...(this.#set.length ? [button("Clear", "take the errors off the picture", () => this.#act.show([])), " "] : []), compute);
+    const asking = isRunning ? [button("Stop", "stop the search", this.#act.end)] : [button("Compute", ABOUT, () => this.#act.ask("")), " ", this.#choice()];
+    return element("span", "", ...(this.#set.length ? [button("Clear", "take the errors off the picture", () => this.#act.show([])), " "] : []), ...asking);
+  }
+
+  // What computes it of errors that are chosen.
+  #choice() {
+    const made = button("▾", "compute it of errors that are chosen", () => this.#act.menu(made, made.getBoundingClientRect(), this.#offers()));
+    made.setAttribute("aria-label", "compute it of errors that are chosen");
+    made.setAttribute("aria-haspopup", "menu");
+    return made;
+  }
+
+  #offers() {
+    return this.#act.kinds().map((kind) => [kind, () => this.#act.ask(kind)]);
   }
 
   #said() {

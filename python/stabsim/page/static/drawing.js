@@ -1,7 +1,7 @@
 // @ts-check
 // The drawing of a moment, as elements (glyphs.js): what is measured where, gates, and over them what is known of detectors.
 //
-// A scene (scene.js) is {places, ancillas, box, hasCoordinates, instructions, often, recordName, faces, region, coins, set, marks,
+// A scene (scene.js) is {places, ancillas, box, hasCoordinates, instructions, often, noise, recordName, faces, region, coins, set, marks,
 // ways, neighbours, chosen}, with what is drawn for the pointer: {pending, spots, frame}; a view says where a place is seen: {scale, x, y, width, height,
 // near}. A drawing follows from both, wherever it is written. What gates look like says the table of shapes alone (marks.js).
 
@@ -15,6 +15,8 @@ import { coinElements, errorElements, faceElements, letterElements, markElements
 const MARGIN = 2;
 // How large the ring of what is chosen is, in sides of a glyph: its corners touch it.
 const RING = 0.74;
+// From which side of a glyph on noise is drawn.
+const NOISE_FROM = 12;
 // How wide the ring's line is on both sides, with some room, in pixels.
 const RIM = 4;
 
@@ -64,6 +66,7 @@ export function layersOf(scene, view, kept) {
     numberElements(sheet, operations.busy),
     operations.over,
     choiceElements(sheet),
+    noiseElements(sheet),
     oftenElements(sheet),
     coinElements(sheet),
     letterElements(sheet, operations.busy),
@@ -166,6 +169,14 @@ function oftenElements(sheet) {
     const disc = [{ path: circle(x, y, radius + 1.5), fill: "sheet" }, { path: circle(x, y, radius), fill: "ink" }];
     return hasWords ? [...disc, { words: String(count), x, y, size: 12.5, fill: "sheet", weight: 700 }] : disc;
   });
+}
+
+// A jagged line below each qubit that has noise.
+function noiseElements(sheet) {
+  const { scene: { noise = new Map() }, at, side } = sheet;
+  if (side < NOISE_FROM) return [];
+  return [...noise.keys()].filter((qubit) => at(qubit) && isSeen(sheet, at(qubit)))
+    .map((qubit) => ({ glyph: "noise", x: at(qubit)[0], y: at(qubit)[1] + side * 0.86, side: side * 0.6, role: "quiet" }));
 }
 
 const radiusOf = (side) => Math.max(8, side * RING);

@@ -4,7 +4,7 @@
 // to be done.
 
 import { itemAt, itemOf } from "./circuit.js";
-import { PAULIS, groupsOf, isErrorOrMark, isPair, isSingle, qubitsOf } from "./instructions.js";
+import { PAULIS, groupsOf, headOf, isChannel, isErrorOrMark, isPair, isSingle, qubitsOf } from "./instructions.js";
 import { beginOf, endOf, momentAt, momentsOf, nameOf } from "./moments.js";
 
 const inBlock = ({ rounds }) => rounds.length > 0;
@@ -102,8 +102,15 @@ export function measureProduct(items, moment, letter, qubits, alone) {
   return putIn(items, moment, "MPP", [qubits.map((qubit) => `${letter}${qubit}`).join("*")], alone);
 }
 
-// Takes out what acts on qubits at a moment, with the other qubits of its pair or product; if nothing does, the places of qubits
-// on which nothing acts at all.
+// Puts noise of a chance on qubits at the end of a moment.
+/** @param {import("./types.js").Item[]} items @param {number} moment @param {string} name @param {number} chance @param {number[]} qubits @param {boolean} alone */
+export function putNoise(items, moment, name, chance, qubits, alone) {
+  const where = endOf(items, moment);
+  return inRound(items, [{ kind: "insert", place: where.path.join("/"), item: `${name}(${chance}) ${qubits.join(" ")}` }], where, alone);
+}
+
+// Takes out what acts on qubits at a moment, with the other qubits of its pair or product; if nothing does, their noise there; and if
+// there is none, the places of qubits on which nothing acts at all.
 /**
  * @param {import("./types.js").Item[]} items
  * @param {number} moment
@@ -113,7 +120,8 @@ export function measureProduct(items, moment, letter, qubits, alone) {
  * @returns {import("./types.js").Made}
  */
 export function takeOut(items, moment, qubits, alone, isUsed) {
-  const touched = touching(items, moment, qubits);
+  const acting = touching(items, moment, qubits);
+  const touched = acting.length ? acting : noiseOn(items, moment, qubits);
   if (!touched.length) return takePlaces(items, qubits.filter((qubit) => !isUsed(qubit)));
   if (new Set(touched.map(({ path, rounds }) => `${path[0]} ${rounds.join("/")}`)).size > 1 && touched.some(inBlock) && alone) {
     return { why: "these are in several rounds: have the edit made in each round" };
@@ -139,9 +147,6 @@ function changedTo(item, path, groups) {
   return groups.length ? { kind: "replace", place, item: `${headOf(item)} ${groups.flatMap(({ words }) => words).join(" ")}` } : { kind: "delete", place };
 }
 
-// What is in front of an item's targets: its name, with a tag and arguments.
-const headOf = (item) => /^\S+?(?:\[[^\]]*\])?(?:\([^)]*\))?(?=\s|$)/.exec(item.text)[0];
-
 function takePlaces(items, qubits) {
   const edits = [];
   items.forEach((item, place) => {
@@ -159,6 +164,9 @@ export function actingOn(items, moment, qubits) {
 }
 
 const touching = (items, moment, qubits) => momentAt(items, moment).filter(({ item }) => qubitsOf(item).some((qubit) => qubits.includes(qubit)));
+
+const noiseOn = (items, moment, qubits) => momentAt(items, moment)
+  .filter(({ item }) => isChannel(item.name) && groupsOf(item).some((group) => group.qubits.some((qubit) => qubits.includes(qubit))));
 
 function partOf(item, qubits) {
   const groups = groupsOf(item).filter((group) => group.qubits.some((qubit) => qubits.includes(qubit)));

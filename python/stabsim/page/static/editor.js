@@ -5,6 +5,7 @@ import * as editing from "./editing.js";
 import { PAULIS, isPair, isSingle } from "./instructions.js";
 import { afterSplits } from "./keeping.js";
 import { nameOf } from "./moments.js";
+import { OFFERED, OFFERED_FOR_PAIRS } from "./noise.js";
 import { titleOf, toolOf } from "./palette.js";
 import { partnersOf } from "./pairing.js";
 import { putDetector, putDetectorOf, putObservable } from "./records.js";
@@ -154,6 +155,12 @@ export class Editor {
     return this.replace(this.#chosenWith(qubit), () => shiftBy(step));
   }
 
+  // Puts noise on qubits, of a chance that is asked for.
+  async noise(name, qubits) {
+    const chance = await this.#act.number(`${name}: the chance of an error`, 0.001, 0, "any");
+    return chance !== null && this.make(({ items }, moment) => editing.putNoise(items, moment, name, chance, qubits, this.#isAlone("")));
+  }
+
   // Puts in what was copied.
   paste(lines) {
     return this.make(({ items }, moment) => (lines.length ? editing.putLines(items, moment, lines) : { why: "nothing was copied" }));
@@ -251,6 +258,7 @@ export class Editor {
       offers.push(["turn the chosen by a quarter", () => this.replace(ours, turned)], ["mirror them left to right", () => this.replace(ours, (all) => mirrored(all, false))],
         ["mirror them upside down", () => this.replace(ours, (all) => mirrored(all, true))]);
     }
+    offers.push(...[...OFFERED, ...(ours.length % 2 ? [] : [OFFERED_FOR_PAIRS])].map((name) => [`${name} …`, () => this.noise(name, ours)]));
     const layer = this.#shown.layers.at ?? this.#shown.layers.used.at(-1) ?? 0;
     offers.push([`${this.#shown.layers.at === null ? "take up" : "let go of"} marks ${layer} (Shift-${layer})`, () => this.#shown.layers.take(layer)]);
     offers.push(["Stabilised by Z?", () => askSign(`Z${qubit}`)], ["Stabilised by X?", () => askSign(`X${qubit}`)]);

@@ -4,7 +4,7 @@
 import { itemAt, textOf } from "./circuit.js";
 import { completed } from "./completion.js";
 import { pathAfter, pathThere } from "./keeping.js";
-import { commandOf } from "./keys.js";
+import { keepFromPage } from "./keys.js";
 import { partsOf } from "./refusals.js";
 
 const HINT = "Tab completes a name, Shift-Enter begins a line.";
@@ -100,7 +100,7 @@ export class EntryView {
   #say() {
     const place = this.#path === null ? "" : this.#path.join("/");
     const said = { replace: this.#item ? `item ${place}` : "after the last item", insert: `before item ${place}`, behind: `after item ${place}` };
-    this.#find("#entry-label").textContent = this.#path === null ? "no item chosen" : said[this.#kind];
+    this.#find("#entry-label").textContent = this.#path === null ? "no item" : said[this.#kind];
     this.#form.classList.remove("bad");
     this.#find("#refusal").textContent = "";
     this.#find("#fault").textContent = "";
@@ -155,9 +155,4 @@ export class EntryView {
     this.#field.setRangeText(found.words, selectionStart - found.typed.length, selectionStart, "end");
     this.#find("#why").textContent = found.names.length > 1 ? found.names.join(" ") : HINT;
   }
-}
-
-// What is typed here means nothing elsewhere, except commands, and the key that leads to the next pane.
-function keepFromPage(event) {
-  if (event.key !== "F6" && !commandOf(event)) event.stopPropagation();
 }

@@ -2,14 +2,14 @@
 // Where the errors of a set are that flip an observable and no detector.
 
 import { findNumbered, itemAt, pathOf, roundsOfStep } from "./circuit.js";
-import { groupsOf, isRecorded } from "./instructions.js";
+import { groupsOf, isChannel, isRecorded } from "./instructions.js";
 import { momentOf, nameOf } from "./moments.js";
 
 // The letter of a wrong record among those of Paulis.
 export const WRONG = "M";
 
 // Errors, each {steps, path, name, record} as the program names them, at their places: {name, path, moment, tick, letters}, with letters by
-// qubits. Before a measurement, or at a mark, the step of an error is that of what follows it; else the error follows its item.
+// qubits. Before a measurement, or at a mark or noise, the step of an error is that of what follows it; else the error follows its item.
 export function placesOfErrors(items, errors) {
   return errors.map((error) => (error.record === null ? placeOfPaulis(items, error) : placeOfRecord(items, error))).filter(Boolean);
 }
@@ -18,10 +18,11 @@ function placeOfPaulis(items, { steps, path: written, name }) {
   const path = pathOf(written);
   const item = itemAt(items, path);
   if (!item) return null;
-  const isBefore = isRecorded(item.name) || item.name === "I";
+  const isBefore = isRecorded(item.name) || item.name === "I" || isChannel(item.name);
   const rounds = roundsOfStep(items, path, isBefore ? steps : steps - 1);
   const letters = new Map(name.split("*").map((factor) => [Number(factor.slice(1)), factor[0]]));
-  return placed(items, { name: isRecorded(item.name) ? `${name} before ${item.name}` : name, path, rounds, letters });
+  const said = isRecorded(item.name) ? ` before ${item.name}` : isChannel(item.name) ? ` of ${item.name}` : "";
+  return placed(items, { name: `${name}${said}`, path, rounds, letters });
 }
 
 function placeOfRecord(items, { record }) {

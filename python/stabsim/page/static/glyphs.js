@@ -3,7 +3,7 @@
 //
 // A drawing is a list of elements: a path {path, fill, stroke, width, dash, alpha, hatch} whose commands are [op, numbers..] with
 // M x y, L x y, A x y r from to (an arc, clockwise), Z; boxes {boxes, fill, alpha}, each [x, y, width, height]; words {words, x, y, size,
-// fill, align, weight, mono, halo}; and a glyph {glyph, x, y, side, role, label, small}. Colours are names of colours.css.
+// fill, align, weight, mono, halo}; and a glyph {glyph, x, y, side, role, label}. Colours are names of colours.css.
 
 import table from "./shapes.json" with { type: "json" };
 
@@ -60,7 +60,6 @@ export const DRAWN = {
     const { part, most } = table.letters;
     return wordsAt(said, x, y, Math.min(most, glyph.side * size * part[Math.min(said.length, part.length) - 1]), glyph, fill);
   },
-  small: ([, x, y, size], glyph, { fill }) => wordsAt(glyph.small ?? "", x, y, glyph.side * size, glyph, fill),
 };
 
 function wordsAt(said, across, down, size, glyph, fill) {

@@ -25,15 +25,15 @@ export class Inspector {
     boxes.detector.append(this.#declaration, this.#decision, this.#region);
   }
 
-  // `about` has {qubit, kind, at, name, path, count, more}, with the name and the path of what acts on it, and how many items do in the tick if
+  // `about` has {qubit, kind, at, name, path, count, noise, more}, with the name and the path of what acts on it, and how many items do in the tick if
   // several do, or is null if no qubit is chosen: then `where` says what is shown.
   qubit(about, where) {
-    const { qubit, kind, at, name, path, count, more } = about ?? {};
+    const { qubit, kind, at, name, path, count, noise, more } = about ?? {};
     fillOnce(this.#boxes.qubit, [about, where], () => {
       if (!about) return [title("No qubit chosen", where)];
       const place = at ? ` at (${at.join(", ")})` : "";
       const item = name ? [code(name), " of item ", this.#itemButton(path)] : ["idle here"];
-      return [title(`Qubit ${qubit}`, `${kind}${place}${more ? `, and ${more} more` : ""}`), line(where), line(...item), ...(count ? [line(saidOften(count))] : [])];
+      return [title(`Qubit ${qubit}`, `${kind}${place}${more ? `, and ${more} more` : ""}`), line(where), line(...item), ...(count ? [line(saidOften(count))] : []), ...noise.map((it) => line(code(it.words), " of item ", this.#itemButton(it.path)))];
     });
   }
 

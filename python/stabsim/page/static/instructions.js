@@ -14,10 +14,17 @@ const RESETS = ofKinds("reset", "measurement and reset");
 const RECORDED = ofKinds("measurement", "measurement and reset", "product measurement");
 const DECLARATIONS = ofKinds("declaration");
 const ANNOTATIONS = ofKinds("annotation");
-const PRINTED = new Map(ROWS.flatMap(([name, { aliases = [] }]) => aliases.map((alias) => [alias, name])));
+const PRINTED = new Map([...ROWS.flatMap(([name, { aliases = [] }]) => aliases.map((alias) => /** @type {[string, string]} */ ([alias, name]))), ["CORRELATED_ERROR", "E"]]);
 
-// All names that the program reads, for completion.
-export const NAMES = ROWS.map(([name]) => name);
+// The channels of noise (names.py), by what one of their groups of targets is.
+const CHANNELS_OF_ONE = ["X_ERROR", "Y_ERROR", "Z_ERROR", "DEPOLARIZE1", "PAULI_CHANNEL_1"];
+const CHANNELS_OF_PAIRS = ["DEPOLARIZE2", "PAULI_CHANNEL_2"];
+const CHANNELS_OF_ALL = ["E", "ELSE_CORRELATED_ERROR"];
+export const CHANNELS = [...CHANNELS_OF_ONE, ...CHANNELS_OF_PAIRS, ...CHANNELS_OF_ALL];
+const NOISE = new Set(CHANNELS);
+
+// All names that the page reads, for completion.
+export const NAMES = [...ROWS.map(([name]) => name), ...CHANNELS];
 // The marks that draw each gate, with their values.
 export const drawn = Object.fromEntries(ROWS.map(([name, row]) => [name, row.drawn]));
 
@@ -26,6 +33,7 @@ export const printed = (name) => PRINTED.get(name) ?? name;
 
 // Whether a name is that of an error that is put in, or of what marks errors.
 export const isErrorOrMark = (name) => name === "I" || PAULIS.includes(name);
+export const isChannel = (name) => NOISE.has(name);
 export const isPair = (name) => PAIRS.has(name);
 export const isRecorded = (name) => RECORDED.has(name);
 export const resets = (name) => RESETS.has(name);
@@ -77,17 +85,36 @@ function productOf(factors) {
 
 // A step is a target, a pair, or what declares a detector or adds to an observable.
 export function stepsOf(name, targets) {
-  if (ANNOTATIONS.has(name)) return 0;
+  if (ANNOTATIONS.has(name) || NOISE.has(name)) return 0;
   if (DECLARATIONS.has(name)) return 1;
   return isPair(name) ? targets / 2 : targets;
 }
 
 // The groups of targets of which one can't be taken out without the others, each with its words and its qubits.
 export function groupsOf(item) {
+  if (NOISE.has(item.name)) return groupsOfChannel(item);
   if (isPair(item.name)) return pairsOf(item).map((pair) => ({ words: pair, qubits: pair.filter(isQubit).map(qubitOf) }));
   if (item.name === "MPP") return item.targets.map((product) => ({ words: [product], qubits: factorsOf(product).map(({ qubit }) => qubit) }));
   return item.targets.map((target) => ({ words: [target], qubits: isQubit(target) ? [qubitOf(target)] : [] }));
 }
+
+// They are found once for all items that share their targets (circuit.js).
+const channelGroups = new WeakMap();
+
+function groupsOfChannel({ name, targets }) {
+  const size = CHANNELS_OF_ALL.includes(name) ? targets.length : CHANNELS_OF_PAIRS.includes(name) ? 2 : 1;
+  if (!channelGroups.has(targets)) channelGroups.set(targets, groupsOfSize(targets, size));
+  return channelGroups.get(targets);
+}
+
+function groupsOfSize(targets, size) {
+  return Array.from({ length: Math.ceil(targets.length / size) }, (_, i) => targets.slice(i * size, (i + 1) * size))
+    .map((words) => ({ words, qubits: words.map((word) => Number(/\d+/.exec(word)?.[0])) }));
+}
+
+// What is in front of an item's targets: its name, with a tag and arguments.
+/** @param {import("./types.js").Item} item @returns {string} */
+export const headOf = ({ text }) => /^\S+?(?:\[[^\]]*\])?(?:\([^)]*\))?(?=\s|$)/.exec(text)[0];
 
 export const isRecord = (target) => !isQubit(target);
 

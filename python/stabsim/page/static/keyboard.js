@@ -29,7 +29,7 @@ export class Keyboard {
   #key(event) {
     if (event.defaultPrevented || !this.#page.shown.state) return;
     const command = commandOf(event);
-    if (dialogBy("asking").open || (dialogBy("keys").open && command !== "save")) return;
+    if ((dialogBy("asking").open || dialogBy("keys").open) && command !== "save") return;
     if (event.key === "F6") return void this.#nextPane(event);
     if (command && !(isField(event.target) && command !== "save" && command !== "open")) {
       event.preventDefault();

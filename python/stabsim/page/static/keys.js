@@ -33,6 +33,12 @@ export function commandOf(event) {
   return event.shiftKey ? "" : { y: "redo", s: "save", o: "open", a: "all" }[letter] ?? "";
 }
 
+// Keeps a key that is typed into a field from meaning something on the page, except commands and the key that leads to the next pane.
+/** @param {KeyboardEvent} event */
+export function keepFromPage(event) {
+  if (event.key !== "F6" && !commandOf(event)) event.stopPropagation();
+}
+
 // Whether an element takes what is typed for itself.
 export const isField = (element) => element.matches("textarea, input:not([type='range']), select");
 

@@ -6,7 +6,7 @@ import { iconOf } from "./svg_pen.js";
 /** @type {[string, number, string, string][]} */
 const MARKS = [
   ["data", 13, "qubit", "data"], ["ancilla", 13, "qubit", "ancilla"], ["X", 13, "x", "X"], ["Y", 13, "y", "Y"], ["Z", 13, "z", "Z"],
-  ["flipped", 9, "flip", "flipped"], ["random", 11, "quiet", "random"], ["bit1", 9, "one", "1"],
+  ["flipped", 9, "flip", "flipped"], ["random", 11, "quiet", "random"], ["bit1", 9, "one", "1"], ["noise", 12, "quiet", "noise"],
 ];
 
 export function showLegend(place) {

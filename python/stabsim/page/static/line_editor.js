@@ -115,13 +115,16 @@ export class LineEditor {
 
   // What the menu offers for the chosen lines.
   offers() {
-    if (!this.#lines) return [["choose lines first: click, and Shift-click the last one", () => {}]];
+    const { text } = this.#page;
+    /** @type {import("./types.js").Offer} */
+    const wrap = [text.isWrapped ? "each item in one line" : "wrap long items", () => text.takeWrap(!text.isWrapped), "l"];
+    if (!this.#lines) return [wrap, ["choose lines first: click, and Shift-click the last one", () => {}]];
     const { list, first, count } = this.#lines;
     const block = count === 1 && itemAt(this.#page.shown.state.items, [...list, first])?.items;
     return [
       ["make a REPEAT of them …", () => this.repeat(), "r"], ...(block ? [["write its rounds out", () => this.takeOut(), "w"]] : []),
       ["reverse them", () => this.reverse(), "v"], ["move up (Alt ↑)", () => this.move(-1), "u"], ["move down (Alt ↓)", () => this.move(1), "d"],
-      ["delete", () => this.remove(), "x"],
+      ["delete", () => this.remove(), "x"], wrap,
     ];
   }
 }

@@ -17,6 +17,7 @@ import { HistoryView } from "./history_view.js";
 import { Inspector } from "./inspector.js";
 import { afterSplits } from "./keeping.js";
 import { Keyboard } from "./keyboard.js";
+import { keepFromPage } from "./keys.js";
 import { Knowledge } from "./knowledge.js";
 import { LayoutView } from "./layout_view.js";
 import { showLegend } from "./legend.js";
@@ -24,6 +25,7 @@ import { LineEditor } from "./line_editor.js";
 import { Link } from "./link.js";
 import { Menu } from "./menu.js";
 import { momentsOf } from "./moments.js";
+import { hasNoise, kindsOfErrors } from "./noise.js";
 import { exportsOf } from "./exports.js";
 import { PageFaults } from "./page_faults.js";
 import { Palette } from "./palette.js";
@@ -37,7 +39,7 @@ import { SourceView } from "./source_view.js";
 import { State } from "./state.js";
 import { TextView } from "./text_view.js";
 import { TimelineView } from "./timeline_view.js";
-import { saidOfBit, saidOfFlips } from "./tips.js";
+import { saidOfBit, saidOfFlips, showWords } from "./tips.js";
 import { Unsaved } from "./unsaved.js";
 import { WiresView } from "./wires_view.js";
 
@@ -83,9 +85,12 @@ const views = {
     choose: chooseBit, select: (path) => shown.select(path), goTo, detect: (layer) => editor.detect(layer),
   }),
   distance: new DistanceView(by("about-distance"), {
-    ask: () => ask({ ask: "distance" }), end: () => ask({ ask: "end distance" }), show: (set) => shown.state && shown.showSet(set), goTo,
+    ask: (kind) => ask({ ask: "distance", kind }), end: () => ask({ ask: "end distance" }), show: (set) => shown.state && shown.showSet(set), goTo,
+    menu: (...words) => menu.open(...words), kinds: () => kindsOfErrors(shown.state.items),
   }),
-  rate: new RateView(by("about-rate"), { ask, menu: (...words) => menu.open(...words), number: (...words) => asking.number(...words) }),
+  rate: new RateView(by("about-rate"), {
+    ask, menu: (...words) => menu.open(...words), number: (...words) => asking.number(...words), hasNoise: () => hasNoise(shown.state.items),
+  }),
   history: new HistoryView(by("edits"), (position) => ask({ ask: "go", position })),
   palette: new Palette(by("palette"), (name, isAdded) => editor.take(name, isAdded)),
   rounds: new RoundsSwitch(by("rounds-of-edits")),
@@ -101,10 +106,10 @@ const shown = new Shown(views, knowledge);
 const panes = new Panes(document.querySelector("main"), by("tabs"));
 const editor = new Editor(shown, {
   send, say, menu: (qubit, offers) => menu.open(by("picture"), placeOf(qubit), offers), isAlone: (isError) => views.rounds.isAlone(isError),
-  number: (words, offered) => asking.number(words, offered), ask,
+  number: (...words) => asking.number(...words), ask,
 });
 const lines = new LineEditor({ shown, text: views.text, send, ask, say, number: (...words) => asking.number(...words) });
-const source = new SourceView({ text: writtenText, send: (text) => ask({ ask: "text", text }), say, leave: () => views.text.focus() });
+const source = new SourceView({ text: writtenText, send: (text) => ask({ ask: "text", text }), say, save: () => by("save").click(), leave: () => views.text.focus() });
 const carrier = new Carrier({ shown, editor, timeline: views.timeline, tip: showWords, say });
 new Keyboard({ shown, editor, menu, layout: views.layout, timeline: views.timeline, openMenu, chooseBit, panes, press: (id) => by(id).click() });
 
@@ -283,6 +288,7 @@ function leaveEntry() {
 
 // Chooses a bit, and its item in the text if it is a detector; it is said to readers.
 function chooseBit(bit) {
+  if (!shown.state.isThere(bit)) return void say(`${bit} is not there any more`, true);
   shown.chooseBit(bit);
   const { words, path } = saidOfBit(bit, shown.state);
   if (path) shown.select(path, false);
@@ -291,14 +297,6 @@ function chooseBit(bit) {
 
 function showTip(bit, place) {
   showWords(bit && saidOfBit(bit, shown.state).words, place);
-}
-
-function showWords(words, place) {
-  by("tip").hidden = !words;
-  if (!words) return;
-  by("tip").textContent = words;
-  by("tip").style.left = `${Math.min(place.left + 14, innerWidth - by("tip").offsetWidth - 4)}px`;
-  by("tip").style.top = `${Math.min(place.top + 14, innerHeight - by("tip").offsetHeight - 4)}px`;
 }
 
 // Where a qubit is seen in the window.
@@ -334,7 +332,7 @@ function search(direction) {
 const closeSearch = () => { by("search-words").hidden = true; views.text.focus(); };
 
 by("search-words").addEventListener("keydown", (event) => {
-  event.stopPropagation();
+  keepFromPage(event);
   if (event.key === "Escape") closeSearch();
   if (event.key === "Enter") search(event.shiftKey ? -1 : 1);
 });

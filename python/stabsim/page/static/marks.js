@@ -52,7 +52,7 @@ export const DRAWN = {
   glyph(mark, sheet, of, at) {
     const [x, y] = besideOf(mark, sheet, of, at);
     const side = mark.side ? lengthOf(mark.side, sheet.side) : sheet.side;
-    return { glyph: of(mark.shape), x, y, side, role: of(mark.role), label: of(mark.label ?? ""), small: of(mark.small ?? "") };
+    return { glyph: of(mark.shape), x, y, side, role: of(mark.role), label: of(mark.label ?? "") };
   },
   words(mark, sheet, of, at) {
     const [x, y] = besideOf(mark, sheet, of, at);

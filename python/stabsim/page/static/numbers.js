@@ -14,10 +14,9 @@ const count = (number, name) => `${number.toLocaleString("en")} ${name}${number 
 export function sayNumbers({ numbers, placement, items, position, entries, deterministic }) {
   by("numbers").textContent = [
     count(placement.places.size, "qubit"), count(numbers.steps, "step"), count(numbers.records, "record"),
-    count(numbers.detectors, "detector"), count(numbers.observables, "observable"),
+    count(numbers.detectors, "detector"), count(numbers.observables, "observable"), count(items.length, "item"),
   ].join(" · ");
   sayRandom(deterministic);
-  by("items-said").textContent = count(items.length, "item");
   by("drawer").hidden = !placement.drawer.length;
   by("drawer").textContent = `${count(placement.drawer.length, "qubit")} unused`;
   buttonBy("undo").disabled = position === 0;

@@ -73,5 +73,5 @@ function drawn(name, icon) {
   if (name === "DETECTOR") return iconOf("bit1", 15, "one");
   if (icon) return iconOf(icon, ICON, icon === "data" ? "qubit" : "wire");
   const { shape, label, role } = gates[name];
-  return iconOf(shape === "cycle" ? "gate" : shape, shape === "mreset" ? INNER : SIDE, role, label, REACH);
+  return iconOf(shape, shape === "mreset" ? INNER : SIDE, role, label, REACH);
 }

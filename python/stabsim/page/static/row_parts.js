@@ -3,6 +3,10 @@
 
 import { iconOf } from "./svg_pen.js";
 import { span } from "./text_rows.js";
+import { FOLD, INDENT, STEP } from "./wrapping.js";
+
+// How many letters of a line are shown at most.
+const MOST_LETTERS = 300;
 
 export const foldOf = (item, run, isOpen) => span("fold", !item?.items && !run ? "" : isOpen ? "▾" : "▸");
 
@@ -24,17 +28,24 @@ function asWritten(margin, item, { text, part }) {
   return [margin, span("name", name), span("words", rest.slice(0, 300)), span("inside", ` = ${item.text}`)];
 }
 
-/** @param {import("./types.js").Written} [written] */
-export function saidOf(item, run, isOpen, depth, written) {
+// `lines` are those of the item's row (wrapping.js), those after the first at the same margin.
+/** @param {string[]} lines @param {import("./types.js").Written} [written] */
+export function saidOf(item, run, isOpen, depth, lines, written) {
   const margin = span("margin", "");
-  margin.style.paddingLeft = `${depth * 14}px`;
+  margin.style.paddingLeft = `${depth * STEP}px`;
   if (run) return [margin, span("inside", `${run} × ${item.name}`)];
   if (!item) return [margin];
   if (written) return asWritten(margin, item, written);
-  const [, name, rest] = /^(\S*?)((?:[[(\s].*)?)$/.exec(item.text);
-  const words = [margin, span("name", name), span("words", rest.slice(0, 300))];
+  const [, name, rest] = /^(\S*?)((?:[[(\s].*)?)$/.exec(lines[0]);
+  const words = [margin, span("name", name), span("words", rest.slice(0, MOST_LETTERS)), ...lines.slice(1).map((line) => lineOf(line, depth))];
   if (item.items && !isOpen) words.push(span("inside", ` ${item.items.length} items, ${item.detectors} detectors`));
   return words;
+}
+
+function lineOf(text, depth) {
+  const line = span("words line", text);
+  line.style.paddingLeft = `calc(${FOLD + INDENT}ch + ${depth * STEP}px)`;
+  return line;
 }
 
 export function marksOf(kind, refusal) {

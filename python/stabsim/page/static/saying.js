@@ -28,9 +28,9 @@ function saidOfRound(path, round, count) {
 }
 
 // Says to readers what is seen of a qubit, or of none: the name of what acts on it, how many items do in its tick if several do, its letter of
-// a region, whether its coin decides the chosen bit, and the letter of an error.
-export function saySeen(where, qubit, { name, count, letter, hasCoin, error }) {
-  const words = [`qubit ${qubit}`, name ?? "", count ? saidOften(count) : "", letter ? `region ${letter}` : "", hasCoin ? "its coin decides" : "", error ? `error ${error}` : ""];
+// a region, whether its coin decides the chosen bit, its noise, and the letter of an error.
+export function saySeen(where, qubit, { name, count, letter, hasCoin, noise, error }) {
+  const words = [`qubit ${qubit}`, name ?? "", count ? saidOften(count) : "", letter ? `region ${letter}` : "", hasCoin ? "its coin decides" : "", noise ? `noise ${noise}` : "", error ? `error ${error}` : ""];
   by("seen").textContent = qubit === null ? where : `${words.filter(Boolean).join(", ")}; ${where}`;
 }
 

@@ -7,13 +7,14 @@ import { momentsOf } from "./moments.js";
 import { nameOfRecord } from "./records.js";
 import { mapOf } from "./regions.js";
 
-// `shown` has state, moment, instructions, often, chosen, waiting, set and layers; `followed` is what followed.js has; `known` has {faces, neighbours}.
-export function sceneOf({ state, moment, instructions, often, chosen, waiting, set, layers }, followed, { faces, neighbours }) {
+// `shown` has state, moment, instructions, often, noise, chosen, waiting, set and layers; `followed` is what followed.js has; `known` has {faces, neighbours}.
+export function sceneOf({ state, moment, instructions, often, noise, chosen, waiting, set, layers }, followed, { faces, neighbours }) {
   return {
     ...state.placement,
     ancillas: state.ancillas,
     instructions,
     often,
+    noise,
     recordName: ({ path }, target) => nameOfRecord(state.items, moment, path, Number(/-?\d+/.exec(target)[0])),
     faces,
     region: mapOf(followed.region[moment]),

@@ -6,6 +6,7 @@ import { blocksAround, itemAt, pathOf } from "./circuit.js";
 import { placesOfCoins } from "./coins.js";
 import { Followed } from "./followed.js";
 import { acts, qubitsOf } from "./instructions.js";
+import { noiseOf } from "./noise.js";
 import { pathThere, stillThere } from "./keeping.js";
 import { areFaces } from "./knowledge.js";
 import { Layers } from "./layers.js";
@@ -33,6 +34,8 @@ export class Shown {
   instructions = [];
   // The qubits on which several items act in the tick, with how many do.
   often = new Map();
+  // The noise on each qubit at the moment.
+  noise = new Map();
   // The errors of a set that flips an observable unseen, at their places (fault_set.js).
   set = [];
   #views;
@@ -171,7 +174,8 @@ export class Shown {
 
   // Shows the region of a bit, or with null that of none.
   chooseBit(bit) {
-    const done = this.#followed.chooseBit(bit);
+    // What names a bit may be of the circuit before the last edit.
+    const done = this.#followed.chooseBit(this.state.isThere(bit) ? bit : null);
     this.learn();
     return done;
   }
@@ -239,6 +243,7 @@ export class Shown {
   #look(isFresh, isEdited) {
     this.instructions = momentAt(this.state.items, this.moment);
     this.often = actedOften(this.state.items, this.moment);
+    this.noise = noiseOf(this.instructions);
     this.#views.text.mark(this.instructions.filter(({ item }) => acts(item.name)).map(({ path }) => path));
     this.drawLayout(isFresh);
     this.#drawTime(isEdited);
@@ -326,12 +331,13 @@ export class Shown {
     const at = qubit === null ? null : this.state.qubitCoordinates[qubit];
     inspector.qubit(qubit === null ? null : {
       qubit, kind: this.state.ancillas.has(qubit) ? "ancilla" : "data", at: at?.length ? at : null, name: found?.item.name, path: found?.path,
-      count: this.often.get(qubit), more: this.#hovered === null ? this.chosen.length - 1 : 0,
+      count: this.often.get(qubit), noise: this.noise.get(qubit) ?? [], more: this.#hovered === null ? this.chosen.length - 1 : 0,
     }, this.where);
     const { coins, set } = this.scene();
     saySeen(this.where, qubit, {
       name: found?.item.name, letter: this.#followed.region[this.moment]?.[qubit], hasCoin: coins.has(qubit),
       error: set.find((it) => it.qubit === qubit && it.isHere)?.letter, count: this.often.get(qubit),
+      noise: this.noise.get(qubit)?.map(({ words }) => words).join(", "),
     });
     if (qubit === null) return void inspector.errors(null, null);
     const { moment } = this;

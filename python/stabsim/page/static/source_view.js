@@ -2,15 +2,18 @@
 // The circuit as a text that is edited as one. Ctrl-Enter has the circuit become what is written, as one entry of the history.
 
 import { by, fieldBy } from "./by_id.js";
+import { commandOf } from "./keys.js";
 
 // A longer text is edited item by item.
 const MOST_LETTERS = 2_000_000;
 
 export class SourceView {
   #act;
+  // What the circuit is that is shown.
+  #text = "";
 
-  // `act` has text(), which answers the circuit's; send(text), which answers {refused, explanation} if it was refused; say(words, isBad); and
-  // leave(), which is called once it is closed.
+  // `act` has text(), which answers the circuit's; send(text), which answers {refused, explanation} if it was refused; say(words, isBad); save();
+  // and leave(), which is called once it is closed.
   constructor(act) {
     this.#act = act;
     fieldBy("source-text").addEventListener("keydown", (event) => this.#key(event));
@@ -33,7 +36,7 @@ export class SourceView {
     if (text.length > MOST_LETTERS) return void this.#act.say("the text is too long to be edited as one", true);
     by("source").hidden = false;
     by("as-text").ariaPressed = "true";
-    fieldBy("source-text").value = text;
+    fieldBy("source-text").value = this.#text = text;
     by("source-said").textContent = "";
     fieldBy("source-text").focus();
     fieldBy("source-text").setSelectionRange(0, 0);
@@ -48,18 +51,27 @@ export class SourceView {
   #key(event) {
     if (event.key === "F6") return;
     event.stopPropagation();
+    const isSave = commandOf(event) === "save";
     if (event.key === "Escape") this.close();
-    else if (event.key === "Enter" && (event.ctrlKey || event.metaKey) && !event.repeat) {
+    else if (isSave || (event.key === "Enter" && (event.ctrlKey || event.metaKey) && !event.repeat)) {
       event.preventDefault();
-      this.#apply();
+      if (isSave) this.#save();
+      else this.#apply();
     }
   }
 
+  // What is written is applied first, and is not saved if it is refused.
+  async #save() {
+    if (fieldBy("source-text").value === this.#text || (await this.#apply())) this.#act.save();
+  }
+
+  // Answers whether the circuit is what is written.
   async #apply() {
     const { refused, explanation } = await this.#act.send(fieldBy("source-text").value);
     by("source-said").textContent = refused ? (explanation?.split("\n").slice(2).join(" ") || refused) : "";
     if (refused) this.#mark(explanation ?? "");
     else this.close();
+    return !refused;
   }
 
   // Chooses the word at fault: an explanation begins with its line, and the number of that, and has carets below the word.

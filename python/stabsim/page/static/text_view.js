@@ -6,8 +6,9 @@ import { before } from "./counts.js";
 import { pathAfter, pathThere } from "./keeping.js";
 import { keyOf } from "./keys.js";
 import { foldOf, marksOf, saidOf, writtenOf } from "./row_parts.js";
-import { countRows, numberOfRow, rowsBetween } from "./rows.js";
+import { countLines, numberOfRow, rowsBetween } from "./rows.js";
 import { TextRows } from "./text_rows.js";
+import { UNWRAPPED, wrapFor } from "./wrapping.js";
 
 export class TextView {
   #place;
@@ -29,6 +30,7 @@ export class TextView {
   #flagOf = () => null;
   #refusal = null;
   #height = 0;
+  #wrap = UNWRAPPED;
   // How far it is scrolled, or is to be in the next frame: to ask the browser for it while rows change would have it lay out the page.
   #top = 0;
   #isScrolled = true;
@@ -58,6 +60,7 @@ export class TextView {
     place.addEventListener("keydown", (event) => this.#key(event));
     new ResizeObserver(() => {
       this.#height = place.clientHeight;
+      if (this.isWrapped) this.takeWrap(true);
       this.#row = parseFloat(getComputedStyle(place).lineHeight) || 20;
       this.#draw();
     }).observe(place);
@@ -128,6 +131,16 @@ export class TextView {
     this.#apart.clear();
   }
 
+  get isWrapped() {
+    return this.#wrap !== UNWRAPPED;
+  }
+
+  // Wraps long items, or has each in one line.
+  takeWrap(isWrapped) {
+    this.#wrap = isWrapped ? wrapFor(this.#place, this.#place.querySelector(".row")) : UNWRAPPED;
+    this.#draw();
+  }
+
   // Chooses lines of a list.
   selectLines(list, first, count) {
     this.select([...list, first + count - 1]);
@@ -164,16 +177,16 @@ export class TextView {
 
   // After the last item something can be put in, too, so there is a row more.
   #rowsBetween(first, last) {
-    const count = countRows(this.#items, this.#unfolded);
-    const rows = rowsBetween(this.#items, this.#unfolded, first, last);
-    if (first <= count && count < last) rows.push({ number: count, path: [this.#items.length], item: null, run: 0 });
+    const count = countLines(this.#items, this.#unfolded, this.#wrap);
+    const rows = rowsBetween(this.#items, this.#unfolded, first, last, this.#wrap);
+    if (first <= count && count < last) rows.push({ number: count, lines: 1, path: [this.#items.length], item: null, run: 0 });
     return { rows, count: count + 1 };
   }
 
   #selectedRow() {
     if (this.#selected === null) return null;
     const path = pathOf(this.#selected);
-    const number = numberOfRow(this.#items, this.#unfolded, path);
+    const number = numberOfRow(this.#items, this.#unfolded, path, this.#wrap);
     const row = this.#rowsBetween(number, number + 2).rows.find((it) => it.path.join("/") === this.#selected && (it.run > 0) === this.#isHead);
     // An item in a folded run has no row of its own, and is chosen all the same.
     return row ?? this.#inFoldedRun(path, number);
@@ -184,11 +197,11 @@ export class TextView {
     const list = blocksAround(this.#items, path).at(-1)?.items ?? this.#items;
     const [head] = this.#rowsBetween(number, number + 1).rows;
     const item = list[path.at(-1)];
-    return head?.run && item ? { number, path, item, run: 0 } : null;
+    return head?.run && item ? { number, lines: 1, path, item, run: 0 } : null;
   }
 
   #bringIntoSight() {
-    const top = numberOfRow(this.#items, this.#unfolded, pathOf(this.#selected)) * this.#row;
+    const top = numberOfRow(this.#items, this.#unfolded, pathOf(this.#selected), this.#wrap) * this.#row;
     if (top >= this.#top && top + this.#row <= this.#top + this.#height) return;
     this.#scrollTo(top - this.#height / 2);
   }
@@ -207,7 +220,7 @@ export class TextView {
   }
 
   #drawNow() {
-    const height = (countRows(this.#items, this.#unfolded) + 1) * this.#row;
+    const height = (countLines(this.#items, this.#unfolded, this.#wrap) + 1) * this.#row;
     this.#top = Math.max(0, Math.min(this.#top, height - this.#height));
     const first = Math.max(0, Math.floor(this.#top / this.#row) - 5);
     const { rows } = this.#rowsBetween(first, first + Math.ceil(this.#height / this.#row) + 10);
@@ -228,17 +241,18 @@ export class TextView {
     const isOpen = this.#unfolded.has(item);
     const flag = this.#flag(path, item, run);
     const refusal = this.#refusal?.place === path.join("/") && !run ? this.#refusal.words : "";
+    const lines = item && !run ? this.#wrap.linesOf(item, path.length - 1) : [];
     const within = item?.items ? `${item.items.length} ${item.detectors}` : "";
     const written = item?.written && writtenOf(blocksAround(this.#items, path).at(-1)?.items ?? this.#items, path.at(-1));
     return {
-      ...row, said: [item?.text, run, within, path.length, isOpen, flag, refusal, written?.text].join("\n"),
-      parts: () => [foldOf(item, run, isOpen), ...saidOf(item, run, isOpen, path.length - 1, written), ...marksOf(flag, refusal)],
+      ...row, said: [...lines, run, within, path.length, isOpen, flag, refusal, written?.text].join("\n"),
+      parts: () => [foldOf(item, run, isOpen), ...saidOf(item, run, isOpen, path.length - 1, lines, written), ...marksOf(flag, refusal)],
       place: (line) => this.#placeRow(line, row, isSelected),
     };
   }
 
   #placeRow(line, row, isSelected) {
-    const { number, path, item, run } = row;
+    const { number, lines, path, item, run } = row;
     const name = path.join("/");
     const isHere = !run && this.#here.has(name);
     line.className = ["row", isSelected && "selected", isHere && "here", item?.name === "TICK" && "tick"].filter(Boolean).join(" ");
@@ -249,6 +263,7 @@ export class TextView {
     line.ariaSelected = isSelected;
     line.ariaExpanded = item?.items || run ? this.#unfolded.has(item) : null;
     line.style.top = `${number * this.#row}px`;
+    line.style.height = `${lines * this.#row}px`;
     line.dataset.path = run ? `${name}+` : name;
     const label = item ? name : "end";
     if (line.firstChild.textContent !== label) line.firstChild.textContent = label;
@@ -345,7 +360,8 @@ export class TextView {
     }
     if (event.key in moves) {
       event.preventDefault();
-      this.#move(row || Math.abs(moves[event.key]) === Infinity ? (row?.number ?? 0) + moves[event.key] : 0);
+      const beyond = row && moves[event.key] > 0 ? row.lines - 1 : 0;
+      this.#move(row || Math.abs(moves[event.key]) === Infinity ? (row?.number ?? 0) + beyond + moves[event.key] : 0);
       return;
     }
     if (!row) return;
@@ -369,7 +385,7 @@ export class TextView {
 
   // Selects the row with a number, or the nearest there is.
   #move(number) {
-    const last = countRows(this.#items, this.#unfolded);
+    const last = countLines(this.#items, this.#unfolded, this.#wrap);
     const at = Math.max(0, Math.min(last, number));
     const { path, item, run } = this.#rowsBetween(at, at + 1).rows[0];
     this.#choose(path, item, run);

@@ -6,7 +6,7 @@
 // and the picture of all detectors as they are if nothing is known of them as `ground`.
 
 import { WRONG } from "./fault_set.js";
-import { circle, gates } from "./glyphs.js";
+import { circle, gates, table } from "./glyphs.js";
 import { isControlled, isPair } from "./instructions.js";
 import { endsByTick } from "./ticks.js";
 
@@ -18,6 +18,8 @@ const TICKS = 30;
 export const MARKS = [20.5, 27];
 const MARKS_FROM = 10;
 export const OPERATIONS = 49;
+// The greatest glyph, so that its letter has 12.5 pixels.
+const OPERATION = 19;
 const ERROR = 68;
 
 export function timelineOf(sheet) {
@@ -64,7 +66,7 @@ function bands({ line, first, last, x, step, height }) {
 
 function ticks({ line, shown, first, last, x, step }) {
   const every = [1, 2, 5, 10, 20, 50, 100].find((it) => it * step >= 26) ?? 200;
-  const side = Math.min(18, step * 0.84);
+  const side = Math.min(OPERATION, step * 0.84);
   const elements = [];
   for (let moment = first; moment <= last; moment += 1) {
     const isNow = moment === shown.moment;
@@ -185,5 +187,5 @@ function glyphOf(item, side) {
     return isControlled(item) ? { glyph: "gate", role: letter.toLowerCase(), label: letter } : { glyph: gates[item.name].second, role: "wire" };
   }
   const { shape, role, label } = gates[item.name];
-  return { glyph: shape, role, label };
+  return { glyph: shape, role, label: label && (table.brief[label] ?? label) };
 }

@@ -1,6 +1,7 @@
 // @ts-check
 // What is said of a detector under the pointer, and of what an edit flipped.
 
+import { by } from "./by_id.js";
 import { findNumbered } from "./circuit.js";
 
 // {words, path} of a detector or observable, as D3 or L0.
@@ -18,6 +19,16 @@ export function saidOfBit(bit, state) {
 function kindOf(bit, state) {
   if (state.deterministic === null) return "";
   return state.isRandom(bit) ? ", random" : ", deterministic";
+}
+
+// Shows words beside a place of the window, or with none hides them.
+/** @param {string} words @param {{left: number, top: number}} place */
+export function showWords(words, place) {
+  by("tip").hidden = !words;
+  if (!words) return;
+  by("tip").textContent = words;
+  by("tip").style.left = `${Math.min(place.left + 14, innerWidth - by("tip").offsetWidth - 4)}px`;
+  by("tip").style.top = `${Math.min(place.top + 14, innerHeight - by("tip").offsetHeight - 4)}px`;
 }
 
 const MOST_FLIPS = 12;

@@ -6,7 +6,7 @@
  * @typedef {{ticks?: number, bounds?: number, records?: number, detectors?: number, steps?: number, coins?: number}} Counts
  *
  * A line of a circuit, or a block with its items (circuit.js). `on` has the qubits on which it acts, once they were asked for.
- * @typedef {Counts & {text: string, cut: boolean, written?: Written, name?: string, targets?: string[], on?: number[], count?: number, items?: Item[], once?: Counts}} Item
+ * @typedef {Counts & {text: string, cut: boolean, written?: Written, wrapped?: {columns: number, count: number}, name?: string, targets?: string[], on?: number[], count?: number, items?: Item[], once?: Counts}} Item
  *
  * The line that was given for some items that follow each other, of which this is one: how many they are, and which it is.
  * @typedef {{text: string, count: number, part: number}} Written
@@ -31,7 +31,7 @@
  * What is drawn (glyphs.js).
  * @typedef {{path?: any[][], fill?: string, stroke?: string, width?: number, dash?: number[], alpha?: number, hatch?: string, bit?: string, boxes?: number[][],
  *   words?: string, x?: number, y?: number, size?: number, align?: string, weight?: number, mono?: boolean, halo?: string,
- *   glyph?: string, side?: number, role?: string, label?: string, small?: string, isLate?: boolean}} Element
+ *   glyph?: string, side?: number, role?: string, label?: string, isLate?: boolean}} Element
  *
  * What a menu offers: words, what choosing them does, and perhaps a key that does too.
  * @typedef {[string, () => unknown, string?]} Offer

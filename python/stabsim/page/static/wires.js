@@ -3,16 +3,20 @@
 
 import { circle, gates } from "./glyphs.js";
 import { actionsOf, qubitsOf } from "./instructions.js";
-import { actingAt, nameOf } from "./moments.js";
+import { actingAt, momentAt, nameOf } from "./moments.js";
+import { noiseOf } from "./noise.js";
 import { plateAt } from "./region_drawing.js";
 
 // How high a line is, how wide a moment, where lines begin, and how high the head with the ticks is.
-export const ROW = 30;
-export const STEP = 34;
+export const ROW = 34;
+export const STEP = 42;
 export const LEFT = 46;
 export const HEAD = 22;
-const SIDE = 20;
+// So that two letters have 12.5 pixels; and of what has none.
+const SIDE = 24.1;
+const PAIR = 18;
 const LETTER = 13;
+const NOISE = 10;
 
 // What acts on the qubits at a moment, each {places, glyphs, partners}: on which of the lines, what is drawn there, and the qubits of the same
 // gate that have none.
@@ -34,8 +38,8 @@ function actOf({ name }, action, lineOf) {
 function glyphOf(name, { factors, record }, i) {
   if (record) return { glyph: "gate", role: name.at(-1).toLowerCase(), label: name.at(-1) };
   if (factors) return { glyph: "factor", role: factors[i].role, label: factors[i].label };
-  const { shape, role, label, small, first, second } = gates[name];
-  return first ? { glyph: i ? second : first, role: "wire" } : { glyph: shape, role, label, small };
+  const { shape, role, label, first, second } = gates[name];
+  return first ? { glyph: i ? second : first, role: "wire" } : { glyph: shape, role, label };
 }
 
 // The moments that have room in this width, with the one that is shown among them: the first, and how many.
@@ -59,6 +63,8 @@ export function wiresOf({ items, moment, qubits, marksAt, waysAt }, { width, fir
   for (let at = first; at < first + count; at += 1) {
     layers.ground.push({ words: nameOf(items, at).name, x: x(at), y: HEAD / 2, size: 12.5, fill: at === moment ? "ink" : "quiet", weight: at === moment ? 700 : 400 });
     for (const act of actsOn(items, at, qubits)) drawAct(layers, act, x(at), y);
+    const noise = noiseOf(momentAt(items, at));
+    qubits.forEach((qubit, line) => noise.has(qubit) && layers.letters.push({ glyph: "noise", x: x(at), y: y(line) - ROW / 2 + 2, side: NOISE, role: "quiet" }));
     drawLetters(layers, qubits, { letters: waysAt(at), marks: marksAt(at) }, [x(at) + STEP / 2, y]);
   }
   return [layers.ground, layers.joints, layers.glyphs, layers.letters];
@@ -68,7 +74,7 @@ export function wiresOf({ items, moment, qubits, marksAt, waysAt }, { width, fir
 function drawAct(layers, { places, glyphs, partners }, x, y) {
   const [top, bottom] = [Math.min(...places), Math.max(...places)];
   if (top < bottom) layers.joints.push({ path: [["M", x, y(top)], ["L", x, y(bottom)]], stroke: "wire", width: 1.5 });
-  places.forEach((line, i) => layers.glyphs.push({ ...glyphs[i], x, y: y(line), side: SIDE }));
+  places.forEach((line, i) => layers.glyphs.push({ ...glyphs[i], x, y: y(line), side: glyphs[i].label ? SIDE : PAIR }));
   if (partners.length) layers.letters.push({ words: partners.length > 1 ? `${partners[0]} …` : String(partners[0]), x: x + 3, y: y(bottom) + ROW / 2 - 4, size: 12.5, fill: "quiet", align: "left", halo: "sheet" });
 }
 

@@ -5,7 +5,7 @@ of another detector with those of the rows that flip it is the same for all coin
 detector no error is said: with the row it makes what the coin makes anyhow.
 """
 
-from collections.abc import Iterable
+from collections.abc import Iterable, Sequence
 from dataclasses import replace
 from typing import TYPE_CHECKING
 
@@ -13,9 +13,9 @@ import numpy as np
 
 from stabsim.errors import Refused
 from stabsim.formats.combining import starts_of
+from stabsim.noise.flipped import Flipped
 from stabsim.questions.asked import Asked
-from stabsim.questions.faults import FaultTable
-from stabsim.text.reading import closed_text, items_of
+from stabsim.text.reading import items_of
 from stabsim.text.record_sums import sums_of
 
 if TYPE_CHECKING:
@@ -51,16 +51,15 @@ def add_to(basis: Basis, row: set[int]) -> None:
     basis[own] = row
 
 
-def table_with_gauges(text: str, basis: Basis) -> FaultTable:
-    """The faults of a text with marks: a gauge detector is flipped where its sum with those that stand for coins is."""
+def table_with_gauges(lines: Sequence[str], basis: Basis, detectors: int, observables: int) -> Flipped:
+    """What marks of lines flip: a gauge detector is flipped where its sum with those that stand for coins is."""
     sums = {detector: {detector, *(own for own, row in basis.items() if detector in row)}
             for detector in set().union(*basis.values()) - basis.keys()}
-    table = Asked(closed_text(text) + "".join(lines_of_sums(text, sums.values()))).faults(sure_only=True)
-    detectors = table.num_detectors - len(sums)
+    table = Flipped.of([*lines, *lines_of_sums("\n".join(lines), sums.values())], detectors + len(sums), observables, sure_only=True)
     # The sums are declared after all detectors, and are the gauge detectors' now.
-    place = np.concatenate([np.arange(detectors), np.fromiter(sums, np.int64, len(sums)), detectors + np.arange(table.num_observables)])
-    rows, indices = np.repeat(np.arange(len(table)), np.diff(table.indptr)), place[table.indices]
-    return replace(table, indices=indices[np.lexsort((indices, rows))], num_detectors=detectors)
+    place = np.concatenate([np.arange(detectors), np.fromiter(sums, np.int64, len(sums)), detectors + np.arange(observables)])
+    rows, indices = np.repeat(np.arange(len(table.indptr) - 1), np.diff(table.indptr)), place[table.indices]
+    return Flipped(table.indptr, indices[np.lexsort((indices, rows))], detectors, observables)
 
 
 def lines_of_sums(text: str, sums: Iterable[set[int]]) -> list[str]:
@@ -74,7 +73,7 @@ def lines_of_sums(text: str, sums: Iterable[set[int]]) -> list[str]:
         total = set[int]()
         for detector in detectors:
             total ^= records.get(detector, set())
-        lines.append(" ".join(["DETECTOR", *(f"rec[{record - added.records}]" for record in sorted(total))]) + "\n")
+        lines.append(" ".join(["DETECTOR", *(f"rec[{record - added.records}]" for record in sorted(total))]))
     return lines
 
 
