@@ -158,6 +158,15 @@ def time_page(_: Path, path: Path) -> None:
     bench_page.measure(path)
 
 
+def time_noise(_: Path, __: Path) -> None:
+    """The milliseconds of processor time of models of noise, also after edits of noise, of gates and of a detector, and of shots."""
+    # It needs numpy, and the others don't.
+    import bench_noise
+
+    head("Circuit", "model", "after a channel", "after gates", "after a detector", *(f"{bench_noise.SHOTS:,} shots of `{it}`" for it in ("detect", "sample")))
+    bench_noise.measure(row)
+
+
 def time_crate(_: Path, path: Path) -> None:
     """Times the tableau, reading, whole runs, edits and tables of faults, by the program of crates/bench, built for this processor."""
     crate, folder = TOP / "crates" / "bench", path.parent
@@ -192,7 +201,7 @@ def time_crate(_: Path, path: Path) -> None:
 
 # What is measured, with the program and a file for circuits.
 KINDS: dict[str, Callable[[Path, Path], None]] = {
-    "shots": time_shots, "hour": time_an_hour, "limits": time_limits, "page": time_page, "crate": time_crate,
+    "shots": time_shots, "hour": time_an_hour, "limits": time_limits, "page": time_page, "noise": time_noise, "crate": time_crate,
 }
 
 

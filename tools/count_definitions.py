@@ -21,8 +21,7 @@ THEOREMS = {
     "deterministic": ["stab_texts.Deterministic.EndsDeterministic"],
     "faults, coins and deterministic --explain": [
         "stab_texts.FaultTables.EndsFaults", "stab_texts.CoinTables.EndsCoins", "stab_texts.Reasons.EndsExplain"],
-    "distance": ["stab_texts.Distances.EndsDistance", "stab_texts.Distances.EndsSearched", "stab_texts.Distances.EndsEach",
-        "stab_texts.Distances.EndsCounted"],
+    "distance": ["stab_texts.Questions.EndsQuestion"],
     "errors everywhere": [
         "stab_errors.EverywhereLaws.WrongRecordsAreInverted", "stab_errors.EverywhereLaws.LettersAreErrors", "stab_errors.EverywhereLaws.StringsAreErrors"],
     "edit": ["stab_editor.ScriptEndings.EndsPlainEdit"],
@@ -34,7 +33,7 @@ THEOREMS = {
     "what an edit costs": ["stab_session::apply"],
     "laws": [
         "stab_tableau::gates_keep_sound", "stab_tableau::outcomes_keep_sound", "stab_tableau::members_are_a_group",
-        "stab_tableau::free_where_anticommuting", "stab_run::same_future", "stab_tableau::traces_have_one_list",
+        "stab_tableau::free_where_anticommuting", "stab_run::same_future", "stab_tableau::traces_have_one_list", "stab_distance::parts_are_whole",
         "stab_circuit::printed_items_are_read_back"],
     "what the program calls": [
         "stab_args::parse_words", "stab_args::read_coins", "stab_cli::run_job_watched", "stab_cli::write_usage", "stab_texts::write_fault"],

@@ -4,6 +4,10 @@ long is ended: a reply that is held back would be waited for without end."""
 import os
 import pathlib
 import sys
+import tempfile
+from collections.abc import Iterator
+
+import pytest
 
 sys.path.insert(0, str(pathlib.Path(__file__).resolve().parent.parent))
 
@@ -13,3 +17,12 @@ from ending import end_in_time  # noqa: E402, F401: a fixture of all tests, from
 
 if "STABSIM" not in os.environ:
     os.environ["STABSIM"] = str(find_program())
+
+
+@pytest.fixture(name="work")
+def folder_for_all() -> Iterator[pathlib.Path]:
+    """A folder that other users may read too."""
+    with tempfile.TemporaryDirectory(ignore_cleanup_errors=True) as folder:
+        work = pathlib.Path(folder)
+        work.chmod(0o755)
+        yield work

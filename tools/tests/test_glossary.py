@@ -21,7 +21,6 @@ STANDING = {
     ("framed", "crates/tests_program/src/"),
     ("framed", "crates/stab_frames/specs/PropagatedTableaus.antt"),
     ("apart", "crates/stab_edits/src/walk.rt"),
-    ("apart", "crates/stab_run/src/laws.rt"),
     ("apart", "crates/stab_ways/proofs/FrontLemmas.antt"),
     ("turned", "crates/stab_edits/proofs/StepPathLemmas.antt"),
     ("copies of the state", "crates/stab_circuit/specs/Limits.antt"),

@@ -1,8 +1,10 @@
 """What ruff.toml asks of the repository's Python holds. Without ruff, flake8 looks for the same."""
 
+import importlib.util
 import pathlib
 import shutil
 import subprocess
+import sys
 import tomllib
 
 import pytest
@@ -18,8 +20,8 @@ def linter() -> list[str]:
     """The words that look at files, which come after them."""
     if shutil.which("ruff"):
         return ["ruff", "check", "--no-cache", "--quiet", "--config", "ruff.toml"]
-    if shutil.which("flake8"):
-        return ["flake8", "--isolated", "--select", ",".join(RULES["select"]), "--ignore", ",".join([*RULES["ignore"], *OF_FLAKE8_ALONE])]
+    if importlib.util.find_spec("flake8"):
+        return [sys.executable, "-m", "flake8", "--isolated", "--select", ",".join(RULES["select"]), "--ignore", ",".join([*RULES["ignore"], *OF_FLAKE8_ALONE])]
     pytest.skip("there is neither ruff nor flake8")
 
 

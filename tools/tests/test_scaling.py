@@ -4,25 +4,20 @@ the same over an ssh server on the loopback address, and a Slurm of one node, wh
 A way whose packages are missing is skipped: parallel; openssh-server; slurmctld, slurmd, slurm-client and munge of Debian. The servers
 are started as root, and what is started is ended, by its number."""
 
-import contextlib
 import os
 import pathlib
 import shlex
 import shutil
 import signal
-import socket
 import subprocess
-import tempfile
-import time
-from collections.abc import Callable, Iterator
 
 import pytest
 from oracle.formats import FORMATS
 from program import TOP
 from running import PROGRAM
+from servers import PATH, free_ports, needs, said_by, slurm_in, started, until
 
 SCRIPTS = TOP / "examples/scaling"
-PATH = f"{os.environ['PATH']}:/usr/sbin"
 # Each record of the circuit, each detector and the observable is a coin.
 CIRCUIT = "REPEAT 9 {\n    RX 0 1\n    M 0 1\n    DETECTOR rec[-1]\n}\nM 2\nOBSERVABLE_INCLUDE(0) rec[-2] rec[-3]\n"
 # A circuit whose shots take long, and are some bytes each: coins decide its resets, which make no record.
@@ -51,37 +46,8 @@ KILLED = (0, 17, 39)
 DETECT = ["detect", "--append_observables"]
 
 
-def needs(*names: str, root: bool = False) -> pytest.MarkDecorator:
-    missing = [name for name in names if not shutil.which(name, path=PATH)]
-    return pytest.mark.skipif(bool(missing) or root and os.geteuid() != 0, reason=f"missing: {' '.join(missing) or 'root'}")
-
-
-def until(is_done: Callable[[], object]) -> None:
-    """Waits until something is so, as long as the test may take."""
-    while not is_done():
-        time.sleep(0.1)
-
-
-def free_ports(count: int) -> list[int]:
-    """Ports at which nothing listens."""
-    with contextlib.ExitStack() as stack:
-        sockets = [stack.enter_context(socket.create_server(("127.0.0.1", 0))) for _ in range(count)]
-        return [it.getsockname()[1] for it in sockets]
-
-
 def first_shot(part: int) -> str:
     return str(part * SHOTS // PARTS)
-
-
-@contextlib.contextmanager
-def started(*words: str | pathlib.Path) -> Iterator[None]:
-    """Something that runs meanwhile."""
-    process = subprocess.Popen(words, env={**os.environ, "PATH": PATH}, stdout=subprocess.DEVNULL, stderr=subprocess.DEVNULL)
-    try:
-        yield
-    finally:
-        process.terminate()
-        process.wait()
 
 
 class Parts:
@@ -130,15 +96,6 @@ class Parts:
         """Whether only parts that were missing were run again, and what is joined is one run."""
         assert {file.name for file in (self.work / "begun").iterdir()} == {first_shot(part) for part in KILLED}
         return (self.folder / f"all.{self.form}").read_bytes() == self.whole
-
-
-@pytest.fixture(name="work")
-def folder_for_all() -> Iterator[pathlib.Path]:
-    """A folder that other users may read too."""
-    with tempfile.TemporaryDirectory(ignore_cleanup_errors=True) as folder:
-        work = pathlib.Path(folder)
-        work.chmod(0o755)
-        yield work
 
 
 @pytest.mark.parametrize("form", FORMATS)
@@ -195,63 +152,6 @@ def test_parts_over_ssh_are_one_run(work: pathlib.Path) -> None:
     with started(*server, *(word for it in options for word in ("-o", it))):
         until(lambda: subprocess.run([*ssh, "127.0.0.1", "true"], capture_output=True, check=False).returncode == 0)
         run_and_kill_on_machines(parts)
-
-
-def configuration(folder: pathlib.Path, host: str) -> str:
-    ports = free_ports(2)
-    return f"""\
-ClusterName=one
-SlurmctldHost={host}(127.0.0.1)
-SlurmUser=root
-AuthType=auth/munge
-AuthInfo=socket={folder}/socket/munge
-CryptoType=crypto/munge
-ProctrackType=proctrack/linuxproc
-TaskPlugin=task/none
-SelectType=select/cons_tres
-SelectTypeParameters=CR_Core
-SlurmctldPort={ports[0]}
-SlurmdPort={ports[1]}
-StateSaveLocation={folder}/state
-SlurmdSpoolDir={folder}/spool
-SlurmctldPidFile={folder}/slurmctld.pid
-SlurmdPidFile={folder}/slurmd.pid
-SlurmctldLogFile={folder}/slurmctld.log
-SlurmdLogFile={folder}/slurmd.log
-SchedulerParameters=batch_sched_delay=0,sched_interval=1
-ReturnToService=2
-NodeName={host} NodeAddr=127.0.0.1 CPUs={len(os.sched_getaffinity(0))} State=UNKNOWN
-PartitionName=all Nodes={host} Default=YES MaxTime=INFINITE State=UP
-"""
-
-
-@contextlib.contextmanager
-def slurm_in(folder: pathlib.Path) -> Iterator[None]:
-    """A Slurm of one node, in a folder of its own."""
-    host, munge = os.uname().nodename, folder / "munge"
-    for name in ("state", "spool", "munge", "socket"):
-        (folder / name).mkdir(parents=True)
-    (munge / "key").write_bytes(os.urandom(1024))
-    for file, mode in ((munge / "key", 0o400), (munge, 0o700), (folder / "socket", 0o755)):
-        shutil.chown(file, "munge")
-        file.chmod(mode)
-    (folder / "slurm.conf").write_text(configuration(folder, host))
-    files = {"key-file": "munge/key", "socket": "socket/munge", "pid-file": "munge/pid", "log-file": "munge/log", "seed-file": "munge/seed"}
-    words = ["runuser", "-u", "munge", "--", "/usr/sbin/munged", "--foreground", *(f"--{name}={folder / file}" for name, file in files.items())]
-    with contextlib.ExitStack() as stack:
-        stack.enter_context(started(*words))
-        until((folder / "socket/munge").is_socket)
-        stack.enter_context(started("slurmctld", "-c", "-D"))
-        until(lambda: said_by("scontrol", "ping"))
-        stack.enter_context(started("slurmd", "-D", "-N", host))
-        until(lambda: said_by("sinfo", "-h", "-o", "%T") == "idle")
-        yield
-
-
-def said_by(*words: str) -> str:
-    """What a command says, if it ends well."""
-    done = subprocess.run(words, capture_output=True, text=True, check=False)
-    return done.stdout.strip() if done.returncode == 0 else ""
 
 
 def running_task(part: int) -> str:
