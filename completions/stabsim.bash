@@ -28,7 +28,7 @@ _stabsim() {
         deterministic) choices="--out_format --explain --in --out --help" ;;
         faults) choices="--out_format --everywhere --deterministic_only --in --out --help" ;;
         coins) choices="--out_format --in --out --help" ;;
-        distance) choices="--everywhere --letters --most --graphlike --observable --each --table --wcnf --count --deterministic_only --progress --in --out --help" ;;
+        distance) choices="--everywhere --letters --most --graphlike --observable --each --table --wcnf --count --part --deterministic_only --progress --in --out --help" ;;
         propagate) choices="--at --every --in --out --help" ;;
         help) [ "$COMP_CWORD" -eq 2 ] && choices=$commands ;;
         esac
