@@ -235,10 +235,10 @@ def test_how_far_workers_are_is_shown_on_a_terminal(notes):
 
 async def searched_on_the_page(text, until=None):
     """What tabs hear of a search on the page, which is stopped once something is so."""
-    from stabsim.page.distances import DistanceSearch
+    from stabsim.page.distances import EVERYWHERE, DistanceSearch
     heard = []
     search = DistanceSearch(heard.append, asyncio.create_task)
-    search.begin(7, False, text)
+    search.begin(7, EVERYWHERE, text)
     while not search.task.done():
         await asyncio.sleep(0.05)
         if until and until():

@@ -143,7 +143,7 @@ def test_the_distance_of_noise_is_shown_with_its_set_and_falls_away_with_the_noi
     page.wait(lambda: "before the last edits: distance 3 of all errors of its own noise" in about(page, "distance"))
     ask_distance(page)
     page.wait(lambda: page.texts("#about-distance h3") == ["Distance of its own noise"])
-    assert page.texts("#about-distance p")[0] == "no set of errors flips an observable unseen"
+    page.wait(lambda: page.texts("#about-distance p")[:1] == ["no set of errors flips an observable unseen"])
 
 
 @needs_browser

@@ -7,7 +7,7 @@ from stabsim import program
 from stabsim.errors import Refused
 from stabsim.text.carrying import MARKED, carried, riding_of, stands_for_one
 from stabsim.text.judging import in_users_words
-from stabsim.text.names import ELSE, FIRST
+from stabsim.text.names import ELSE
 from stabsim.text.profile import Profile, profile_of, qubits_named
 from stabsim.text.reading import Block, content_of, items_of, parts_of, walk
 
@@ -48,7 +48,7 @@ def carried_item(text: str, circuit: Callable[[], str]) -> str:
     parts = parts_of(content_of(text))
     if parts and parts.name == ELSE:
         # It may come after another, which is judged with the whole circuit.
-        return carried(text, before=FIRST)
+        return carried(text)
     profile, fault = profile_of(text)
     if fault:
         raise fault

@@ -11,7 +11,7 @@ import re
 from collections.abc import Callable, Iterable, Iterator, Sequence
 from dataclasses import replace
 
-from stabsim.text.names import NOISE
+from stabsim.text.names import FIRST, NOISE
 from stabsim.text.profile import Made, made_of, spare_qubit
 from stabsim.text.reading import SPACING, Block, Instruction, Item, Line, Parts, content_of, headed, lines_of, parts_of, walk
 from stabsim.text.written import printed
@@ -46,9 +46,9 @@ def ridden(name: str, riding: Sequence[str], arguments: Sequence[str] = (), targ
     return str(Instruction(0, name, MARK + escaped("\n".join(riding)), tuple(arguments), tuple(targets)))
 
 
-def carried(text: str, comments: bool = True, before: str = "", others: Callable[[], str] = lambda: "") -> str:
-    """A text of Stim's that was judged, as the program's; comments: whether they ride along; before: the name of the instruction before it;
-    others: answers a text whose qubits known records leave alone too."""
+def carried(text: str, comments: bool = True, others: Callable[[], str] = lambda: "") -> str:
+    """A text of Stim's that was judged, as the program's; comments: whether they ride along; others: answers a text whose qubits known
+    records leave alone too. An edit may have parted an ELSE_CORRELATED_ERROR from those that it follows: an error model refuses that."""
     if not text:
         return ""
     spare = functools.cache(lambda: spare_qubit(f"{others()}\n{text}"))
@@ -58,8 +58,8 @@ def carried(text: str, comments: bool = True, before: str = "", others: Callable
         if not line.content:
             above += [line.text.strip(SPACING)] if comments else []
             continue
-        lines += list(carried_line(line, above, comments, functools.partial(made_of, before=before, spare=spare)))
-        above, before = [], line.parts.name if line.parts else ""
+        lines += list(carried_line(line, above, comments, functools.partial(made_of, before=FIRST, spare=spare)))
+        above = []
     return "\n".join([*lines, *trailing(above), ""])
 
 
