@@ -10,6 +10,8 @@ from running import run
 
 # How many tables of each shape are tried, and in how many parts, which run side by side.
 COUNT, PARTS = (10_000, 10) if "STABSIM_RELEASE" in os.environ else (100, 1)
+# What is said of a table without errors.
+NONE_MARKED = "stabsim: no place is marked by I; --everywhere asks for all places\n"
 
 
 def wrong(table: Table, most: int | None, observable: int | None) -> str | None:
@@ -23,7 +25,7 @@ def wrong(table: Table, most: int | None, observable: int | None) -> str | None:
     kinds = [kind] if least is not None or most is None else [kind, f"none up to {most}"]
     errors = [int(line.split()[2].removeprefix("X")) for line in lines]
     named = first.split(" of ")[0].split(" for ")[0]
-    right = status == 0 and not told and named in kinds and len(set(errors)) == len(errors)
+    right = status == 0 and told == ("" if table.rows else NONE_MARKED) and named in kinds and len(set(errors)) == len(errors)
     if named.startswith("distance"):
         right = right and len(errors) == least and table.is_logical(table.flipped(errors), observable)
     return None if right else f"{options} on\n{table.circuit()}\n{least}: {written}{told}"
