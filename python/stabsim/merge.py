@@ -5,6 +5,7 @@ import pathlib
 import sys
 
 from stabsim import program
+from stabsim.command import standard_output
 from stabsim.questions.distance_parts import merged
 
 
@@ -14,11 +15,13 @@ def main() -> int:
         print(__doc__, file=sys.stdout if names else sys.stderr)
         return 0 if names else 2
     try:
+        out = standard_output()
         answer = merged((name, program.text_of(pathlib.Path(name).read_bytes())) for name in names)
+        out.write(answer.encode())
+        out.flush()
     except (OSError, ValueError) as fault:
         print(f"merge: {fault}", file=sys.stderr)
         return 1
-    sys.stdout.write(answer)
     return 0
 
 

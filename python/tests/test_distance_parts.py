@@ -158,6 +158,15 @@ def test_the_command_writes_the_answer_or_a_line_and_no_file(tmp_path):
     assert sorted((it.name, it.read_text()) for it in tmp_path.iterdir()) == before
 
 
+@pytest.mark.parametrize("output, why", [(">&-", "standard output is closed"), (">/dev/full", "No space left on device")])
+def test_an_output_that_is_closed_or_full_has_a_line(tmp_path, output, why):
+    for number, text in enumerate((FIRST, SECOND, THIRD), start=1):
+        (tmp_path / f"part_{number}.txt").write_text(text)
+    done = subprocess.run(["sh", "-c", f'exec "$0" -m stabsim.merge part_1.txt part_2.txt part_3.txt {output}', sys.executable], cwd=tmp_path, capture_output=True, text=True,
+                          check=False)
+    assert done.returncode == 1 and done.stderr.count("\n") == 1 and done.stderr.endswith(f"{why}\n")
+
+
 @pytest.fixture(name="notes")
 def stand_in(tmp_path, monkeypatch):
     """The folder in which each search is noted, by a program in the place of the program."""

@@ -199,3 +199,10 @@ def test_each_format_of_the_package_is_written():
         expected = WRITERS[name](stabsim.from_stim(KNOWN).sample(64), {"M": 3, "D": 0, "L": 0})
         assert run(f"sample --shots 64 --out_format {name} --in known.stim") == (expected, 0, "")
         assert pathlib.Path("known.stim").read_text() == KNOWN
+
+
+@pytest.mark.parametrize("words", ["sample --in known.stim", "gen --code repetition_code --task memory --distance 3 --rounds 2"])
+@pytest.mark.parametrize("output, why", [(">&-", "standard output is closed"), (">/dev/full", "No space left on device")])
+def test_an_output_that_is_closed_or_full_has_a_line(words, output, why):
+    done = subprocess.run(["sh", "-c", f'exec "$0" -m stabsim {words} {output}', sys.executable], capture_output=True, text=True, check=False)
+    assert done.returncode == 1 and done.stderr.count("\n") == 1 and done.stderr.endswith(f"{why}\n")
