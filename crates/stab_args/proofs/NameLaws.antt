@@ -147,7 +147,7 @@ entered_name own a (Some p) name options are e other =
 
 -- the commands as the reader finds them, one of them by two names
 abbrev own_labels : Names
-own_labels = (codes "sample", []) ∷ (codes "detect", []) ∷ (codes "stabilisers", codes "stabilizers" ∷ []) ∷ (codes "edit", []) ∷ (codes "check", []) ∷ (codes "deterministic", []) ∷ (codes "faults", []) ∷ (codes "coins", []) ∷ (codes "distance", []) ∷ (codes "propagate", []) ∷ []
+own_labels = (codes "sample", []) ∷ (codes "detect", []) ∷ (codes "stabilisers", codes "stabilizers" ∷ []) ∷ (codes "edit", []) ∷ (codes "check", []) ∷ (codes "deterministic", []) ∷ (codes "faults", []) ∷ (codes "coins", []) ∷ (codes "distance", []) ∷ (codes "propagate", []) ∷ (codes "propagate_each", []) ∷ []
 
 -- If the reader finds no fault, the command that the words name is one of the program's own.
 pub own_name : (kept : KeptNames) (words : List Text) (name : Text) (options : List Row) → fault_of (stabsim kept) words ≡ [] → subcommand_of (stabsim kept) words ≡ Some (name, options)

@@ -8,7 +8,7 @@ use Rattle.std.specs.Borrow.{Bor}
 use Rattle.std.specs.List.{after_first, before_first}
 use Rattle.std.specs.Prelude.{◌+◌, ◌<◌, ◌^◌, decimal}
 use Rattle.clap.proofs.CutLemmas.{Lacks, after_first-at, before_first-at}
-use Rattle.stab_distance.specs.PartNumbers.{PartNumbers, most_parts}
+use Rattle.stab_search.specs.PartNumbers.{PartNumbers, most_parts}
 use Rattle.stab_args.specs.Asked.{IsPart, part_word}
 
 -- what is written of a number has no slash

@@ -11,7 +11,7 @@ use Rattle.clap.specs.declared.error.kind.ErrorKind.{ErrorKind}
 use Rattle.clap.specs.declared.error.kind.ErrorKind.TheVariants.{DisplayHelp, DisplayVersion}
 use Rattle.stab_gates.specs.Limits.{most_qubits}
 use Rattle.stab_circuit.specs.Limits.{most_stride}
-use Rattle.stab_distance.specs.PartNumbers.{PartNumbers, most_parts}
+use Rattle.stab_search.specs.PartNumbers.{PartNumbers, most_parts}
 use Rattle.stab_jobs.specs.Limits.{ShotRange, last_shot, most_shots, shots_of_seed}
 use Rattle.stab_args.specs.Coins.{coin_text}
 use Rattle.stab_args.specs.Options.{KeptNames, format_names, last_observable, letter_names, most_errors, most_seed, stabsim}
@@ -19,7 +19,7 @@ use Rattle.stab_args.specs.declared.words.Usage.{Usage}
 use Rattle.stab_args.specs.declared.words.Usage.TheVariants.{Help, Fault, Memory}
 use Rattle.stab_jobs.specs.declared.job.Job.{Job}
 use Rattle.stab_jobs.specs.declared.job.Command.{Command}
-use Rattle.stab_jobs.specs.declared.job.Command.TheVariants.{Sample, Detect, Stabilisers, Check, Deterministic, Explain, Faults, Coins, Distance, Edit, Propagate}
+use Rattle.stab_jobs.specs.declared.job.Command.TheVariants.{Sample, Detect, Stabilisers, Check, Deterministic, Explain, Faults, Coins, Distance, Edit, Propagate, PropagateEach}
 use Rattle.stab_jobs.specs.declared.job.Question.{Question}
 use Rattle.stab_jobs.specs.declared.job.Question.TheVariants.{Least, Counted, Each, Part, Errors}
 use Rattle.stab_jobs.specs.declared.job.DistanceOptions.{DistanceOptions}
@@ -166,6 +166,7 @@ IsCommand name options (Distance question asked) = (name ≡ codes "distance") �
 IsCommand name options (Edit framed qubits stride) =
     (name ≡ codes "edit") × IsSet (one_of (codes "framed") options) framed × IsWrittenIfGiven 0 most_qubits (one_of (codes "qubits") options) qubits × IsWritten 1 most_stride (one_of (codes "stride") options) stride
 IsCommand name options (Propagate every) = (name ≡ codes "propagate") × IsSet (one_of (codes "every") options) every
+IsCommand name options (PropagateEach everywhere) = (name ≡ codes "propagate_each") × IsSet (one_of (codes "everywhere") options) everywhere
 
 -- the text of an option, which is empty if the option isn't given
 abbrev pub text_or_none : Option Text → Text

@@ -133,6 +133,10 @@ positional id = record (new_rule id) { value_names = 1 }
 abbrev pub propagate : Shape
 propagate = record (new_shape (codes "propagate")) { rules = wanted (valued (codes "at")) ∷ wanted (positional (codes "PAULI")) ∷ flag (codes "every") ∷ file_options }
 
+-- the command `propagate_each`, which takes no coins
+abbrev pub propagate_each : Shape
+propagate_each = record (new_shape (codes "propagate_each")) { rules = flag (codes "everywhere") ∷ file_options }
+
 -- the program without its commands, of which some command is wanted, and which says its version
 abbrev pub bare : App
 bare = on_top (λ s. record s { subcommand_required = true; has_version = true }) (new_app (codes "stabsim"))
@@ -145,7 +149,7 @@ with_commands app (command ∷ commands) = with_commands (with_subcommand app co
 -- the commands of the program, in the order of the help
 abbrev pub commands : KeptNames → List Shape
 commands names =
-    shot_command (codes "sample") names.formats ∷ detect names.formats ∷ stabilisers ∷ edit ∷ check ∷ deterministic names.formats ∷ faults names.formats ∷ coins names.formats ∷ distance names.letters ∷ propagate ∷ []
+    shot_command (codes "sample") names.formats ∷ detect names.formats ∷ stabilisers ∷ edit ∷ check ∷ deterministic names.formats ∷ faults names.formats ∷ coins names.formats ∷ distance names.letters ∷ propagate ∷ propagate_each ∷ []
 
 -- the program
 abbrev pub stabsim : KeptNames → App

@@ -1,6 +1,6 @@
 //! The word of a part of a search, K/N.
 ghost use Rattle.std.specs.Prelude.{◌≡◌, ◌<◌, ◌≤◌, ◌^◌, ℕ, decimal, true, false, IfSome, IfNone};
-ghost use Rattle.stab_distance.specs.PartNumbers.{PartNumbers, most_parts};
+ghost use Rattle.stab_search.specs.PartNumbers.{PartNumbers, most_parts};
 ghost use Rattle.stab_args.specs.Asked.{IsPart, part_word};
 
 use itoa::Buffer;

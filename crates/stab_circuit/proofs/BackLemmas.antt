@@ -1,6 +1,7 @@
 -- Items that keep the rules of lines are those of some lines, and are read back.
-use Rattle.stab_circuit.proofs.Names.{◌≡◌, ◌≤◌, ap, sym, ◌∙◌, ◌∷◌, Ok, Line, Close, Open, meaning_of, line_printed, good_said, Each, each-append, Items, done, next, block, depth, IsGoodLine, AreGood, IsReadBack}
-use Rattle.stab_lines.specs.declared.operation.Line.TheVariants as line
+use Rattle.stab_circuit.proofs.Names.{◌≡◌, ◌≤◌, ap, sym, ◌∙◌, ◌∷◌, Ok, Line, Close, Open, meaning_of, line_printed, Each, each-append, Items, done, next, block, depth, IsGoodLine, AreGood, IsReadBack}
+use Rattle.stab_circuit.proofs.LineLaws.{good_said}
+use Rattle.stab_instructions.specs.declared.operation.Line.TheVariants as line
 use Rattle.stab_circuit.proofs.BlankLemmas.{lines_of}
 use Rattle.stab_circuit.proofs.RoundLemmas.{IsOfLine, AreMeant, read_back}
 use Rattle.stab_circuit.proofs.LineItemLemmas.{of_lines}

@@ -1,6 +1,6 @@
 -- The lines of items except blank ones: what they are, and that blanks make no fault.
 use Rattle.stab_circuit.proofs.Names.{◌≡◌, refl, ap, sym, ◌∙◌, subst, ℕ, ◌+◌, suc, List, [], ◌∷◌, ◌++◌, Bool, true, false, nat_lt, length, Option, None, Some, Ok, Err, append_assoc, arith, if◌then◌else◌, Refusal, TooDeep, Fault, Operation, Blank, Close, Open, Items, done, next, block, Meaning, Joins, nothing, blank_line, operation_line, block_lines, at_line, fault_from, Each}
-use Rattle.stab_lines.specs.declared.operation.Line.TheVariants as line
+use Rattle.stab_instructions.specs.declared.operation.Line.TheVariants as line
 use Rattle.stab_circuit.proofs.ReadingLemmas.{fault_opens}
 
 -- the lines of items, none of them blank

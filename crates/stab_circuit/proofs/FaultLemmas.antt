@@ -1,6 +1,6 @@
 -- The reader's fault is the text's, and what it reads is what the lines stand for.
 use Rattle.stab_circuit.proofs.Names.{◌≡◌, refl, ap, sym, ◌∙◌, ℕ, ◌+◌, suc, List, [], ◌∷◌, Bool, true, false, nat_lt, length, Option, None, Some, Result, Ok, Err, if◌then◌else◌, TooDeep, Fault, Blank, Close, Open, Items, done, next, join, Meaning, at_line, fault_from, OpenBlock, Progress, closed, read_on}
-use Rattle.stab_lines.specs.declared.operation.Line.TheVariants as line
+use Rattle.stab_instructions.specs.declared.operation.Line.TheVariants as line
 
 -- the lines of the open blocks
 abbrev pub lines_of : List OpenBlock → List ℕ

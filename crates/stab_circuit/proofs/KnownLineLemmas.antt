@@ -1,6 +1,6 @@
 -- Known lines, and the instructions that they mean.
 use Rattle.stab_circuit.proofs.Names.{◌≡◌, ◌<◌, subst, List, [], ◌∷◌, false, ℕ, length, Option, Some, Ok, MatchOption, Bor, All, All-head, All-tail, option_copied, Kind, Operation, Line, Open, OneItem, operation, is_byte, content_of, meaning_of, IsLine, line_good, Free, any_free, IsGoodKind, IsGoodLine, IsTag, ReadsInstruction, IsOneLine, IsCut, BeginsWithItem, IsKnownLine, IsMeant}
-use Rattle.stab_lines.specs.declared.operation.Line.TheVariants as line
+use Rattle.stab_instructions.specs.declared.operation.Line.TheVariants as line
 use Rattle.stab_circuit.proofs.FrontLemmas.{cut_split, split_cut, cut_shorter, one_line_first, some_reported}
 
 -- a text begins with a line that is known

@@ -1,4 +1,24 @@
 mod Names
+mod ResultLemmas
+mod NumberLemmas
+mod CoordinateLemmas
+mod DetectorLemmas
+mod ProductLemmas
+mod FrontTargetLemmas
+mod ControlLemmas
+mod AgainLemmas
+mod FactorLemmas
+mod ControlAgainLemmas
+mod NeatLemmas
+mod ShapeLemmas
+mod ContentLemmas
+mod PrintedLemmas
+mod MeaningLemmas
+mod SpacedTargetLemmas
+mod PlainLineLemmas
+mod EmptyLemmas
+mod LineRefusalLemmas
+pub mod LineLaws
 pub mod FrontLemmas
 mod LinePieceLemmas
 pub mod KnownLineLemmas

@@ -1,7 +1,8 @@
 -- One item's text: what is read of it is one item, or none if every line is blank.
-use Rattle.stab_circuit.proofs.Names.{◌≡◌, ◌≤◌, refl, ap, sym, ◌∙◌, subst, ℕ, ◌+◌, ◌-◌, suc, List, [], ◌∷◌, Bool, true, false, ◌==◌, nat_lt, length, map, None, Some, Result, Ok, Err, if◌then◌else◌, arith, list_all, nat_tests, Refusal, BadLine, TooDeep, Blank, Close, Open, Items, OneItem, operation, repeat, listed, done, next, block, join, meaning_of, is_close, blank_is_empty, Meaning, Joins, nothing, blank_line, operation_line, block_lines, at_line, fault_from, meaning_after, depth_after, ends_item, one_item, is_empty, OpenBlock, Progress, before_reading, closed, stepped, finished, read_on, is_whole, meaning_at, pending, chosen, passed, and_left, and_right, both}
+use Rattle.stab_circuit.proofs.Names.{◌≡◌, ◌≤◌, refl, ap, sym, ◌∙◌, subst, ℕ, ◌+◌, ◌-◌, suc, List, [], ◌∷◌, Bool, true, false, ◌==◌, nat_lt, length, map, None, Some, Result, Ok, Err, if◌then◌else◌, arith, list_all, nat_tests, Refusal, BadLine, TooDeep, Blank, Close, Open, Items, OneItem, operation, repeat, listed, done, next, block, join, meaning_of, is_close, Meaning, Joins, nothing, blank_line, operation_line, block_lines, at_line, fault_from, meaning_after, depth_after, ends_item, one_item, is_empty, OpenBlock, Progress, before_reading, closed, stepped, finished, read_on, is_whole, meaning_at, pending, chosen, passed, and_left, and_right, both}
+use Rattle.stab_circuit.proofs.LineLaws.{blank_is_empty}
 use Rattle.stab_circuit.proofs.ReaderLemmas.{pending_taken, pending_refused, not_one, not_none, whole_kept, some_joined, nothing_pending}
-use Rattle.stab_lines.specs.declared.operation.Line.TheVariants as line
+use Rattle.stab_instructions.specs.declared.operation.Line.TheVariants as line
 use Rattle.stab_circuit.proofs.FaultLemmas.{state, open_block}
 use Rattle.stab_circuit.proofs.ReadingLemmas.{joined_read, choice_none, fault_opens}
 

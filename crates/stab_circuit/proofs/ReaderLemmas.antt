@@ -1,6 +1,6 @@
 -- The reader's way over the lines.
 use Rattle.stab_circuit.proofs.Names.{◌≡◌, ◌≤◌, ◌<◌, refl, ap, sym, ◌∙◌, subst, ℕ, ◌+◌, suc, List, [], ◌∷◌, Bool, true, false, nat_lt, ◌==◌, length, map, not, ◌⊎◌, inl, inr, Result, Ok, Err, Option, Some, if◌then◌else◌, arith, slice_split, IfOk, Vec, nat_tests, Refusal, TooDeep, BadLine, OutOfMemory, Fault, Blank, Close, Open, is_byte, content_of, Items, OneItem, operation, repeat, before, done, next, block, join, listed, depth, meaning_of, is_close, Meaning, at_line, meaning_after, one_item, depth_after, ends_item, OpenBlock, Progress, closed, stepped, finished, read_on, is_some_items, is_whole, meaning_at, pending, ReadsItems, IsShallowProgress, reading_on, pieces_after, chosen, depth-join}
-use Rattle.stab_lines.specs.declared.operation.Line.TheVariants as line
+use Rattle.stab_instructions.specs.declared.operation.Line.TheVariants as line
 
 -- after a line of one item's text, what follows is seen as it is by the state
 abbrev Follows : Progress → Meaning → Progress → Type 0

@@ -1,6 +1,6 @@
 -- What a reader reads is what the lines stand for, and the only list of items that they stand for.
 use Rattle.stab_circuit.proofs.Names.{◌≡◌, refl, ap, sym, ◌∙◌, subst, ℕ, ◌+◌, List, [], ◌∷◌, ◌++◌, Bool, true, false, nat_lt, length, Option, None, Some, Result, Ok, Err, append_assoc, append-nil, if◌then◌else◌, TooDeep, Fault, Operation, Blank, Close, Open, Items, done, next, block, join, Meaning, Joins, nothing, blank_line, operation_line, block_lines, at_line, fault_from, OpenBlock, before_reading, closed, read_on, join_done, join_assoc, chosen}
-use Rattle.stab_lines.specs.declared.operation.Line.TheVariants as line
+use Rattle.stab_instructions.specs.declared.operation.Line.TheVariants as line
 use Rattle.stab_circuit.proofs.FaultLemmas.{lines_of, fault_of, state, open_block, length-lines_of, fault_agrees}
 
 -- what is left to come so that the items are xs

@@ -1,6 +1,7 @@
 -- Which refusals a line can have.
-use Rattle.stab_circuit.proofs.Names.{◌≡◌, ◌<◌, refl, subst, ℕ, ◌+◌, List, [], ◌∷◌, Bool, true, false, nat_lt, length, map, Option, Some, Ok, Err, if◌then◌else◌, arith, Refusal, BadBlock, TooDeep, Fault, Line, Blank, Close, Open, is_close, meaning_of, is_of_line, Meaning, at_line, meaning_after, ends_item, depth_after, one_item, fault_from, is_empty, refused_as_line, has_line}
-use Rattle.stab_lines.specs.declared.operation.Line.TheVariants as line
+use Rattle.stab_circuit.proofs.Names.{◌≡◌, ◌<◌, refl, subst, ℕ, ◌+◌, List, [], ◌∷◌, Bool, true, false, nat_lt, length, map, Option, Some, Ok, Err, if◌then◌else◌, arith, Refusal, BadBlock, TooDeep, Fault, Line, Blank, Close, Open, is_close, meaning_of, is_of_line, Meaning, at_line, meaning_after, ends_item, depth_after, one_item, fault_from, is_empty, has_line}
+use Rattle.stab_circuit.proofs.LineLaws.{refused_as_line}
+use Rattle.stab_instructions.specs.declared.operation.Line.TheVariants as line
 
 -- if a line is refused, such a refusal has a line
 abbrev pub OfLine : Meaning → Type 0

@@ -1,6 +1,7 @@
 -- A printed text stands for its items, and for no others.
-use Rattle.stab_circuit.proofs.Names.{◌≡◌, ◌≤◌, refl, ap, sym, ◌∙◌, subst, ℕ, ◌*◌, suc, List, [], ◌∷◌, ◌++◌, Bool, true, false, nat_lt, length, map, replicate, All, Option, None, Some, Ok, append_assoc, arith, codes, if◌then◌else◌, slice_split, onto_first, map-append, All-nil, All-cons, All-head, All-tail, slice_split-cons_yes, slice_split-cons_no, nat_tests, TooLong, Fault, whole, Line, Blank, Close, Open, is_byte, content_of, meaning_of, IsLine, line_printed, Says, Items, done, next, block, Meaning, Joins, line_meanings, meanings, fault_from, text_fault, most_bytes, StandsFor, PrintedLine, printed_lines, text_of, printed, AreLinesOf, IsReadBack, passed, Each, Free, each-append, free-append, free_spaces, free_any, any_free, split_free, printed_again, blank_is_empty, each_left, each_right}
-use Rattle.stab_lines.specs.declared.operation.Line.TheVariants as line
+use Rattle.stab_circuit.proofs.Names.{◌≡◌, ◌≤◌, refl, ap, sym, ◌∙◌, subst, ℕ, ◌*◌, suc, List, [], ◌∷◌, ◌++◌, Bool, true, false, nat_lt, length, map, replicate, All, Option, None, Some, Ok, append_assoc, arith, codes, if◌then◌else◌, slice_split, onto_first, map-append, All-nil, All-cons, All-head, All-tail, slice_split-cons_yes, slice_split-cons_no, nat_tests, TooLong, Fault, whole, Line, Blank, Close, Open, is_byte, content_of, meaning_of, IsLine, line_printed, Says, Items, done, next, block, Meaning, Joins, line_meanings, meanings, fault_from, text_fault, most_bytes, StandsFor, PrintedLine, printed_lines, text_of, printed, AreLinesOf, IsReadBack, passed, Each, Free, each-append, free-append, free_spaces, free_any, any_free, split_free, each_left, each_right}
+use Rattle.stab_circuit.proofs.LineLaws.{printed_again, blank_is_empty}
+use Rattle.stab_instructions.specs.declared.operation.Line.TheVariants as line
 use Rattle.stab_circuit.proofs.BlankLemmas.{lines_of, lines_join, joins_end, unblank_joined, unblank_each, same_faultless}
 use Rattle.stab_circuit.proofs.ReadingLemmas.{one_list, some_list}
 

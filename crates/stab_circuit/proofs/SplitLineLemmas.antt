@@ -1,5 +1,6 @@
 -- Items that some lines stand for stay such items when a round is split off.
-use Rattle.stab_circuit.proofs.Names.{◌≡◌, ◌≤◌, ◌<◌, refl, ap, sym, ◌∙◌, subst, ℕ, ◌+◌, ◌-◌, ◌^◌, suc, zero, Bool, true, false, List, [], ◌∷◌, ◌++◌, take, drop, arith, nat_lt, if◌then◌else◌, Option, Some, None, Ok, Err, slice_get, PlaceOutOfRange, Open, meaning_of, line_printed, Each, each-append, line_good, good_said, Items, OneItem, operation, repeat, listed, Path, rounds_as_block, parts_of_block, parts_of_item, with_parts, split_in, split, AreOfLines, lt_holds, split_alike}
+use Rattle.stab_circuit.proofs.Names.{◌≡◌, ◌≤◌, ◌<◌, refl, ap, sym, ◌∙◌, subst, ℕ, ◌+◌, ◌-◌, ◌^◌, suc, zero, Bool, true, false, List, [], ◌∷◌, ◌++◌, take, drop, arith, nat_lt, if◌then◌else◌, Option, Some, None, Ok, Err, slice_get, PlaceOutOfRange, Open, meaning_of, line_printed, Each, each-append, line_good, Items, OneItem, operation, repeat, listed, Path, rounds_as_block, parts_of_block, parts_of_item, with_parts, split_in, split, AreOfLines, lt_holds, split_alike}
+use Rattle.stab_circuit.proofs.LineLaws.{good_said}
 use Rattle.stab_circuit.proofs.RoundLemmas.{IsOfLine}
 use Rattle.stab_circuit.proofs.LineItemLemmas.{IsMeant, of_lines, meant_of, listed_meant, each_meant, each_take, each_drop, got_meant, block_meant, shallow_of}
 

@@ -1,7 +1,7 @@
 -- Lines that put items after others if no block is open, and the runs and stretches of them.
 use Rattle.stab_circuit.proofs.Names.{◌≡◌, refl, ap, sym, ◌∙◌, subst, ℕ, ◌+◌, ◌-◌, List, [], ◌∷◌, ◌++◌, All, Bool, true, false, nat_lt, length, take, drop, map, Option, Some, None, MatchOption, Ok, Err, if◌then◌else◌, ◌⊎◌, inl, inr, arith, append_assoc, slice_split, map-append, take-append-le, take_all, All-weaker, All-push, TooDeep, Blank, Close, Open, is_byte, content_of, pieces_after, meaning_of, StoredBlock, Stretch, Run, Items, OneItem, done, next, block, join, listed, depth, Meaning, line_meanings, IsCut, Progress, kept_progress, stepped, read_on, meaning_at, IsShallowProgress, outside, Reads, items_of, IsStretch, KeepsStretches, IsRunOf, IsRun, IsEnded, RunsOn, reading_on, join_done, join_assoc, listed-append, depth-join, no_length}
 use Rattle.std.proofs.Common.{length-append}
-use Rattle.stab_lines.specs.declared.operation.Line.TheVariants as line
+use Rattle.stab_instructions.specs.declared.operation.Line.TheVariants as line
 use Rattle.stab_circuit.proofs.FrontLemmas.{split_cut, one_line_first}
 use Rattle.stab_circuit.proofs.LinePieceLemmas.{cut_pieces, ran_more}
 

@@ -3,22 +3,22 @@
 use Rattle.std.specs.Prelude.{◌≡◌, ◌≤◌, ◌⊎◌, ℕ, List, [], All, length, Some, None, Ok}
 use Rattle.std.specs.List.{slice_split}
 use Rattle.stab_io.specs.declared.refusal.Fault.{Fault}
-use Rattle.stab_lines.specs.Lines.{is_byte}
-use Rattle.stab_edits.specs.declared.edit.Edit.{Edit}
+use Rattle.stab_instructions.specs.Lines.{is_byte}
+use Rattle.stab_items.specs.declared.edit.Edit.{Edit}
 use Rattle.stab_items.specs.Items.{Items, OneItem, done, before, listed, depth}
 use Rattle.stab_items.specs.Circuits.{most_bytes, text_fault, item_fault, StandsFor, StandsForOne}
 pub use Rattle.stab_items.specs.Circuits.{AreLinesOf}
 use Rattle.stab_items.specs.Prints.{printed}
 use Rattle.stab_items.specs.Steps.{unroll}
-use Rattle.stab_edits.specs.Cursors.{HasDistinctQubits}
+use Rattle.stab_items.specs.Cursors.{HasDistinctQubits}
 use Rattle.stab_circuit.specs.Readings.{IsCircuit, IsFaultOf}
-use Rattle.stab_edits.specs.StepPaths.{paths_of}
-use Rattle.stab_edits.specs.Paths.{Path}
-pub use Rattle.stab_edits.specs.Edits.{LeavesTheRest}
-pub use Rattle.stab_edits.specs.Splits.{AreAlike}
-use Rattle.stab_edits.specs.Edits.{edit_path, edited, taken, put_item}
-use Rattle.stab_edits.specs.Rounds.{HaveRounds, ChangesEachRound}
-use Rattle.stab_edits.specs.Splits.{split}
+use Rattle.stab_items.specs.StepPaths.{paths_of}
+use Rattle.stab_items.specs.Paths.{Path}
+pub use Rattle.stab_items.specs.Edits.{LeavesTheRest}
+pub use Rattle.stab_items.specs.Splits.{AreAlike}
+use Rattle.stab_items.specs.Edits.{edit_path, edited, taken, put_item}
+use Rattle.stab_items.specs.Rounds.{HaveRounds, ChangesEachRound}
+use Rattle.stab_items.specs.Splits.{split}
 
 -- the text stands for the items, and for no others
 abbrev pub StandsForOnly : List ℕ → Items → Type 0

@@ -1,3 +1,5 @@
+pub mod FirstLines
+pub mod inner
 pub use Rattle.stab_items.specs.Items
 pub use Rattle.stab_items.specs.Circuits
 pub use Rattle.stab_items.specs.Steps
@@ -7,4 +9,4 @@ pub mod Limits
 pub mod Inputs
 pub mod Readings
 pub mod Laws
-pub mod inner
+pub mod Explanations

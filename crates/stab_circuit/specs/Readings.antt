@@ -6,12 +6,12 @@ use Rattle.stab_io.specs.declared.refusal.Refusal.TheVariants.{LookbackTooFar, T
 use Rattle.stab_io.specs.declared.refusal.Fault.{Fault}
 use Rattle.stab_io.specs.Refusals.{whole}
 use Rattle.stab_io.specs.Devices.{InputView}
-use Rattle.stab_lines.specs.Meanings.{is_of_line}
+use Rattle.stab_instructions.specs.Meanings.{is_of_line}
 use Rattle.stab_items.specs.Items.{Items, OneItem}
 use Rattle.stab_circuit.specs.Inputs.{GaveText, RefusesText}
 use Rattle.stab_items.specs.Circuits.{text_fault, item_fault, StandsFor, StandsForOne}
 use Rattle.stab_items.specs.Steps.{check_of}
-use Rattle.stab_edits.specs.Views.{circuit_items}
+use Rattle.stab_items.specs.Views.{circuit_items}
 
 -- the text stands for the items, and nothing refuses these as a whole circuit
 abbrev pub IsCircuit : List ℕ → Items → Type 0

@@ -2,11 +2,12 @@ ghost use Rattle.std.specs.Prelude.{◌≡◌, ◌<◌, ℕ, List, false, length
 ghost use Rattle.std.specs.Option.{option_copied};
 ghost use Rattle.stab_items.specs.Circuits.{meaning_after as meaning_after_of};
 ghost use Rattle.stab_circuit.specs.inner.KnownLines.{IsCut};
-ghost use Rattle.stab_line_reader.specs.FirstLines.{ReadsInstruction};
+ghost use Rattle.stab_circuit.specs.FirstLines.{ReadsInstruction};
 
+use crate::meanings::is_close;
+use crate::plain_line::instruction_in_front;
+use stab_instructions::{Kind, Line};
 use stab_io::Refusal;
-use stab_line_reader::{instruction_in_front, is_close};
-use stab_lines::{Kind, Line};
 use std::alloc::Global;
 
 /// The instruction that the first line means, if a look at its bytes is enough to see it, and the lines

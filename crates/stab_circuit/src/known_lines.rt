@@ -35,7 +35,7 @@ impl<'a> Drop for KnownLine<'a> {
 
 impl<'a> Model for KnownLine<'a> {
     ghost use Rattle.std.specs.Prelude.{ℕ, List};
-    ghost use Rattle.stab_lines.specs.declared.operation.Operation.{Operation};
+    ghost use Rattle.stab_instructions.specs.declared.operation.Operation.{Operation};
     ghost use Rattle.stab_circuit.specs.inner.KnownLines.{IsKnownLine};
 
     ghost Value = { List ℕ × Operation };

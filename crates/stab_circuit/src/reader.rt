@@ -1,12 +1,13 @@
 ghost use Rattle.std.specs.Prelude.{◌≡◌};
-ghost use Rattle.stab_lines.specs.Rules.{IsTag};
+ghost use Rattle.stab_instructions.specs.Rules.{IsTag};
 
 use crate::first_lines::{before_lines, first_instruction, meaning_after};
 use crate::known_lines::KnownLines;
+use crate::line::content;
+use crate::meanings::meaning;
+use stab_instructions::{Count, Line, Sequence, first_piece};
 use stab_io::{Fault, Refusal};
 use stab_items::{Instruction, Item, items_summary};
-use stab_line_reader::{content, meaning};
-use stab_lines::{Count, Line, Sequence, first_piece};
 use std::alloc::Global;
 use std::mem;
 
@@ -34,8 +35,8 @@ impl CircuitReader {
     ghost use Rattle.std.specs.Prelude.{◌≡◌, ◌<◌, length, Ok, OnOk, IfOk, IfErr, MatchOption};
     ghost use Rattle.std.specs.Option.{option_copied};
     ghost use Rattle.stab_io.specs.declared.refusal.Refusal.TheVariants.{OutOfMemory};
-    ghost use Rattle.stab_lines.specs.Lines.{content_of};
-    ghost use Rattle.stab_lines.specs.Results.{Gives};
+    ghost use Rattle.stab_instructions.specs.Lines.{content_of};
+    ghost use Rattle.stab_instructions.specs.Results.{Gives};
     ghost use Rattle.stab_circuit.specs.inner.Readers.{progress_of, before_reading, stepped, opening, closing, finished, is_whole as whole_of, meaning_at, TakesLine, TakesFirst, with_instruction, with_item, ReadsItems, IsShallowProgress};
     ghost use Rattle.stab_circuit.specs.inner.KnownLines.{IsOneLine, IsMeant, Means};
 

@@ -4,15 +4,14 @@ ghost use Rattle.std.specs.Prelude.{◌≡◌, None, IfOk, IfErr};
 ghost use Rattle.stab_io.specs.Devices.{WritesAllOrFault};
 ghost use Rattle.stab_items.specs.Prints.{printed};
 ghost use Rattle.stab_items.specs.Steps.{check_of};
-ghost use Rattle.stab_edits.specs.Views.{circuit_items};
+ghost use Rattle.stab_items.specs.Views.{circuit_items};
 ghost use Rattle.stab_circuit.specs.Laws.{IsReadBack};
 ghost use Rattle.stab_circuit.specs.Readings.{ReadsCircuit, ReadsInput, ReadsItem, IsPlaced, is_of_circuit, is_of_item};
 
 use crate::input::{MOST_BYTES, read_text};
 use crate::whole_text::read_lines;
-use stab_edits::Circuit;
 use stab_io::{Fault, Input, Output, Refusal};
-use stab_items::{Item, write_all_items};
+use stab_items::{Circuit, Item, write_all_items};
 use std::alloc::Global;
 
 /// The circuit that a text stands for.

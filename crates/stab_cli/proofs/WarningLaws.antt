@@ -3,10 +3,10 @@ use Rattle.std.proofs.Common.{◌≡◌, sym, subst, Bool}
 use Rattle.std.specs.Prelude.{Result, Ok, Err}
 use Rattle.stab_io.specs.Devices.{InputView, OutputView}
 use Rattle.stab_io.specs.declared.refusal.Fault.{Fault}
-use Rattle.stab_texts.specs.DoubtLines.{Warns}
-use Rattle.stab_texts.specs.Questions.{WarnsOfQuestion}
+use Rattle.stab_report.specs.DoubtLines.{Warns}
+use Rattle.stab_report.specs.Questions.{WarnsOfQuestion}
 use Rattle.stab_jobs.specs.declared.job.Command.{Command}
-use Rattle.stab_jobs.specs.declared.job.Command.TheVariants.{Sample, Detect, Stabilisers, Check, Deterministic, Explain, Coins, Faults, Distance, Edit, Propagate}
+use Rattle.stab_jobs.specs.declared.job.Command.TheVariants.{Sample, Detect, Stabilisers, Check, Deterministic, Explain, Coins, Faults, Distance, Edit, Propagate, PropagateEach}
 use Rattle.stab_jobs.specs.declared.job.DistanceOptions.{DistanceOptions}
 use Rattle.stab_jobs.specs.declared.job.Question.{Question}
 use Rattle.stab_jobs.specs.declared.job.Question.TheVariants.{Least, Counted, Each, Part, Errors}
@@ -51,4 +51,5 @@ untouched (Distance Each options) i i' e e' f same = same
 untouched (Distance (Part part) options) i i' e e' f same = same
 untouched (Distance (Errors layout) options) i i' e e' f same = same
 untouched (Propagate every) i i' e e' f same = same
+untouched (PropagateEach everywhere) i i' e e' f same = same
 untouched (Edit framed qubits stride) i i' e e' f same = same

@@ -4,25 +4,25 @@ use Rattle.std.specs.Prelude.{◌≡◌, ℕ, Bool, true, false, List, string_by
 pub use Rattle.stab_jobs.specs.Commands.{reads_script}
 use Rattle.stab_io.specs.Devices.{InputView, OutputView}
 use Rattle.stab_io.specs.declared.refusal.Fault.{Fault}
-use Rattle.stab_texts.specs.FaultLines.{TookOrFailed, reported_text}
+use Rattle.stab_report.specs.FaultLines.{TookOrFailed, reported_text}
 use Rattle.stab_commands.specs.Outputs.{EndsRun, sample_of, detect_of}
 use Rattle.stab_commands.specs.Stabilisers.{EndsStabilisers}
-use Rattle.stab_analysis.specs.Checks.{EndsCheck}
-use Rattle.stab_texts.specs.Deterministic.{EndsDeterministic}
-use Rattle.stab_texts.specs.FaultTables.{EndsFaults}
-use Rattle.stab_texts.specs.CoinTables.{EndsCoins}
-use Rattle.stab_texts.specs.Reasons.{EndsExplain}
-use Rattle.stab_texts.specs.Questions.{EndsQuestion, ReportsQuestion, WarnsOfQuestion}
-use Rattle.stab_texts.specs.DoubtLines.{Warns}
-use Rattle.stab_distance.specs.Progress.{Heard}
-use Rattle.stab_propagation.specs.Endings.{EndsPropagate}
-use Rattle.stab_editor.specs.ScriptEndings.{EndsEdit}
-use Rattle.stab_editor.specs.ScriptTurns.{EditsInTurn}
+use Rattle.stab_commands.specs.Checks.{EndsCheck}
+use Rattle.stab_report.specs.Deterministic.{EndsDeterministic}
+use Rattle.stab_report.specs.FaultTables.{EndsFaults}
+use Rattle.stab_report.specs.CoinTables.{EndsCoins}
+use Rattle.stab_report.specs.Reasons.{EndsExplain}
+use Rattle.stab_report.specs.Questions.{EndsQuestion, ReportsQuestion, WarnsOfQuestion}
+use Rattle.stab_report.specs.DoubtLines.{Warns}
+use Rattle.stab_search.specs.Progress.{Heard}
+use Rattle.stab_script.specs.Endings.{EndsPropagate, EndsPropagateEach}
+use Rattle.stab_script.specs.ScriptEndings.{EndsEdit}
+use Rattle.stab_script.specs.ScriptTurns.{EditsInTurn}
 use Rattle.stab_script.specs.Watchers.{Asked}
-use Rattle.stab_texts.specs.declared.random.Random.{Random}
+use Rattle.stab_report.specs.declared.random.Random.{Random}
 use Rattle.stab_jobs.specs.declared.job.Source.{Source}
 use Rattle.stab_jobs.specs.declared.job.Command.{Command}
-use Rattle.stab_jobs.specs.declared.job.Command.TheVariants.{Sample, Detect, Stabilisers, Check, Deterministic, Explain, Coins, Faults, Distance, Edit, Propagate}
+use Rattle.stab_jobs.specs.declared.job.Command.TheVariants.{Sample, Detect, Stabilisers, Check, Deterministic, Explain, Coins, Faults, Distance, Edit, Propagate, PropagateEach}
 use Rattle.stab_jobs.specs.declared.job.Job.{Job}
 
 -- a call that reads no script refuses no line of it
@@ -50,6 +50,7 @@ EndsCommand (Coins layout) source at word i i' s s' o o' r random = NamesNone (E
 EndsCommand (Faults layout everywhere deterministic_only) source at word i i' s s' o o' r random = RefusesNone (λ answer. EndsFaults layout everywhere deterministic_only i i' o o' answer random) r
 EndsCommand (Distance question options) source at word i i' s s' o o' r random = RefusesNone (λ answer. EndsQuestion question options i i' o o' answer random) r
 EndsCommand (Propagate every) source at word i i' s s' o o' r random = NamesNone (EndsPropagate every at word i i' o o') r random
+EndsCommand (PropagateEach everywhere) source at word i i' s s' o o' r random = NamesNone (EndsPropagateEach everywhere i i' o o') r random
 EndsCommand (Edit framed qubits stride) source at word i i' s s' o o' r random = (random ≡ None) × EndsEdit framed qubits source i i' s s' o o' r
 
 -- how a command reads a script: `edit` in turn with its replies, and any other not at all

@@ -4,8 +4,8 @@ use Rattle.std.specs.Prelude.{◌≡◌, ℕ, ◌⊎◌, string_bytes}
 use Rattle.stab_io.specs.Devices.{OutputView}
 use Rattle.stab_io.specs.declared.refusal.Refusal.TheVariants.{WriteFault, OutOfMemory}
 use Rattle.stab_io.specs.Refusals.{whole}
-use Rattle.stab_texts.specs.Endings.{TookAndFlushed, FailsToSend}
-use Rattle.stab_texts.specs.FaultLines.{ReportsFault, TookOrFailed}
+use Rattle.stab_report.specs.Endings.{TookAndFlushed, FailsToSend}
+use Rattle.stab_report.specs.FaultLines.{ReportsFault, TookOrFailed}
 use Rattle.stab_args.specs.declared.words.Usage.{Usage}
 use Rattle.stab_args.specs.declared.words.Usage.TheVariants.{Help, Fault as Wrong, Memory}
 

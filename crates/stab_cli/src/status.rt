@@ -1,22 +1,19 @@
 //! Running a job, with the status of the program.
 ghost use Rattle.std.specs.Prelude.{◌≡◌, ◌≤◌, IfSome, None, false, string_bytes};
 ghost use Rattle.stab_gates.specs.Limits.{most_qubits};
-ghost use Rattle.stab_texts.specs.FaultTables.{fault_of, random_of};
-ghost use Rattle.stab_editor.specs.ScriptEndings.{EndsEdit};
-ghost use Rattle.stab_editor.specs.ScriptTurns.{EditsInTurn};
+ghost use Rattle.stab_report.specs.FaultTables.{fault_of, random_of};
+ghost use Rattle.stab_script.specs.ScriptEndings.{EndsEdit};
+ghost use Rattle.stab_script.specs.ScriptTurns.{EditsInTurn};
 ghost use Rattle.stab_cli.specs.Jobs.{CommandInTurn, CommandReports, CommandWarns, EndsCommand, EndsJob, JobInTurn, JobReports, reads_script, refusing_none};
 
-use stab_analysis::{
-    Progress, Unwatched, run_check, run_coins, run_deterministic, run_explain, run_faults,
-    run_question,
+use stab_commands::{
+    Progress, Unwatched, run_check, run_coins, run_detect_shots, run_deterministic, run_explain,
+    run_faults, run_question, run_sample_shots, run_stabilisers,
 };
-use stab_commands::{run_detect_shots, run_sample_shots, run_stabilisers};
-use stab_editor::run_edit_watched;
 use stab_io::{Fault, Input, Output};
 use stab_jobs::{Command, Job, QubitCount, Source, Stride};
-use stab_propagation::run_propagate;
-use stab_script::{NoWatcher, Watcher};
-use stab_texts::{FaultsRefused, write_refused};
+use stab_report::{FaultsRefused, write_refused};
+use stab_script::{NoWatcher, Watcher, run_edit_watched, run_propagate, run_propagate_each};
 use std::alloc::Global;
 
 /// How many qubits, if a number is asked for.
@@ -99,8 +96,7 @@ fn run_command<I: Input, S: Input, O: Output, E: Output, W: Watcher<S, O>, P: Pr
     ensures warns { CommandWarns job.now.command (I.seen input.old) (I.seen input.new) (E.seen err.old) (E.seen err.new) (fault_of result) }
 {
     let source = &job.source;
-    let at = job.at.as_bytes();
-    let string = job.string.as_bytes();
+    let (at, string) = (job.at.as_bytes(), job.string.as_bytes());
     match job.command {
         Command::Sample { format, shots } => {
             plain_answer(run_sample_shots(alloc, input, out, format, shots, source))
@@ -127,6 +123,9 @@ fn run_command<I: Input, S: Input, O: Output, E: Output, W: Watcher<S, O>, P: Pr
         }
         Command::Propagate { every } => {
             plain_answer(run_propagate(alloc, input, out, every, at, string))
+        }
+        Command::PropagateEach { everywhere } => {
+            plain_answer(run_propagate_each(alloc, input, out, everywhere))
         }
         Command::Edit {
             framed,

@@ -2,13 +2,13 @@
 ghost use Rattle.std.specs.Prelude.{◌≡◌, MatchResult};
 ghost use Rattle.stab_io.specs.Refusals.{whole};
 ghost use Rattle.stab_io.specs.declared.refusal.Refusal.TheVariants.{WriteFault};
-ghost use Rattle.stab_texts.specs.Endings.{FailsToSend, TookAndFlushed};
-ghost use Rattle.stab_texts.specs.FaultLines.{ReportsFault};
+ghost use Rattle.stab_report.specs.Endings.{FailsToSend, TookAndFlushed};
+ghost use Rattle.stab_report.specs.FaultLines.{ReportsFault};
 ghost use Rattle.stab_cli.specs.Usages.{ReportsUsage};
 
 use stab_args::Usage;
 use stab_io::{DeviceFault, Fault, Output, Refusal, write_all};
-use stab_texts::write_fault;
+use stab_report::write_fault;
 
 /// Reports why there is no job, and answers the status of the program: help goes to `out` with 0, the
 /// text of bad arguments to `err` with 2, and refused memory is reported on `err` as its fault with 1.

@@ -1,6 +1,23 @@
 mod Names
 pub mod ShotLaws
 pub mod PackingLaws
-pub mod LineLaws
+pub mod LaneLineLaws
 pub mod RunLaws
 pub mod RowLaws
+pub mod FoundLaws
+pub mod DistanceLaws
+pub mod EndingLaws
+pub mod EachLaws
+pub mod CountedLaws
+pub mod PartLaws
+pub mod CheckLaws
+pub mod CountLaws
+pub mod StringLineLaws
+pub mod CoinRowLaws
+pub mod PlacedWordLaws
+pub mod ReasonLaws
+pub mod DeciderLaws
+pub mod BitLemmas
+pub mod PropagatedPointLemmas
+pub mod RowLemmas
+pub mod PlaceLemmas

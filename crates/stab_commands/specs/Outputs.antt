@@ -9,10 +9,10 @@ use Rattle.stab_run.specs.Runs.{State}
 use Rattle.stab_results.specs.declared.format.Format.{Format}
 use Rattle.stab_results.specs.declared.format.Kinds.TheVariants.{Measurements, Detectors}
 use Rattle.stab_results.specs.Formats.{shot_bytes}
-use Rattle.stab_texts.specs.Endings.{Ends, Sends}
+use Rattle.stab_report.specs.Endings.{Ends, Sends}
 use Rattle.stab_jobs.specs.declared.job.Source.{Source}
-use Rattle.stab_texts.specs.Sources.{run_of_shot}
-pub use Rattle.stab_texts.specs.Texts.{texts_from as of_shots}
+use Rattle.stab_report.specs.Sources.{run_of_shot}
+pub use Rattle.stab_report.specs.Texts.{texts_from as of_shots}
 
 -- what `sample` writes for the items: the records of each shot
 abbrev pub sample_of : Format → (first shots : ℕ) → Source → Items → List ℕ

@@ -12,8 +12,8 @@ use Rattle.stab_commands.specs.declared.bits.Shown.{Shown}
 use Rattle.stab_commands.specs.declared.bits.Shown.TheVariants.{Records, Detectors, DetectorsAndObservables}
 use Rattle.stab_jobs.specs.Limits.{ShotRange}
 use Rattle.stab_commands.specs.Outputs.{detected, of_shots}
-use Rattle.stab_texts.specs.Sources.{run_of_shot}
-pub use Rattle.stab_texts.specs.Endings.{SendsUnflushed}
+use Rattle.stab_report.specs.Sources.{run_of_shot}
+pub use Rattle.stab_report.specs.Endings.{SendsUnflushed}
 
 -- what kinds of bits are shown of a shot with this many detectors
 abbrev pub shown_kinds : Shown → ℕ → Kinds

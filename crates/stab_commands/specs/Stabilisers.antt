@@ -4,9 +4,9 @@ use Rattle.std.specs.Prelude.{◌≡◌, Result}
 use Rattle.stab_io.specs.Devices.{InputView, OutputView}
 use Rattle.stab_io.specs.declared.refusal.Fault.{Fault}
 use Rattle.stab_circuit.specs.Steps.{qubits_of}
-use Rattle.stab_texts.specs.Endings.{Ends, SendsFound}
-use Rattle.stab_texts.specs.Rows.{IsStabilisersText}
-use Rattle.stab_texts.specs.Sources.{run_of_shot}
+use Rattle.stab_report.specs.Endings.{Ends, SendsFound}
+use Rattle.stab_report.specs.Rows.{IsStabilisersText}
+use Rattle.stab_report.specs.Sources.{run_of_shot}
 use Rattle.stab_jobs.specs.declared.job.Source.{Source}
 
 -- How a call of `stabilisers` ends, over an input and an output: it sends the stabilisers after shot 0, on as many qubits as the items name.

@@ -2,8 +2,8 @@
 ghost use Rattle.std.specs.Prelude.{◌≡◌, ℕ, ◌+◌, ◌<◌, ◌≤◌, length};
 ghost use Rattle.stab_results.specs.Formats.{detectors_of};
 ghost use Rattle.stab_run.specs.Runs.{State};
-ghost use Rattle.stab_lanes.specs.Words.{word_bit};
-ghost use Rattle.stab_lanes.specs.Lanes.{lane_bits};
+ghost use Rattle.stab_sampler.specs.Words.{word_bit};
+ghost use Rattle.stab_sampler.specs.Lanes.{lane_bits};
 ghost use Rattle.stab_commands.specs.declared.bits.Shown.{Shown};
 ghost use Rattle.stab_commands.specs.Outputs.{of_shots};
 ghost use Rattle.stab_commands.specs.Sendings.{IsShown, SendsUnflushed, shown_bytes};
@@ -11,7 +11,7 @@ ghost use Rattle.stab_commands.specs.Sendings.{IsShown, SendsUnflushed, shown_by
 use crate::packed::{Packing, send_packed};
 use stab_io::{Fault, Output};
 use stab_results::{Format, Kinds, write_shot};
-use stab_shots::{Word, write_lane, write_part};
+use stab_sampler::{Word, write_lane, write_part};
 use std::alloc::Global;
 
 /// Writes the bits of this many of 64 lanes, one lane after another, each from a list of its own.

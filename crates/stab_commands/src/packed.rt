@@ -2,15 +2,15 @@
 ghost use Rattle.std.specs.Prelude.{◌≡◌, ℕ, ◌+◌, ◌*◌, ◌<◌, ◌≤◌, List, length, take};
 ghost use Rattle.stab_io.specs.Devices.{WritesAllOrFault};
 ghost use Rattle.stab_results.specs.Formats.{f01_bytes, b8_bytes};
-ghost use Rattle.stab_lanes.specs.Words.{word_bit};
-ghost use Rattle.stab_lanes.specs.Lanes.{lane_bits};
-ghost use Rattle.stab_lanes.specs.Blocks.{row_bytes};
+ghost use Rattle.stab_sampler.specs.Words.{word_bit};
+ghost use Rattle.stab_sampler.specs.Lanes.{lane_bits};
+ghost use Rattle.stab_sampler.specs.Blocks.{row_bytes};
 ghost use Rattle.stab_commands.specs.Outputs.{of_shots};
 ghost use Rattle.stab_commands.specs.Sendings.{SendsUnflushed};
 ghost use Rattle.stab_commands.specs.inner.Packings.{packed_bytes};
 
 use stab_io::{Fault, Output, write_all};
-use stab_shots::{Word, write_blocks, write_bytes, write_part, write_row};
+use stab_sampler::{Word, write_blocks, write_bytes, write_part, write_row};
 use std::alloc::Global;
 
 /// What the bits of a lane are packed into.

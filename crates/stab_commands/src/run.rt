@@ -1,9 +1,9 @@
 //! The commands that run a circuit, from its text to the bytes of its shots.
 ghost use Rattle.std.specs.Prelude.{◌≡◌, ◌≤◌, None};
 ghost use Rattle.stab_circuit.specs.Steps.{check_of};
-ghost use Rattle.stab_edits.specs.Views.{circuit_items};
+ghost use Rattle.stab_items.specs.Views.{circuit_items};
 ghost use Rattle.stab_jobs.specs.Limits.{most_shots};
-ghost use Rattle.stab_texts.specs.Endings.{Sends};
+ghost use Rattle.stab_report.specs.Endings.{Sends};
 ghost use Rattle.stab_commands.specs.Outputs.{EndsRun, sample_of, detect_of};
 ghost use Rattle.stab_commands.specs.Sendings.{shots_of};
 
@@ -12,8 +12,8 @@ use crate::shots::send_shots;
 use stab_circuit::{Circuit, read_circuit};
 use stab_io::{Fault, Input, Output};
 use stab_jobs::{Shots, Source};
+use stab_report::finish;
 use stab_results::Format;
-use stab_texts::finish;
 use std::alloc::Global;
 
 /// Writes what is shown of a circuit's shots, and flushes.

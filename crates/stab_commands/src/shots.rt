@@ -6,10 +6,10 @@
 ghost use Rattle.std.specs.Prelude.{◌≡◌, ℕ, ◌+◌, ◌*◌, ◌<◌, ◌≤◌, None, IfSome};
 ghost use Rattle.stab_circuit.specs.Items.{Items};
 ghost use Rattle.stab_circuit.specs.Steps.{check_of, qubits_of};
-ghost use Rattle.stab_edits.specs.Views.{circuit_items};
+ghost use Rattle.stab_items.specs.Views.{circuit_items};
 ghost use Rattle.stab_run.specs.Runs.{State, run_of};
 ghost use Rattle.stab_run.specs.Coins.{list_coin, seed_coin};
-ghost use Rattle.stab_shots.specs.References.{IsReference};
+ghost use Rattle.stab_sampler.specs.References.{IsReference};
 ghost use Rattle.stab_jobs.specs.Limits.{shots_of_seed};
 ghost use Rattle.stab_commands.specs.Outputs.{of_shots};
 ghost use Rattle.stab_commands.specs.Sendings.{SendsUnflushed, shots_of, shown_bytes};
@@ -23,7 +23,7 @@ use stab_jobs::{Shots, Source};
 use stab_recording::run_once;
 use stab_results::{Format, Kinds};
 use stab_run::{Coins, ListCoins, SeedCoins};
-use stab_shots::{Draw, Reference, SeedLanes, Shots as LaneShots, Wide, Word, run_lanes};
+use stab_sampler::{Draw, Reference, SeedLanes, Shots as LaneShots, Wide, Word, run_lanes};
 use std::alloc::Global;
 
 /// Runs a circuit once, and writes what is shown of it this many times.

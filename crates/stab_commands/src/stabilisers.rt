@@ -7,10 +7,10 @@ ghost use Rattle.stab_io.specs.declared.refusal.Refusal.TheVariants.{OutOfMemory
 ghost use Rattle.stab_tableau.specs.Traces.{member};
 ghost use Rattle.stab_tableau.specs.Reduced.{AreReduced};
 ghost use Rattle.stab_circuit.specs.Steps.{check_of, qubits_of};
-ghost use Rattle.stab_edits.specs.Views.{circuit_items};
+ghost use Rattle.stab_items.specs.Views.{circuit_items};
 ghost use Rattle.stab_run.specs.Runs.{run_of};
-ghost use Rattle.stab_texts.specs.Rows.{line_of, lines_of};
-ghost use Rattle.stab_texts.specs.Sources.{run_of_shot};
+ghost use Rattle.stab_report.specs.Rows.{line_of, lines_of};
+ghost use Rattle.stab_report.specs.Sources.{run_of_shot};
 ghost use Rattle.stab_commands.specs.Stabilisers.{EndsStabilisers};
 ghost use Rattle.stab_commands.specs.inner.Rows.{SendsLines};
 
@@ -18,9 +18,9 @@ use stab_circuit::{Circuit, read_circuit};
 use stab_io::{Fault, Input, Output, Refusal, write_all};
 use stab_jobs::Source;
 use stab_pauli::Pauli;
+use stab_report::finish;
 use stab_run::{Coins, ListCoins, SeedCoins};
 use stab_session::Session;
-use stab_texts::finish;
 use std::alloc::Global;
 
 // The greatest stride: this session is never edited, so it needs no states on its way.

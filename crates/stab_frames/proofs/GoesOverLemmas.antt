@@ -1,6 +1,6 @@
 -- Goes over: a frame over steps one after another, with what it has to know of their measurements.
 use Rattle.stab_frames.proofs.Names.{◌≡◌, ℕ, ◌+◌, ◌<◌, ◌≤◌, refl, sym, ◌∙◌, ap, subst, Bool, true, false, ◌&&◌, List, [], ◌∷◌, ◌++◌, length, take, map, get_or, All, arith, map_more, get_or-map, length-map, length-take-le, take-length, Letter, single, strings_anticommute, Gate, image, Axis, ControlledPair, Factor, MeasureTarget, Measurement, letter_of, Step, one, controlled, collapse, product, detector, controlled_step, measured, observable, looked_up, parity, string_of, flip_of, coins_of, all_coins_of, nothing, joined, StepFits, coins-measured, joined-nothing, coins-append, Frame, plus, times_where, RunPivots, pivots_of, frame_over, letters_after, flips_given, pivot_at, PropagationState, frame_at, IsPlaced, IsDrawn, AreDrawn, StepsWith, one_flipped, IsDetermined, AreDetermined, IsPropagated, GoesOver, GoesFreely, Goes}
-use Rattle.stab_lines.specs.declared.control.ControlledPair.TheVariants as pair
+use Rattle.stab_instructions.specs.declared.control.ControlledPair.TheVariants as pair
 use Rattle.stab_frames.proofs.PropagatedLemmas.{over-none, over-step, over-append, determined-append}
 use Rattle.stab_frames.proofs.MeasuredPropagatedLemmas.{determined-unmeasured, determined-measured, passes-collapse, passes-product}
 

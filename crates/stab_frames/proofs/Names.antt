@@ -12,7 +12,7 @@ pub use Rattle.std.proofs.lemmas.Result.{IfOk-weaker}
 pub use Rattle.std.specs.List.{list_any}
 pub use Rattle.std.specs.Prelude.{Option, IfSome, ◌==◌, if◌then◌else◌, Some, None, slice_get, is_some, max}
 pub use Rattle.stab_items.specs.StepValues.{step_shown, lookbacks_of, steps_shown}
-pub use Rattle.stab_items.specs.Steps.{Step, one, two, controlled, collapse, product, detector, observable, makes, records_of, lookbacks, looks_too_far, controlled_step, measured, controlled_gate}
+pub use Rattle.stab_items.specs.Steps.{Step, one, two, controlled, collapse, product, detector, observable, makes, records_of, lookbacks, looks_too_far, controlled_step, measured, controlled_gate, LooksWithin}
 pub use Rattle.stab_gates.proofs.LetterLemmas.{letters_anticommute-I, letters_anticommute-comm, letter_product-I, each_letter}
 pub use Rattle.stab_gates.proofs.ParityLemmas.{parity-false, parity-comm, parity-assoc, parity-mid, parity-twice, parity-self}
 pub use Rattle.stab_gates.specs.Letters.{◌⊕◌, letters_anticommute, letter_product}
@@ -22,13 +22,13 @@ pub use Rattle.stab_gates.specs.declared.gate.PairGate.{PairGate}
 pub use Rattle.stab_gates.specs.declared.gate.PairGate.TheVariants.{Cx, Cy, Cz, Swap}
 pub use Rattle.stab_gates.specs.declared.letter.Letter.{Letter}
 pub use Rattle.stab_gates.specs.declared.letter.Letter.TheVariants.{I, X, Y, Z}
-pub use Rattle.stab_lines.specs.Axes.{letter_of}
-pub use Rattle.stab_lines.specs.Products.{is_on, names_twice}
-pub use Rattle.stab_lines.specs.declared.axis.Axis.{Axis}
-pub use Rattle.stab_lines.specs.declared.control.ControlledPair.{ControlledPair}
-pub use Rattle.stab_lines.specs.declared.operation.Measurement.{Measurement}
-pub use Rattle.stab_lines.specs.declared.product.Factor.{Factor}
-pub use Rattle.stab_lines.specs.declared.range.MeasureTarget.{MeasureTarget}
+pub use Rattle.stab_instructions.specs.Axes.{letter_of}
+pub use Rattle.stab_instructions.specs.Products.{is_on, names_twice}
+pub use Rattle.stab_instructions.specs.declared.axis.Axis.{Axis}
+pub use Rattle.stab_instructions.specs.declared.control.ControlledPair.{ControlledPair}
+pub use Rattle.stab_instructions.specs.declared.operation.Measurement.{Measurement}
+pub use Rattle.stab_instructions.specs.declared.product.Factor.{Factor}
+pub use Rattle.stab_instructions.specs.declared.range.MeasureTarget.{MeasureTarget}
 pub use Rattle.stab_pauli.proofs.MaskLemmas.{clash}
 pub use Rattle.stab_pauli.proofs.SignedLemmas.{signed_path, product-comm, product-minus_right, anticommute-comm}
 pub use Rattle.stab_pauli.proofs.StringLemmas.{strings_anticommute-comm, strings_anticommute-blank_right, string_product-blank_right, string_product-comm, length-string_product, strings_anticommute-blank, strings_anticommute-product, strings_anticommute-product_right, get_or-string_product, string_product-assoc, string_product-self}
@@ -81,7 +81,6 @@ pub use Rattle.stab_frames.specs.Frames.{Frame, PointsDifferBy, identity_frame, 
 pub use Rattle.stab_frames.specs.Images.{letter_where, controlled_letter}
 pub use Rattle.stab_frames.specs.Fronts.{edit_frame, IsFlippedRun, AreFronts}
 pub use Rattle.stab_frames.specs.Limits.{bytes_of, most_strings}
-pub use Rattle.stab_items.specs.Steps.{LooksWithin}
 pub use Rattle.stab_frames.specs.OtherCoins.{coins_from, pivots_between, HasGoneOver, PropagatesToOthers}
 pub use Rattle.stab_frames.specs.PivotLaws.{FramesHaveCoins, RightPivotsAreEnough, FlippedCoinsNeedNoPivots, PivotsAreEnoughBefore, MeasurementsHavePivots, FlagsDeterminePivots, RunsHavePivots}
 pub use Rattle.stab_frames.specs.Pivots.{IsTrueAt, AreTrue, pivot_at, PivotsState, IsNumbered, kept_with, front_kept, KeepsTrue, cut_to}

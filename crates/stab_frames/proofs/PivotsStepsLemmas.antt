@@ -1,6 +1,6 @@
 -- Pivots of steps: what a run pivots of steps one after another, of those of targets, and of steps that measure nothing.
 use Rattle.stab_frames.proofs.Names.{◌≡◌, ℕ, ◌+◌, ◌<◌, ◌≤◌, refl, sym, ◌∙◌, subst, Bool, true, false, List, [], ◌∷◌, ◌++◌, All, length, map, take, get_or, arith, Option, Some, None, take_all, All-nil, All-cons, All-append, Letter, Gate, Signed, Axis, ControlledPair, Step, one, controlled_step, detector, measured_by, HasPivot, all_coins_of, ProgramState, IsRun, IsRun-none, IsRun-append, PivotsState, kept_with, LooksWithin, KeepsPivotsOf, KeepsPivots, PivotsSteps, within-more, one-more}
-use Rattle.stab_lines.specs.declared.control.ControlledPair.TheVariants as pair
+use Rattle.stab_instructions.specs.declared.control.ControlledPair.TheVariants as pair
 use Rattle.stab_frames.proofs.RecorderLemmas.{keeps-unmeasured, keeps-full, keeps-step, keeps-none, keeps-append}
 
 -- no step, one step, and steps one after another

@@ -1,7 +1,7 @@
 -- Touches: what a frame does not touch leaves it as it was, and steps part by part.
 use Rattle.stab_frames.proofs.Names.{◌≡◌, ℕ, ◌+◌, refl, sym, ◌∙◌, ap, subst, Bool, false, List, [], ◌∷◌, ◌≤◌, length, take, drop, map, get_or, set, All, list_any, take-take, take-map, drop-map, map-append, set-get_or, All-take, All-drop, take-add, Letter, I, X, Y, Z, PairGate, letter_at, pair_letters, image_pair, Axis, ControlledPair, Step, two, controlled_gate, controlled_step, StepFits, or-left, or-right, plus, PropagationState, GoesOver, GoesFreely, acts, PairFits, touches_pair}
 use Rattle.stab_gates.specs.declared.gate.PairGate.TheVariants as gate
-use Rattle.stab_lines.specs.declared.control.ControlledPair.TheVariants as pair
+use Rattle.stab_instructions.specs.declared.control.ControlledPair.TheVariants as pair
 use Rattle.stab_frames.proofs.ImageLemmas.{pair-image}
 use Rattle.stab_frames.proofs.GoesOverLemmas.{goes-append, freely-none, freely-letters, fits-mapped}
 

@@ -17,8 +17,8 @@ use crate::propagate_step::{
     propagate_pair, propagate_step,
 };
 use crate::propagation::Propagation;
+use stab_instructions::{Axis, ControlledPair, MeasureTarget, Measurement, Qubit};
 use stab_items::{Detectors, Steps, controlled_gate};
-use stab_lines::{Axis, ControlledPair, MeasureTarget, Measurement, Qubit};
 use stab_pauli::Letter;
 use stab_run::Coins;
 use stab_tableau::Gate;

@@ -1,9 +1,9 @@
 //! What a run records on its way, for frames to be propagated over its steps.
 
 use crate::pivots::Pivots;
+use stab_instructions::{MeasureTarget, Measurement};
 use stab_io::Refusal;
 use stab_items::{Step, Steps, furthest, furthest_detector, furthest_of, measured_step};
-use stab_lines::{MeasureTarget, Measurement};
 use stab_pauli::Pauli;
 use stab_run::{Coins, Outputs, apply_step, apply_step_with_pivot, apply_steps};
 use stab_tableau::Tableau;

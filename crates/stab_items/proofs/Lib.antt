@@ -10,3 +10,29 @@ pub mod LookLemmas
 pub mod LineDistinctLemmas
 mod NothingLemmas
 pub mod CountLemmas
+mod WalkLemmas
+mod SkipLemmas
+mod PastItemLemmas
+mod DetectorLemmas
+pub mod EditLemmas
+mod SpliceLemmas
+mod JudgementLemmas
+mod EditResultLemmas
+mod CommitLemmas
+mod StretchLemmas
+mod PathLemmas
+pub mod PlaceLemmas
+pub mod StepPathLemmas
+mod StepsLeftLemmas
+pub mod EditingLemmas
+pub mod UndoLemmas
+pub mod SplitLemmas
+mod ChangeLemmas
+mod DepthLemmas
+mod PartLemmas
+mod GapLemmas
+pub mod PieceLemmas
+pub mod GapPartLemmas
+mod FinerLemmas
+mod RepeatLemmas
+pub mod SameLemmas

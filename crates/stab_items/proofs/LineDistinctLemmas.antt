@@ -1,7 +1,7 @@
 -- Items that lines stand for keep the rules of lines. So the two qubits of each pair differ in their steps, and so do those of each product.
 use Rattle.stab_items.proofs.Names.{◌≡◌, refl, sym, ℕ, zero, suc, List, [], ◌∷◌, ◌++◌, map, All, Ok, Err, All-nil, All-cons, All-append, All-head, All-tail, Axis, ControlledPair, Kind, Close, content_of, meaning_of, IsLine, Each, IsQubit, IsMeasured, IsPair, IsControlled, IsProduct, IsGoodKind, IsGoodLine, line_good, Items, AreGood, done, next, block, Meaning, Joins, nothing, blank_line, operation_line, block_lines, line_meanings, Step, controlled_step, steps_of, rounds, unroll, HasDistinctQubits}
-use Rattle.stab_lines.specs.declared.control.ControlledPair.TheVariants as pair
-use Rattle.stab_lines.specs.declared.operation.Kind.TheVariants as kind
+use Rattle.stab_instructions.specs.declared.control.ControlledPair.TheVariants as pair
+use Rattle.stab_instructions.specs.declared.operation.Kind.TheVariants as kind
 
 -- each of two lists, put together
 pub each_left : {A : Type 0} (P : A → Type 0) (xs ys : List A) → Each P (xs ++ ys) → Each P xs

@@ -1,6 +1,6 @@
 -- Numbers over the unrolled steps.
 use Rattle.stab_items.proofs.Names.{◌≡◌, ◌≤◌, ◌<◌, refl, ap, sym, ◌∙◌, Some, append-nil, ℕ, ◌+◌, ◌*◌, ◌-◌, zero, suc, max, min, Bool, true, false, if◌then◌else◌, List, [], ◌∷◌, ◌++◌, ◌||◌, nat_lt, length, arith, append_assoc, length-append, list_any, Kind, Items, OneItem, done, next, block, join, operation, repeat, before, Step, detector, steps_of, detector_in, detector_of, rounds, unroll, makes, records_of, is_detector, detectors_of, lookbacks, looks_too_far, greatest, window}
-use Rattle.stab_lines.specs.declared.operation.Kind.TheVariants as kind
+use Rattle.stab_instructions.specs.declared.operation.Kind.TheVariants as kind
 
 times_more : (n w : ℕ) → suc n * w ≡ w + n * w
 times_more n w = omega arith

@@ -1,9 +1,9 @@
 -- The summaries of items.
 use Rattle.stab_items.proofs.Names.{◌≡◌, ◌≤◌, ◌<◌, refl, ap, sym, ◌∙◌, subst, ℕ, ◌+◌, suc, max, min, Bool, true, false, List, [], ◌∷◌, ◌++◌, length, map, take, drop, get_or, All, arith, drop-cons, append-nil, nat_lt, Some, None, if◌then◌else◌, length-append, length-map, take_more, All-head, All-tail, nat_tests, LookbackTooFar, TooManySteps, Gate, Axis, Factor, ControlledPair, letter_of, MeasureTarget, Measurement, Kind, Operation, Summary, IsLookback, Items, OneItem, done, next, block, join, before, operation, repeat, listed, depth, pair_qubits, Step, one, two, collapse, measured, measured_product, controlled_step, steps_of, rounds, unroll, makes, records_of, is_detector, detectors_of, lookbacks, target_qubits, factor_qubits, product_qubits, controlled_qubits, past, past_named, qubits_of, observables_of, named_qubits, named_observables, looks_too_far, check_of, greatest, looks_back, furthest, window, steps_summary, kind_summary_of, summary_of, followed_by, repeated, judged, IsSummary, IsSumOf, IsGoodLine}
 use Rattle.stab_gates.specs.declared.gate.PairGate.TheVariants as gate
-use Rattle.stab_lines.specs.declared.control.ControlledPair.TheVariants as pair
-use Rattle.stab_lines.specs.declared.operation.Kind.TheVariants as kind
-use Rattle.stab_lines.specs.declared.operation.Line.TheVariants as line
+use Rattle.stab_instructions.specs.declared.control.ControlledPair.TheVariants as pair
+use Rattle.stab_instructions.specs.declared.operation.Kind.TheVariants as kind
+use Rattle.stab_instructions.specs.declared.operation.Line.TheVariants as line
 use Rattle.stab_items.proofs.ItemLemmas.{listed-append, depth-join}
 use Rattle.stab_items.proofs.StepLemmas.{length-rounds, records_of-append, records_of-rounds, detectors_of-append, detectors_of-rounds, window-append, window-rounds, unroll-join, capped_sum, capped_left, capped_times, looks_too_far_window}
 

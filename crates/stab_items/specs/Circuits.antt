@@ -7,14 +7,14 @@ use Rattle.stab_io.specs.declared.refusal.Refusal.{Refusal}
 use Rattle.stab_io.specs.declared.refusal.Refusal.TheVariants.{BadBlock, TooDeep, BadLine, TooLong}
 use Rattle.stab_io.specs.declared.refusal.Fault.{Fault}
 use Rattle.stab_io.specs.Refusals.{whole}
-use Rattle.stab_lines.specs.declared.operation.Operation.{Operation}
-use Rattle.stab_lines.specs.declared.operation.Line.{Line}
-use Rattle.stab_lines.specs.declared.operation.Line.TheVariants.{Blank, Close, Open}
-use Rattle.stab_lines.specs.declared.operation.Line.TheVariants as line
-use Rattle.stab_lines.specs.Lines.{is_byte, content_of}
-use Rattle.stab_lines.specs.Laws.{IsLine}
+use Rattle.stab_instructions.specs.declared.operation.Operation.{Operation}
+use Rattle.stab_instructions.specs.declared.operation.Line.{Line}
+use Rattle.stab_instructions.specs.declared.operation.Line.TheVariants.{Blank, Close, Open}
+use Rattle.stab_instructions.specs.declared.operation.Line.TheVariants as line
+use Rattle.stab_instructions.specs.Lines.{is_byte, content_of}
+use Rattle.stab_instructions.specs.Laws.{IsLine}
 use Rattle.stab_items.specs.Items.{Items, OneItem, done, next, block, before}
-use Rattle.stab_lines.specs.Meanings.{is_close, meaning_of}
+use Rattle.stab_instructions.specs.Meanings.{is_close, meaning_of}
 
 -- what a line means, or why it is refused
 abbrev pub Meaning : Type 0

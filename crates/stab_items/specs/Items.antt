@@ -1,11 +1,11 @@
 -- Items without pointers.
 -- Source: Stim's circuit file format: a circuit is a list of instructions and of blocks, which are lists again.
 use Rattle.std.specs.Prelude.{ℕ, ◌+◌, max, List, [], ◌∷◌}
-use Rattle.stab_lines.specs.declared.operation.Operation.{Operation}
-use Rattle.stab_lines.specs.declared.operation.Kind.{Kind}
-use Rattle.stab_lines.specs.declared.operation.Line.TheVariants.{Open}
-use Rattle.stab_lines.specs.declared.operation.Line.TheVariants as line
-use Rattle.stab_lines.specs.Rules.{IsGoodLine}
+use Rattle.stab_instructions.specs.declared.operation.Operation.{Operation}
+use Rattle.stab_instructions.specs.declared.operation.Kind.{Kind}
+use Rattle.stab_instructions.specs.declared.operation.Line.TheVariants.{Open}
+use Rattle.stab_instructions.specs.declared.operation.Line.TheVariants as line
+use Rattle.stab_instructions.specs.Rules.{IsGoodLine}
 
 -- a list of items
 pub data Items : Type 0 where

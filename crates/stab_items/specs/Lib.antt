@@ -6,3 +6,13 @@ pub mod StepValues
 pub mod Prints
 pub mod Nothings
 pub mod inner
+pub mod Views
+pub mod Cursors
+pub mod Paths
+pub mod Places
+pub mod StepPaths
+pub mod Edits
+pub mod Rounds
+pub mod Repeats
+pub mod Splits
+pub mod Editings

@@ -1,7 +1,7 @@
 -- Prints: the one text of a list of items.
 -- Source: Stim's circuit file format. Which of several texts of the same items is printed is this project's own.
 use Rattle.std.specs.Prelude.{ℕ, ◌*◌, suc, List, [], ◌∷◌, ◌++◌, replicate, codes}
-use Rattle.stab_lines.specs.Prints.{operation_text, open_text, coordinates_text}
+use Rattle.stab_instructions.specs.Prints.{operation_text, open_text, coordinates_text}
 use Rattle.stab_items.specs.Items.{Items, OneItem, done, next, block, operation, repeat}
 
 -- a line: its content, and in how many blocks it is

@@ -12,18 +12,18 @@ use Rattle.stab_io.specs.Refusals.{whole}
 use Rattle.stab_gates.specs.declared.gate.Gate.{Gate}
 use Rattle.stab_gates.specs.declared.gate.PairGate.{PairGate}
 use Rattle.stab_gates.specs.declared.gate.PairGate.TheVariants as gate
-use Rattle.stab_lines.specs.declared.axis.Axis.{Axis}
-use Rattle.stab_lines.specs.declared.axis.Axis.TheVariants as axis
-use Rattle.stab_lines.specs.declared.control.ControlledPair.{ControlledPair}
-use Rattle.stab_lines.specs.declared.control.ControlledPair.TheVariants as pair
-use Rattle.stab_lines.specs.declared.product.Factor.{Factor}
-use Rattle.stab_lines.specs.declared.range.MeasureTarget.{MeasureTarget}
-use Rattle.stab_lines.specs.declared.operation.Measurement.{Measurement}
-use Rattle.stab_lines.specs.declared.operation.Kind.{Kind}
-use Rattle.stab_lines.specs.declared.operation.Kind.TheVariants as kind
-use Rattle.stab_lines.specs.Axes.{letter_of}
-use Rattle.stab_lines.specs.Targets.{pair_qubits}
-use Rattle.stab_lines.specs.Products.{names_twice}
+use Rattle.stab_instructions.specs.declared.axis.Axis.{Axis}
+use Rattle.stab_instructions.specs.declared.axis.Axis.TheVariants as axis
+use Rattle.stab_instructions.specs.declared.control.ControlledPair.{ControlledPair}
+use Rattle.stab_instructions.specs.declared.control.ControlledPair.TheVariants as pair
+use Rattle.stab_instructions.specs.declared.product.Factor.{Factor}
+use Rattle.stab_instructions.specs.declared.range.MeasureTarget.{MeasureTarget}
+use Rattle.stab_instructions.specs.declared.operation.Measurement.{Measurement}
+use Rattle.stab_instructions.specs.declared.operation.Kind.{Kind}
+use Rattle.stab_instructions.specs.declared.operation.Kind.TheVariants as kind
+use Rattle.stab_instructions.specs.Axes.{letter_of}
+use Rattle.stab_instructions.specs.Targets.{pair_qubits}
+use Rattle.stab_instructions.specs.Products.{names_twice}
 use Rattle.stab_items.specs.Items.{Items, OneItem, done, next, block, operation, repeat}
 
 -- a step of an unrolled circuit

@@ -5,3 +5,13 @@ pub mod ItemSizes
 pub mod Parts
 pub mod Blocks
 pub mod Margins
+pub mod Walks
+pub mod Places
+pub mod Splices
+pub mod Judgements
+pub mod EditResults
+pub mod StepItems
+pub mod Stretches
+pub mod Gaps
+pub mod Repeats
+pub mod Changes

@@ -1,5 +1,5 @@
 use crate::summary::{Summary, kind_summary};
-use stab_lines::{Kind, Operation, Sequence};
+use stab_instructions::{Kind, Operation, Sequence};
 use std::marker::Model;
 
 /// An instruction and its summary, so that items are added up without a look at targets. Contracts see
@@ -24,7 +24,7 @@ impl Drop for Instruction {
 impl Model for Instruction {
     ghost use Rattle.std.specs.Prelude.{[]};
     ghost use Rattle.std.specs.Option.{unwrap_or};
-    ghost use Rattle.stab_lines.specs.declared.operation.Operation.{Operation as OperationValue};
+    ghost use Rattle.stab_instructions.specs.declared.operation.Operation.{Operation as OperationValue};
     ghost use Rattle.stab_items.specs.Items.{next, done};
     ghost use Rattle.stab_items.specs.inner.Summaries.{IsSumOf};
 
@@ -37,11 +37,10 @@ impl Model for Instruction {
 
 impl Instruction {
     ghost use Rattle.std.specs.Prelude.{◌≡◌};
-    ghost use Rattle.stab_lines.specs.Rules.{IsGoodKind, IsGoodLine};
-    ghost use Rattle.stab_lines.specs.declared.operation.Line.TheVariants as line;
-    ghost use Rattle.stab_items.specs.Items.{next, done};
+    ghost use Rattle.stab_instructions.specs.Rules.{IsGoodKind, IsGoodLine};
+    ghost use Rattle.stab_instructions.specs.declared.operation.Line.TheVariants as line;
+    ghost use Rattle.stab_items.specs.Items.{next, done, without_tag};
     ghost use Rattle.stab_items.specs.inner.Summaries.{IsSumOf};
-    ghost use Rattle.stab_items.specs.Items.{without_tag};
 
     /// The instruction of a line.
     #[tactic(auto, using(crate::proofs::SummaryLemmas::operation_sum))]

@@ -1,12 +1,12 @@
 ghost use Rattle.std.specs.Prelude.{◌≡◌, ◌<◌, ◌+◌, ◌^◌, [], ◌∷◌, true, false, length, map, slice_get, IfSome};
 ghost use Rattle.stab_gates.specs.declared.gate.PairGate.TheVariants as gate;
-ghost use Rattle.stab_lines.specs.Axes.{letter_of};
+ghost use Rattle.stab_instructions.specs.Axes.{letter_of};
 ghost use Rattle.stab_items.specs.Steps.{one, two, collapse, measured as measured_of, is_inverted as is_inverted_of, measured_product as measured_product_step, controlled_gate as controlled_gate_of, controlled_step, steps_of, HasDistinctQubits};
 ghost use Rattle.stab_items.specs.StepValues.{step_shown, shown_step};
 
 use crate::step::Step;
 use stab_gates::{Gate, PairGate};
-use stab_lines::{
+use stab_instructions::{
     Axis, ControlledPair, Factor, Kind, MeasureTarget, Measurement, Pair, Product, Qubit,
 };
 

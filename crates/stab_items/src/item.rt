@@ -1,6 +1,6 @@
 use crate::instruction::Instruction;
 use crate::summary::Summary;
-use stab_lines::{Count, Kind, Sequence};
+use stab_instructions::{Count, Kind, Sequence};
 use std::alloc::{AllocError, Global};
 use std::marker::Model;
 use std::mem;
@@ -99,7 +99,7 @@ pub enum Part<'a> {
 
 impl Item {
     ghost use Rattle.std.specs.Prelude.{◌≡◌, ◌≤◌, [], Some, None, IfOk, IfSome, IfNone};
-    ghost use Rattle.stab_lines.specs.Rules.{IsTag};
+    ghost use Rattle.stab_instructions.specs.Rules.{IsTag};
     ghost use Rattle.stab_items.specs.Steps.{detector_of};
     ghost use Rattle.stab_items.specs.Nothings.{IsNothing};
     ghost use Rattle.stab_items.specs.Items.{operation as single, repeat as repeated, listed, before, done, depth, AreGood};

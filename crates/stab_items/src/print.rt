@@ -2,12 +2,12 @@ ghost use Rattle.std.specs.Prelude.{◌≡◌, ◌+◌, ◌*◌, ◌++◌, repli
 ghost use Rattle.stab_items.specs.Items.{before, done, listed};
 ghost use Rattle.stab_io.specs.Devices.{WritesAll};
 ghost use Rattle.stab_items.specs.inner.Margins.{margin_depth};
-ghost use Rattle.stab_lines.specs.Prints.{operation_text, open_text};
+ghost use Rattle.stab_instructions.specs.Prints.{operation_text, open_text};
 ghost use Rattle.stab_items.specs.Prints.{line_text, printed_in, printed, item_coordinates};
 
 use crate::item::{Item, Part};
+use stab_instructions::{Count, Kind, write_detector_coordinates, write_opening, write_operation};
 use stab_io::{Output, Refusal, write_all};
-use stab_lines::{Count, Kind, write_detector_coordinates, write_opening, write_operation};
 
 /// The blocks around a line, from the innermost outwards.
 #[derive(Clone, Copy)]

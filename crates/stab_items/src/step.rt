@@ -1,5 +1,5 @@
 use stab_gates::{Gate, Letter, PairGate};
-use stab_lines::Factor;
+use stab_instructions::Factor;
 
 /// A step of an unrolled circuit. Qubits are numbered from 0.
 #[derive(Clone, Copy, Debug, PartialEq, Eq)]

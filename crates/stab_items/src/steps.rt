@@ -6,7 +6,7 @@ use crate::detectors::Detectors;
 use crate::instruction_steps::step_at;
 use crate::step::Step;
 use stab_gates::Gate;
-use stab_lines::{Axis, ControlledPair, Kind, MeasureTarget, Measurement, Qubit};
+use stab_instructions::{Axis, ControlledPair, Kind, MeasureTarget, Measurement, Qubit};
 
 /// Steps of one instruction, or of detectors, one after the other, at least one.
 #[derive(Clone, Copy)]

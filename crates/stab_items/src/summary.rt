@@ -1,13 +1,13 @@
 ghost use Rattle.std.specs.Prelude.{◌≡◌, ◌≤◌, ◌*◌, min, length, ◌∷◌, [], All};
 ghost use Rattle.stab_gates.specs.Limits.{most_qubits};
-ghost use Rattle.stab_lines.specs.Limits.{most_lookback};
-ghost use Rattle.stab_lines.specs.Lookbacks.{IsLookback};
-ghost use Rattle.stab_lines.specs.Targets.{pair_qubits};
+ghost use Rattle.stab_instructions.specs.Limits.{most_lookback};
+ghost use Rattle.stab_instructions.specs.Lookbacks.{IsLookback};
+ghost use Rattle.stab_instructions.specs.Targets.{pair_qubits};
 ghost use Rattle.stab_items.specs.Steps.{past as past_of, target_qubits, factor_qubits, product_qubits, controlled_qubits, steps_cap};
 ghost use Rattle.stab_items.specs.inner.Summaries.{greatest as greatest_of, looks_back, furthest as furthest_of, kind_summary_of, IsSummary};
 
+use stab_instructions::{ControlledPair, Factor, Kind, MeasureTarget, Pair, Product, Qubit};
 use stab_io::Refusal;
-use stab_lines::{ControlledPair, Factor, Kind, MeasureTarget, Pair, Product, Qubit};
 
 /// What checks need to know of items: how many steps they make, up to 1,048,577, how many
 /// records and how many detectors, up to 16,777,215 each, how many records have to be before them, how

@@ -1,14 +1,14 @@
 //! How far back steps look.
 ghost use Rattle.std.specs.Prelude.{◌≡◌, ◌≤◌, false, nat_lt, All, map, take};
 ghost use Rattle.std.specs.List.{list_any};
-ghost use Rattle.stab_lines.specs.declared.axis.Axis.{Axis};
+ghost use Rattle.stab_instructions.specs.declared.axis.Axis.{Axis};
 ghost use Rattle.stab_items.specs.Steps.{controlled_step, detector, LooksWithin};
 ghost use Rattle.stab_items.specs.StepValues.{step_shown, steps_shown, lookbacks_of};
 
 use crate::detectors::Detectors;
 use crate::step::Step;
 use crate::steps::Steps;
-use stab_lines::ControlledPair;
+use stab_instructions::ControlledPair;
 
 /// The greatest of numbers and another.
 fn greatest(least: u32, numbers: &[u32]) -> u32

@@ -1,7 +1,7 @@
 //! The commands with their options, and the job that the words of a command line ask for.
 use crate::numbers::{QubitCount, Shots, Stride};
-use stab_distance::SearchPart;
 use stab_results::Format;
+use stab_search::SearchPart;
 
 /// Where coins come from: the outcomes of measurements that no stabiliser decides.
 #[derive(Debug, Drop, PartialEq, Eq)]
@@ -124,6 +124,10 @@ pub enum Command {
     /// Writes what a Pauli string becomes that is put in, or what it is at `every` tick, and what it flips.
     Propagate {
         every: bool,
+    },
+    /// Writes what each error flips and leaves: those that the circuit marks, or errors `everywhere`.
+    PropagateEach {
+        everywhere: bool,
     },
 }
 

@@ -3,7 +3,7 @@
 //! - `numbers`: how many shots, qubits and steps between checkpoints.
 //! - `job`: where coins come from, the commands with their options, and the job that the words of a command line ask for.
 //!
-//! What a command does is proved where it is run, in `stab_analysis`, `stab_commands` and `stab_editor`, and which words ask for a
+//! What a command does is proved where it is run, in `stab_commands`, `stab_commands` and `stab_script`, and which words ask for a
 //! job in `stab_args`.
 //!
 //! Source: this project's own.
@@ -19,4 +19,4 @@ pub use job::{
     Command, DistanceOptions, ErrorLetters, FaultLayout, Job, Question, SearchedLayout, Source,
 };
 pub use numbers::{QubitCount, Shots, Stride};
-pub use stab_distance::SearchPart;
+pub use stab_search::SearchPart;

@@ -1,6 +1,6 @@
 -- Folded segments: a replay on its way that repeats what it gave from one saved checkpoint to the next, up to a frame if there is one, is on
 -- its way again.
-use Rattle.stab_recording.proofs.Names.{◌≡◌, ℕ, zero, suc, ◌+◌, ◌-◌, ◌≤◌, refl, sym, ◌∙◌, ap, subst, Bool, true, List, [], ◌∷◌, ◌++◌, length, take, drop, IsSomeAnd, Option, None, Some, slice_get, add-one, arith, option_map, take_at, none-some, same_Some, slice_get_within, TableauState, Step, Repeat, RunOutput, origin, joined, point_after, outputs, output_of, lengths_of, outputs-append, PropagationState, Checkpoint, IsCheckpoint, checkpoint_steps, Near, Plan, Replay, KeepsPivots, IsAtStep, IsAtStop, step_among_new, Segment, IsRoundsAfter, IsAlike, MayRecur, IsFolding, IsSegment, HasRepeated, MayGoOver, HasPropagated, with_folded, last_state, with_state, with_cursor, Recurrence, get-append}
+use Rattle.stab_recording.proofs.Names.{◌≡◌, ℕ, zero, suc, ◌+◌, ◌-◌, ◌≤◌, refl, sym, ◌∙◌, ap, subst, Bool, true, List, [], ◌∷◌, ◌++◌, take, drop, IsSomeAnd, Option, None, Some, slice_get, add-one, arith, option_map, none-some, same_Some, slice_get_within, TableauState, Step, Repeat, origin, joined, point_after, outputs, output_of, lengths_of, outputs-append, PropagationState, Checkpoint, IsCheckpoint, checkpoint_steps, Near, Plan, Replay, KeepsPivots, IsAtStep, IsAtStop, step_among_new, Segment, IsRoundsAfter, IsAlike, MayRecur, IsFolding, IsSegment, HasRepeated, MayGoOver, HasPropagated, with_folded, last_state, with_state, with_cursor, Recurrence, get-append}
 use Rattle.std.proofs.Common.{IfSome}
 use Rattle.stab_recording.proofs.AgainOverLemmas.{same-later, later-steps}
 use Rattle.stab_recording.proofs.FoldedPartLemmas.{IsPartAgain, Comes, span, go-over, repeated-comes, by_frame-comes}
@@ -127,7 +127,6 @@ module _ (n : ℕ) (coins : ℕ → Bool) (begin : ℕ) (p : Plan) (ys : List St
     stopped =
         on-stop n coins begin p ys checkpoints old coins next s.step (option_map (step_among_new p) (slice_get checkpoints next)) z arrived folding.may.way refl
         (subst (λ m. IsAtStep m coins ys arrived) (sym at.qubits) at_step) refl
-        (sym (ap (λ (o : RunOutput). take (length r.outputs.records.items) o.records) come.output ∙ take_at r.outputs.records.items _ (length r.outputs.records.items) refl))
         (let counted = come.counted in let step = come.step in omega (arith, counted, step, order)) refl (let step = come.step in omega (arith, step)) inside
         (let step = come.step in omega (arith, step, near-next p.stride begin r.step g.number r.saved.items c d near is.here (ap (slice_get r.saved.items) (sym (add-one g.number)) ∙ is.there))) refl
         (place-before (λ k. s.step ≤ k) (slice_get checkpoints next) (step_among_new p) (recurrence (slice_get checkpoints next) folding.may.is_end.before))

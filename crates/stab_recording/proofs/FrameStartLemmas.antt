@@ -1,5 +1,5 @@
 -- Starts of frames: the frame by which a run differs from a checkpoint of a run, and the two points that differ by it.
-use Rattle.stab_recording.proofs.Names.{◌≡◌, ℕ, zero, suc, ◌+◌, ◌-◌, ◌≤◌, refl, sym, ◌∙◌, ap, subst, Bool, false, inl, inr, List, [], ◌∷◌, ◌++◌, All, length, take, drop, get_or, replicate, arith, length-append, length-drop, length-take-le, take-append-drop, take-take, take_at, drop_at, All-take, I, ◌⊕◌, Signed, with_sign, strings_anticommute, string_product, string_product-blank, member, IsStabiliserGroup, TableauState, stabilises, IsConjugated, Step, Lengths, looked_up, ones, Point, RunOutput, nothing, origin, point_after, outputs, StepFits, program_state, AgreeBack, with_coin, flags-are-coins, records-are-records, looked_up-near, flipped, PointsDifferBy, PropagationState, frame_at, DiffersBack, group-origin, length-flipped, flipped-differing, Checkpoint, IsRunFromStart, IsCheckpoint, AreCompared, IsFrameFrom}
+use Rattle.stab_recording.proofs.Names.{◌≡◌, ℕ, zero, suc, ◌+◌, ◌-◌, ◌≤◌, refl, sym, ◌∙◌, ap, subst, Bool, false, inl, inr, List, [], ◌∷◌, ◌++◌, All, length, take, drop, get_or, replicate, arith, length-append, length-drop, length-take-le, take-append-drop, take-take, take_at, drop_at, All-take, I, ◌⊕◌, Signed, with_sign, strings_anticommute, string_product, string_product-blank, member, IsStabiliserGroup, TableauState, stabilises, IsConjugated, Step, Lengths, looked_up, ones, Point, RunOutput, nothing, origin, point_after, outputs, StepFits, program_state, AgreeBack, with_coin, records-are-records, looked_up-near, flipped, PointsDifferBy, PropagationState, frame_at, DiffersBack, group-origin, length-flipped, flipped-differing, Checkpoint, IsRunFromStart, IsCheckpoint, AreCompared, IsFrameFrom}
 use Rattle.stab_recording.proofs.RunCheckpointLemmas.{checkpoint-before, lengths-within, records-at}
 
 -- if two lists are the same at first, nothing differs
@@ -81,9 +81,6 @@ module _ (n : ℕ) (coins : ℕ → Bool) (xs ys : List Step) (k : ℕ) (c : Che
   pub own : o.records ≡ there.records
   own = ap (λ (q : RunOutput). q.records) run.output ∙ records-are-records n coins (take k ys)
 
-  pub own_coin : length o.free ≡ there.coin
-  own_coin = ap (λ (q : RunOutput). length q.free) run.output ∙ flags-are-coins n coins (take k ys)
-
   pub olds_are : olds ≡ here.records
   olds_are = records-at n coins xs old c is kept
 
@@ -92,9 +89,6 @@ module _ (n : ℕ) (coins : ℕ → Bool) (xs ys : List Step) (k : ℕ) (c : Che
       ap length olds_are
       ∙ ap length (sym (records-are-records n coins (take c.step xs)))
       ∙ sym (ap (λ (l : Lengths). l.records) is.lengths)
-
-  pub checkpoint_coin : c.lengths.free ≡ here.coin
-  checkpoint_coin = ap (λ (l : Lengths). l.free) is.lengths ∙ flags-are-coins n coins (take c.step xs)
 
   few : AreCompared o base window c from.compared → (from.compared ≤ length o.records) × (from.compared ≤ c.lengths.records)
   few (inl alike) = (omega (arith, alike.2), omega (arith, alike.1, alike.2))

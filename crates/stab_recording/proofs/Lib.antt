@@ -24,7 +24,6 @@ mod PropagatedWayLemmas
 mod QuietLemmas
 mod LetterStateLemmas
 pub mod RestPropagatedLemmas
-pub mod OldRunLemmas
 mod FollowedLemmas
 pub mod AgainOverLemmas
 mod PropagatedPivotLemmas
@@ -34,4 +33,3 @@ mod FoldedReplayLemmas
 mod RunLemmas
 pub mod RecordedReplayLemmas
 mod StopLemmas
-mod TriedLemmas

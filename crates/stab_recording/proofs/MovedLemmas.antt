@@ -1,6 +1,6 @@
 -- Replays that differ: if a replay's next coin has another number than the old run's, or its records are others, the two agree at no later
 -- old checkpoint.
-use Rattle.stab_recording.proofs.Names.{◌≡◌, ◌≢◌, ℕ, suc, zero, ◌+◌, ◌-◌, ◌<◌, ◌≤◌, refl, sym, ◌∙◌, ap, subst, Bool, ◌⊎◌, inl, inr, List, [], ◌∷◌, ◌++◌, Option, Some, None, length, take, drop, slice_get, arith, IfSome, cases_lt, length-append, length-drop, drop-drop, take_at, Step, Lengths, Checkpoint, IsCheckpoint, Point, RunOutput, origin, point_after, outputs, all_coins_of, PivotsState, flags-are-coins, records-are-records, records-gathered, records-made, coins-are, Plan, Replay, IsAtStep, Ascending, Misses, IsOnWay, step_among_new, IsOldRun, IsBeside, HasOtherCoins}
+use Rattle.stab_recording.proofs.Names.{◌≡◌, ◌≢◌, ℕ, suc, zero, ◌+◌, ◌-◌, ◌<◌, ◌≤◌, refl, sym, ◌∙◌, ap, subst, Bool, ◌⊎◌, inl, inr, List, [], ◌∷◌, ◌++◌, Option, Some, None, length, take, drop, slice_get, arith, IfSome, cases_lt, length-append, length-drop, drop-drop, take_at, Step, Lengths, Checkpoint, IsCheckpoint, Point, RunOutput, origin, point_after, outputs, all_coins_of, flags-are-coins, records-are-records, records-gathered, records-made, coins-are, Plan, Replay, IsAtStep, Ascending, Misses, IsOnWay, step_among_new, IsOldRun, IsBeside, HasOtherCoins}
 use Rattle.std.specs.Prelude.{IsSomeAnd}
 use Rattle.stab_recording.proofs.CursorPlaceLemmas.{at-number}
 use Rattle.stab_recording.proofs.PointLemmas.{old_later, new_later}
@@ -29,7 +29,7 @@ same-fronts a b x y same ends =
 more-coins : (n : ℕ) (coins : ℕ → Bool) (xs : List Step) (a b : Point) → a ≡ point_after n coins xs b → a.coin ≡ b.coin + all_coins_of xs
 more-coins n coins xs a b same = ap (λ (q : Point). q.coin) same ∙ coins-are n coins xs b
 
-module _ (n : ℕ) (coins : ℕ → Bool) (p : Plan) (ys : List Step) (checkpoints : List Checkpoint) (o : RunOutput) (s : PivotsState) (old : IsOldRun n coins p ys checkpoints o s)
+module _ (n : ℕ) (coins : ℕ → Bool) (p : Plan) (ys : List Step) (checkpoints : List Checkpoint) (o : RunOutput) (old : IsOldRun n coins p ys checkpoints o)
     (few : length ys ≤ 1048576) (b c : Checkpoint) (from : IsCheckpoint n coins old.steps b) (to : IsCheckpoint n coins old.steps c) (following : p.old_end ≤ b.step)
     (order : b.step ≤ c.step) (r : Replay) (at : IsAtStep n coins ys r) (place : step_among_new p b ≡ r.step) where
   -- where the replay is, and where it comes to the later checkpoint
@@ -130,8 +130,6 @@ way-past n coins begin p ys checkpoints old next later r way le within missed =
         order = let first = stop.order in omega (arith, first, le);
         within = within;
         ascending = ascending-from p r.step next later checkpoints stop.ascending le;
-        base = stop.base;
-        same = stop.same;
         missed = λ number from before.
             elim (cases_lt number next) [
               | inl lt ↦ stop.missed number from lt
@@ -142,10 +140,10 @@ way-past n coins begin p ys checkpoints old next later r way le within missed =
     }
 
 -- if it is at the place of an old checkpoint and differs from it, later old checkpoints of the list are missed
-pub all-missed : (n : ℕ) (coins : ℕ → Bool) (p : Plan) (ys : List Step) (checkpoints : List Checkpoint) (o : RunOutput) (s : PivotsState) (r : Replay) → IsBeside n coins p ys checkpoints o s r
+pub all-missed : (n : ℕ) (coins : ℕ → Bool) (p : Plan) (ys : List Step) (checkpoints : List Checkpoint) (o : RunOutput) (r : Replay) → IsBeside n coins p ys checkpoints o r
     → length ys ≤ 1048576 → (last : ℕ) (b : Checkpoint) → slice_get checkpoints last ≡ Some b → IsSomeAnd (slice_get checkpoints last) (HasOtherCoins p r o) → (number : ℕ)
     → IfSome (slice_get checkpoints number) (λ c. b.step ≤ c.step) → IfSome (slice_get checkpoints number) (Misses n coins p ys o.records)
-all-missed n coins p ys checkpoints o s r beside few last b from distinct number following =
+all-missed n coins p ys checkpoints o r beside few last b from distinct number following =
     later (slice_get checkpoints number) refl following
   where
     held : HasOtherCoins p r o b
@@ -154,5 +152,5 @@ all-missed n coins p ys checkpoints o s r beside few last b from distinct number
     later : (found : Option Checkpoint) → slice_get checkpoints number ≡ found → IfSome found (λ c. b.step ≤ c.step) → IfSome found (Misses n coins p ys o.records)
     later None to following = tt
     later (Some c) to following =
-        misses-later n coins p ys checkpoints o s beside.old few b c (at-number (IsCheckpoint n coins beside.old.steps) checkpoints last b from beside.old.are_checkpoints)
+        misses-later n coins p ys checkpoints o beside.old few b c (at-number (IsCheckpoint n coins beside.old.steps) checkpoints last b from beside.old.are_checkpoints)
         (at-number (IsCheckpoint n coins beside.old.steps) checkpoints number c to beside.old.are_checkpoints) held.following following r beside.at_step held.place held.differs

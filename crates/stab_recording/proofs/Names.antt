@@ -1,12 +1,12 @@
 -- What the proofs of this crate take from std, from crates below and from its definitions.
 pub use Rattle.std.proofs.Common.{◌≡◌, ℕ, ◌+◌, ◌-◌, ◌≤◌, sym, ◌∙◌, ap, subst, Bool, List, ◌++◌, take, drop, arith, suc, ◌*◌, ◌<◌, refl, [], ◌∷◌, append_assoc, length, get_or, add-one, Option, zero, false, inl, inr, true, reverse, ◌^◌, map, Some, None, slice_get, All, ◌/◌, ◌⊎◌, IsSomeAnd, replicate, min, not, set, append-nil, ◌≢◌, ◌&&◌, ◌||◌, nat_lt, ◌↔◌, Vec, Global, vec_capacity, rules, IsTrue}
-pub use Rattle.std.proofs.Math.Nat.{add-mul, mul-le-mul_right, mul-le-mul_left, div-mul-le_self}
+pub use Rattle.std.proofs.Math.Nat.{add-mul, mul-le-mul_right, div-mul-le_self}
 pub use Rattle.std.proofs.Math.Seq.{take-add, drop-cons, take-suc, take-length, drop-append_seam, take-append-add, take-append_seam}
 pub use Rattle.std.proofs.lemmas.Bool.{cases_lt, le-leb, lt-leb, or_cases, or_from}
 pub use Rattle.std.proofs.lemmas.Bool.Decides.{leb_tells}
 pub use Rattle.std.proofs.lemmas.Grind.{div_ceil_times}
 pub use Rattle.std.proofs.lemmas.List.{take-append-drop, drop-drop, length-take-le, length-drop, take_at, drop_at, take-append-le, drop-append-le, take-take, reverse-append, length-append, length-take, drop-take, take_all, get_or-drop, get_or-take, get_or_append_left, get_or-append-add, map-append, length-replicate}
-pub use Rattle.std.proofs.lemmas.List.Elements.{All-drop, All-head, All-tail, All-weaker, All-get_or, All-take, All-append, All-nil, All-cons, All-push}
+pub use Rattle.std.proofs.lemmas.List.Elements.{All-drop, All-head, All-tail, All-get_or, All-take, All-append, All-nil, All-cons, All-push}
 pub use Rattle.std.proofs.lemmas.Option.{get_or_from_slice_get, slice_get_within, same_Some, IfSome_then, slice_get_past, none-some, slice_get-get_or, slice_get_read}
 pub use Rattle.std.proofs.lemmas.Result.{IfOk-weaker}
 pub use Rattle.std.proofs.lemmas.Slice.Eq.{slice_eq-Decides}
@@ -15,12 +15,12 @@ pub use Rattle.std.specs.Cmp.{booleans_Decides}
 pub use Rattle.std.specs.List.{list_any}
 pub use Rattle.std.specs.Option.{option_map}
 pub use Rattle.std.specs.Prelude.{IfSome, if◌then◌else◌, nat_le, Result, IfOk}
-pub use Rattle.stab_edits.specs.Cursors.{CursorState, steps_shown}
+pub use Rattle.stab_items.specs.Cursors.{CursorState, steps_shown}
 pub use Rattle.stab_items.specs.Items.{Items}
-pub use Rattle.stab_edits.specs.Repeats.{round_of, IsRepeat, AreRepeats}
-pub use Rattle.stab_items.specs.Steps.{Step, rounds, looks_too_far, one, two, controlled, collapse, product, detector, observable, most_steps, unroll, check_within, makes, lookbacks, records_of, observables_of}
-pub use Rattle.stab_edits.specs.Views.{circuit_items}
-pub use Rattle.stab_edits.specs.declared.circuit.repeats.Repeat.{Repeat}
+pub use Rattle.stab_items.specs.Repeats.{round_of, IsRepeat, AreRepeats}
+pub use Rattle.stab_items.specs.Steps.{Step, rounds, looks_too_far, one, two, controlled, collapse, product, detector, observable, most_steps, unroll, check_within, makes, lookbacks, records_of, observables_of, LooksWithin}
+pub use Rattle.stab_items.specs.Views.{circuit_items}
+pub use Rattle.stab_items.specs.declared.circuit.repeats.Repeat.{Repeat}
 pub use Rattle.stab_frames.proofs.AgainLemmas.{come-conjugated, gone-over-seen, true-conjugated-at, true-conjugated}
 pub use Rattle.stab_frames.proofs.FlipLemmas.{flipped-empty, length-flipped, flipped-differing}
 pub use Rattle.stab_frames.proofs.PropagatedRepeatLemmas.{conjugated-next, conjugated-none, conjugated-all}
@@ -37,13 +37,12 @@ pub use Rattle.stab_frames.proofs.TrueLemmas.{true-front, true-rest, true-append
 pub use Rattle.stab_frames.specs.AgainLaws.{DiffersBack, ArePropagatedOver}
 pub use Rattle.stab_frames.specs.Ends.{MayHaveCoin}
 pub use Rattle.stab_frames.specs.Flips.{flipped_output, flipped, flipped_additions}
-pub use Rattle.stab_frames.specs.FrameSteps.{frame_over, flips_over, frame_after, flipped_by, letters_by, letters_after, flips_given}
-pub use Rattle.stab_frames.specs.Frames.{Frame, PointsDifferBy, times_where}
+pub use Rattle.stab_frames.specs.FrameSteps.{frame_over, flips_over, frame_after}
+pub use Rattle.stab_frames.specs.Frames.{Frame, PointsDifferBy}
 pub use Rattle.stab_frames.specs.Limits.{most_strings}
-pub use Rattle.stab_items.specs.Steps.{LooksWithin}
 pub use Rattle.stab_frames.specs.OtherCoins.{coins_from, pivots_between, PropagatesToOthers}
 pub use Rattle.stab_frames.specs.Pivots.{AreTrue, PivotsState, pivot_at, kept_with, IsNumbered, IsTrueAt, KeepsTrue, front_kept, cut_to}
-pub use Rattle.stab_frames.specs.PivotsOfSteps.{AreEnough, IsEnoughAt}
+pub use Rattle.stab_frames.specs.PivotsOfSteps.{AreEnough}
 pub use Rattle.stab_frames.specs.Propagations.{PropagationState, frame_at, PropagatesWith, IsGone, PropagatesOver, IsPlaced}
 pub use Rattle.stab_frames.specs.RunPivots.{RunPivots, same_coins}
 pub use Rattle.stab_recording.specs.Stops.{IsStop}
@@ -61,7 +60,7 @@ pub use Rattle.stab_run.proofs.FitLemmas.{check-fits, check-steps, check-whole, 
 pub use Rattle.stab_run.proofs.FixedLemmas.{fixed-future}
 pub use Rattle.stab_run.proofs.FutureBackLemmas.{same-future-back, records-made}
 pub use Rattle.stab_run.proofs.FutureLemmas.{same-future}
-pub use Rattle.stab_run.proofs.LookbackLemmas.{looked_up-near, looked_up-far, looked_up-zeros, or-left, or-right}
+pub use Rattle.stab_run.proofs.LookbackLemmas.{looked_up-near, looked_up-far, looked_up-zeros}
 pub use Rattle.stab_run.proofs.PointLemmas.{outcomes-counted, flags-are-coins, records-are-records, rest-joined, front-output, HasAtMost, outputs-short, cut, rest-output, flags-given, records-gathered}
 pub use Rattle.stab_run.proofs.RecordLemmas.{ones-append}
 pub use Rattle.stab_run.proofs.RoundLemmas.{rounds-append, rounds-rounds, rounds-within, length-rounds}
@@ -74,7 +73,7 @@ pub use Rattle.stab_run.specs.Laws.{AgreeAt, IsSoundRun, DependsOnCoinsAt}
 pub use Rattle.stab_run.specs.Points.{origin, joined, all_coins_of, point_after, outputs, Point, RunOutput, with_additions, nothing, given, next_point, coins_of, state_at}
 pub use Rattle.stab_run.specs.ProgramStates.{ProgramState, IsAt, IsRun, program_state, StepFits, output_of}
 pub use Rattle.stab_run.specs.Records.{looked_up, ones}
-pub use Rattle.stab_run.specs.Runs.{run, string_of, when, flip_of, State, start}
+pub use Rattle.stab_run.specs.Runs.{run, State, start}
 unfoldable pub use Rattle.stab_run.specs.Runs.{run_of}
 pub use Rattle.stab_run.specs.declared.records.Lengths.{Lengths}
 pub use Rattle.stab_tableau.proofs.ReducedLemmas.{same-letters}
@@ -87,13 +86,13 @@ pub use Rattle.stab_tableau.specs.Rules.{is_free_by}
 pub use Rattle.stab_tableau.specs.Tableaus.{TableauState, stabilises}
 pub use Rattle.stab_tableau.specs.Traces.{member}
 pub use Rattle.stab_recording.specs.Checkpoints.{IsCheckpoint, checkpoint_steps, IsRunFromStart}
-pub use Rattle.stab_recording.specs.PropagatedReplays.{IsOldRun, HaveSameFuture}
+pub use Rattle.stab_recording.specs.OldRuns.{IsOldRun, HaveSameFuture}
 pub use Rattle.stab_recording.specs.FramesFrom.{flips_since, AreCompared, IsFrameFrom, flips_after}
 pub use Rattle.stab_recording.specs.SavedCheckpoints.{saved, all_saved, moved, moved_checkpoint, moved_lengths}
 pub use Rattle.stab_recording.specs.Meets.{Meets}
 pub use Rattle.stab_recording.specs.Parts.{between}
 pub use Rattle.stab_recording.specs.PivotLists.{KeepsPivots, IsSpliced}
-pub use Rattle.stab_recording.specs.Replays.{MeetsAt, Misses, EndsSoon, step_among_new, IsReplay, Ascending, IsEnd, IsPropagated, IsAtStep, IsAtStop, IsOnWay, spacing_of, StopsAt, BeginsAt, IsPlacedAt, checkpoint_of}
+pub use Rattle.stab_recording.specs.Replays.{MeetsAt, Misses, EndsSoon, step_among_new, IsReplay, Ascending, IsEnd, IsAtStep, IsAtStop, IsOnWay, spacing_of, StopsAt, IsPlacedAt, checkpoint_of}
 pub use Rattle.stab_recording.specs.RestFrames.{AreInOrder, ArePropagatedCheckpoints, IsRestFrame, Ending, AreEnoughBy, IsPropagatedAfter, Stabilise, FramesSome, IsLastDiffering}
 pub use Rattle.stab_recording.specs.Samplers.{SamplerState}
 pub use Rattle.stab_recording.specs.Spacing.{Near, last_of}
@@ -106,7 +105,6 @@ pub use Rattle.stab_recording.specs.declared.replay.Arrival.TheVariants.{Between
 pub use Rattle.stab_recording.specs.declared.replay.End.TheVariants.{Last, Joined}
 pub use Rattle.stab_recording.specs.declared.replay.Plan.{Plan}
 pub use Rattle.stab_recording.specs.declared.replay.Replay.{Replay}
-pub use Rattle.stab_recording.specs.declared.rest_frame.RestFrame.{RestFrame}
 pub use Rattle.stab_recording.specs.declared.whole_run.Shot.{Shot}
 pub use Rattle.stab_recording.specs.inner.Advanced.{after_rounds}
 pub use Rattle.stab_recording.specs.inner.Arrivals.{IsArrival}

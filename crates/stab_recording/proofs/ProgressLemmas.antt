@@ -1,5 +1,5 @@
 -- Progress: calls that take a replay further, one after another, and what they cost.
-use Rattle.stab_recording.proofs.Names.{◌≡◌, ℕ, ◌+◌, ◌-◌, ◌≤◌, refl, ◌∙◌, ap, subst, Bool, List, length, take, drop, arith, length-take, take-take, length-drop, Step, Items, ones, all_coins_of, coins-few, IsAtStep, Replay}
+use Rattle.stab_recording.proofs.Names.{◌≡◌, ℕ, ◌+◌, ◌-◌, ◌≤◌, refl, ◌∙◌, ap, subst, Bool, List, length, take, drop, arith, length-take, length-drop, Step, Items, ones, all_coins_of, coins-few, IsAtStep, Replay}
 use Rattle.stab_recording.specs.FollowedRuns.{Costs, HasSteps}
 use Rattle.stab_recording.specs.inner.Progress.{AreRunnable, HasCarriedOut, IsFurther}
 use Rattle.stab_recording.proofs.ReplayLemmas.{coins-cut}
@@ -98,11 +98,6 @@ pub carried-on : {m n : ℕ} {others coins : ℕ → Bool} (r s t : Replay) → 
 carried-on r s t qubits same h k = record {
   at_step = subst (λ x. x) (λ i. IsAtStep (qubits i) (same i) (h.at_step.all i) t) k.at_step;
   saved = k.saved ∙ h.saved;
-  records =
-      h.records
-      ∙ ap (take (length r.outputs.records.items)) k.records
-      ∙ take-take (length r.outputs.records.items) (length s.outputs.records.items) t.outputs.records.items
-      (omega (arith, ap length h.records, length-take (length r.outputs.records.items) s.outputs.records.items));
   by_frame = k.by_frame ∙ h.by_frame;
 }
 

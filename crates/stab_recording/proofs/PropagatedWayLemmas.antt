@@ -1,10 +1,5 @@
 -- Replays whose cursor or tableau is not up to date: where the cursor is set, and which state was saved last.
-use Rattle.stab_recording.proofs.Names.{◌≡◌, suc, ◌-◌, ◌<◌, refl, sym, ap, subst, List, [], ◌∷◌, Option, None, Some, IsSomeAnd, get_or, length, drop, arith, TableauState, Step, CursorState, Checkpoint, Replay, last_state, with_cursor}
-
--- the element of which something is so
-pub some-of : {X : Type 0} (m : Option X) (P : X → Type 0) → IsSomeAnd m P → (x : X) × (m ≡ Some x) × P x
-some-of None P h = absurd h
-some-of (Some x) P h = (x, refl, h)
+use Rattle.stab_recording.proofs.Names.{◌≡◌, suc, ◌-◌, ◌<◌, sym, ap, subst, List, [], ◌∷◌, get_or, length, drop, arith, TableauState, Step, CursorState, Checkpoint, Replay, last_state, with_cursor}
 
 -- where the cursor is
 pub cursor-set : (ys : List Step) (r : Replay) (cursor : CursorState) → cursor.all ≡ ys → cursor.left ≡ drop r.step ys → with_cursor ys r ≡ record r { cursor = cursor }

@@ -1,5 +1,5 @@
 -- Replays: a run that goes on from a checkpoint of an earlier one, what it asks of coins, and where it meets another checkpoint.
-use Rattle.stab_recording.proofs.Names.{◌≡◌, ◌≢◌, ℕ, zero, suc, ◌+◌, ◌-◌, ◌<◌, ◌≤◌, refl, sym, ◌∙◌, ap, subst, Bool, ◌⊎◌, inl, inr, List, [], ◌∷◌, ◌++◌, All, IsSomeAnd, Option, None, Some, slice_get, length, take, drop, arith, option_map, length-take, take-append-drop, take_at, take-take, drop-drop, map-append, All-push, cases_lt, IfSome_then, take-add, TableauState, Step, Lengths, Checkpoint, Replay, Plan, Between, RunOutput, origin, all_coins_of, point_after, outputs, AgreeAt, ProgramState, IsAt, IsRun, program_state, output_of, Near, last_of, lengths_of, IsRunFromStart, IsCheckpoint, checkpoint_steps, KeepsTrue, LooksWithin, KeepsPivots, IsAtStep, Ascending, MeetsAt, IsPlacedAt, Misses, EndsSoon, step_among_new, spacing_of, checkpoint_of, IsAtStop, IsOnWay, StopsAt, IsArrival, Meets, flags-are-coins, records-are-records, coins-append}
+use Rattle.stab_recording.proofs.Names.{◌≡◌, ◌≢◌, ℕ, zero, suc, ◌+◌, ◌-◌, ◌<◌, ◌≤◌, refl, sym, ◌∙◌, ap, subst, Bool, ◌⊎◌, inl, inr, List, [], ◌∷◌, ◌++◌, All, IsSomeAnd, Option, None, Some, slice_get, length, take, drop, arith, option_map, take-append-drop, drop-drop, map-append, All-push, cases_lt, IfSome_then, take-add, TableauState, Step, Lengths, Checkpoint, Replay, Plan, Between, RunOutput, origin, all_coins_of, point_after, outputs, AgreeAt, ProgramState, IsAt, IsRun, program_state, output_of, Near, last_of, lengths_of, IsRunFromStart, IsCheckpoint, checkpoint_steps, KeepsTrue, LooksWithin, KeepsPivots, IsAtStep, Ascending, MeetsAt, IsPlacedAt, Misses, EndsSoon, step_among_new, spacing_of, checkpoint_of, IsAtStop, IsOnWay, StopsAt, IsArrival, Meets, flags-are-coins, records-are-records, coins-append}
 use Rattle.std.proofs.Common.{IfSome}
 use Rattle.stab_recording.specs.RecordedSteps.{AreOnQubits, HasRecorded, KeepsRecorded}
 use Rattle.stab_recording.proofs.RecordedReplayLemmas.{has_pivots-on}
@@ -18,17 +18,7 @@ coins-cut i j ys xs le left =
 
 -- a run on from a step
 
--- it leaves the records that there were
-pub records-stay : (n : ℕ) (coins : ℕ → Bool) (xs zs : List Step) (old new : ProgramState) → IsRunFromStart n coins xs old → IsRun n coins zs old new
-    → old.output.records ≡ take (length old.output.records) new.output.records
-records-stay n coins xs zs old new h run =
-    let p = point_after n coins xs origin in
-    let advanced = run p (shows-from-start n coins xs old h) in
-    sym
-    (ap (λ (o : RunOutput). take (length old.output.records) o.records) advanced.output
-    ∙ take_at old.output.records (outputs n coins zs p).records (length old.output.records) refl)
-
--- and comes to the other
+-- it comes to the other
 pub run-on : (n : ℕ) (coins : ℕ → Bool) (ys : List Step) (old new : Replay) → IsAtStep n coins ys old → old.step ≤ new.step → new.step ≤ length ys
     → new.tableau.qubits ≡ old.tableau.qubits → AreOnQubits n new.string new.pivots → new.cursor.all ≡ old.cursor.all → KeepsRecorded old.pivots new.pivots → {applied later asked after : ℕ}
     → HasRecorded n coins (new.step - old.step) old.cursor new.cursor old.pivots new.pivots (program_state old.tableau (output_of old.outputs)) (program_state new.tableau (output_of new.outputs))
@@ -108,10 +98,6 @@ agree-meets n window coins xs zs c t o records free run h kept agree = record {
 
 -- where the next checkpoint is
 
-pub ascending-end : (p : Plan) (step : ℕ) (cs : List Checkpoint) → Ascending p step cs → step ≤ p.total
-ascending-end p step [] h = h
-ascending-end p step (c ∷ cs) h = let le = ascending-end p (step_among_new p c) cs h.1 in omega arith
-
 -- a replay at a step is not after the place of the next checkpoint
 next-following : (p : Plan) (step k : ℕ) (cs : List Checkpoint) → Ascending p step (drop k cs) → IfSome (option_map (step_among_new p) (slice_get cs k)) (λ q. step ≤ q)
 next-following p step zero [] h = tt
@@ -168,10 +154,10 @@ module _ (n : ℕ) (coins : ℕ → Bool) (begin : ℕ) (p : Plan) (ys : List St
   -- at the next stop
   pub on-stop : (others : ℕ → Bool) (next stop : ℕ) (place : Option ℕ) (r s : Replay) → IsOnWay n coins begin p ys checkpoints old next r → others ≡ coins
       → IsAtStep r.tableau.qubits others r.cursor.all s → s.saved.items ≡ r.saved.items
-      → r.outputs.records.items ≡ take (length r.outputs.records.items) s.outputs.records.items → (s.applied + s.by_frame) + r.step ≡ (r.applied + r.by_frame) + stop → s.step ≡ stop
+      → (s.applied + s.by_frame) + r.step ≡ (r.applied + r.by_frame) + stop → s.step ≡ stop
       → r.step ≤ stop → stop ≤ p.total → stop ≤ r.step + p.stride → place ≡ option_map (step_among_new p) (slice_get checkpoints next) → IfSome place (λ q. stop ≤ q)
       → IsAtStop n coins begin p ys checkpoints old next s
-  on-stop others next stop place r s h same_coins at saved records counted step order within near place_is before = record {
+  on-stop others next stop place r s h same_coins at saved counted step order within near place_is before = record {
     replay = record {
       at_step =
           subst (λ m. IsAtStep m coins ys s) was.qubits
@@ -187,11 +173,6 @@ module _ (n : ℕ) (coins : ℕ → Bool) (begin : ℕ) (p : Plan) (ys : List St
     ascending =
         subst (λ k. Ascending p k (drop next checkpoints)) (sym step)
         (ascending-stop p r.step stop next checkpoints h.stop.ascending within (subst (λ o. IfSome o (λ q. stop ≤ q)) place_is before));
-    base = let e = h.stop.base in omega (arith, ap length records, length-take (length r.outputs.records.items) s.outputs.records.items);
-    same =
-        sym (take-take p.base (length r.outputs.records.items) s.outputs.records.items h.stop.base)
-        ∙ ap (take p.base) (sym records)
-        ∙ h.stop.same;
     missed = h.stop.missed;
   }
     where
@@ -238,8 +219,6 @@ module _ (n : ℕ) (coins : ℕ → Bool) (begin : ℕ) (p : Plan) (ys : List St
     order = let le = h.order in omega arith;
     within = let le = later-within checkpoints next (λ c. step_among_new p c ≡ r.step) placed in omega arith;
     ascending = later-ascending p r.step next checkpoints h.ascending placed;
-    base = h.base;
-    same = h.same;
     missed = all-missed next r h distinct;
   }
 
@@ -270,8 +249,6 @@ module _ (n : ℕ) (coins : ℕ → Bool) (begin : ℕ) (p : Plan) (ys : List St
       order = h.order;
       within = h.within;
       ascending = h.ascending;
-      base = h.base;
-      same = h.same;
       missed = h.missed;
     };
     last = ap (last_of begin) steps ∙ last-more begin r.step (checkpoint_steps r.saved.items);

@@ -1,6 +1,6 @@
 -- Runs: replays with no older run go on, repeat rounds, and forget checkpoints.
 use Rattle.stab_recording.proofs.Names.{None, unroll, check_within, AreRepeats, check-fits, Items, ◌≡◌, ℕ, zero, suc, ◌+◌, ◌*◌, ◌≤◌, refl, sym, ◌∙◌, ap, subst, Bool, List, [], ◌∷◌, ◌++◌, All, length, take, arith, All-take, take_all, Step, origin, outputs, output_of, KeepsPivots, most_steps, Repeat, IsRepeat, StepFits, Checkpoint, IsCheckpoint, checkpoint_steps, Near, Replay, IsAtStep, checkpoint_of, MayRecur, IsOnWay, plan_of_run, IsOwnRun}
-use Rattle.stab_edits.specs.Cursors.{HasDistinctQubits}
+use Rattle.stab_items.specs.Cursors.{HasDistinctQubits}
 use Rattle.stab_recording.specs.inner.Runs.{MayRunAll, MayRunBlock}
 use Rattle.stab_recording.proofs.ProgressLemmas.{runnable-named, steps-named}
 use Rattle.stab_recording.proofs.ReplayLemmas.{with-saved}
@@ -36,8 +36,6 @@ module _ (n : ℕ) (coins : ℕ → Bool) (ys : List Step) where
     order = omega arith;
     within = omega arith;
     ascending = at.within;
-    base = omega arith;
-    same = refl;
     missed = own.missed;
   }
 
@@ -66,8 +64,6 @@ module _ (n : ℕ) (coins : ℕ → Bool) (ys : List Step) where
         order = own.order;
         within = own.within;
         ascending = own.ascending;
-        base = own.base;
-        same = own.same;
         missed = own.missed;
       })
 

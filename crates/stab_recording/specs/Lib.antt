@@ -9,7 +9,7 @@ pub mod RecordedSteps
 pub mod RunsWithPivots
 pub mod PivotLists
 pub mod RestFrames
-pub mod PropagatedReplays
+pub mod OldRuns
 pub mod Replays
 pub mod FollowedRuns
 pub mod Stops

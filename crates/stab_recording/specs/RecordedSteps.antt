@@ -2,7 +2,7 @@
 -- Source: this project's own.
 use Rattle.std.specs.Prelude.{◌≡◌, ℕ, ◌+◌, ◌≤◌, Bool, length, take, drop}
 use Rattle.stab_pauli.specs.Paulis.{Signed}
-use Rattle.stab_edits.specs.Cursors.{CursorState}
+use Rattle.stab_items.specs.Cursors.{CursorState}
 use Rattle.stab_run.specs.Records.{ones}
 use Rattle.stab_run.specs.ProgramStates.{ProgramState}
 use Rattle.stab_frames.specs.declared.pivot_recorder.PivotRecorder.{PivotRecorder}

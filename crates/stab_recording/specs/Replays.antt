@@ -6,14 +6,8 @@ use Rattle.stab_recording.specs.declared.checkpoint.Checkpoint.{Checkpoint}
 use Rattle.stab_recording.specs.declared.replay.Replay.{Replay}
 use Rattle.stab_recording.specs.declared.replay.Plan.{Plan}
 use Rattle.stab_recording.specs.declared.replay.End.{End}
-use Rattle.stab_recording.specs.declared.replay.End.TheVariants.{Last, Joined, Propagated}
-use Rattle.stab_recording.specs.declared.rest_frame.RestFrame.{RestFrame}
-use Rattle.stab_run.specs.Records.{ones}
+use Rattle.stab_recording.specs.declared.replay.End.TheVariants.{Last, Joined}
 use Rattle.stab_run.specs.Points.{RunOutput, origin, point_after, outputs}
-use Rattle.stab_frames.specs.Pivots.{PivotsState}
-use Rattle.stab_frames.specs.Propagations.{PropagationState}
-use Rattle.stab_recording.specs.RestFrames.{IsRestFrame}
-use Rattle.stab_recording.specs.FramesFrom.{IsFrameFrom}
 use Rattle.stab_run.specs.Laws.{AgreeAt}
 use Rattle.stab_run.specs.ProgramStates.{program_state, output_of}
 use Rattle.stab_recording.specs.Spacing.{Near, last_of}
@@ -72,29 +66,10 @@ checkpoint_of r = record { step = r.step; lengths = lengths_of (output_of r.outp
 abbrev pub MeetsAt : ℕ → Plan → Replay → (records free : List Bool) → Checkpoint → Type 0
 MeetsAt n p r records free c = (step_among_new p c ≡ r.step) × Meets n p.window r.tableau (output_of r.outputs) records free c
 
--- at the place of an old checkpoint, after what was changed, a replay differs from an old run with this output by a frame, and the coins of that
--- run serve it from there on
-pub record BeginsAt (p : Plan) (r : Replay) (o : RunOutput) (w : PropagationState) (c : Checkpoint) : Type 0 where
-  pub following : p.old_end ≤ c.step
-  pub place : step_among_new p c ≡ r.step
-  pub coin : (length r.outputs.free.items ≡ c.lengths.free) ⊎ (ones (drop c.lengths.free o.free) ≡ 0)
-  pub within : p.base ≤ length r.outputs.records.items
-  pub same : take p.base r.outputs.records.items ≡ take p.base o.records
-  pub frame : IsFrameFrom r.tableau (output_of r.outputs) o p.base p.window c w
-
--- such a frame propagated from there over the rest of the old run, past the checkpoints from that one on
-pub record IsPropagated (p : Plan) (r : Replay) (checkpoints : List Checkpoint) (o : RunOutput) (s : PivotsState) (f : RestFrame) (c : Checkpoint) : Type 0 where
-  pub start : PropagationState
-  pub begins : BeginsAt p r o start c
-  pub compared : f.compared ≡ length start.flips.records
-  pub size : length f.propagation.letters ≡ r.tableau.qubits
-  pub advanced : IsRestFrame r.tableau.qubits s.strings o.free p.window (drop r.step r.cursor.all) c.step (drop f.number checkpoints) f.conjugated.items start f.propagation
-
--- how a replay ended: after the last step, or at the place of an old checkpoint that it meets, or from which a frame propagated on
-abbrev pub IsEnd : ℕ → Plan → Replay → List Checkpoint → RunOutput → PivotsState → End → Type 0
-IsEnd n p r checkpoints o s Last = r.step ≡ p.total
-IsEnd n p r checkpoints o s (Joined j) = (p.next ≤ j) × IsSomeAnd (slice_get checkpoints j) (MeetsAt n p r o.records o.free)
-IsEnd n p r checkpoints o s (Propagated f) = (p.next ≤ f.number) × IsSomeAnd (slice_get checkpoints f.number) (IsPropagated p r checkpoints o s f)
+-- how a replay ended: after the last step, or at the place of an old checkpoint that it meets
+abbrev pub IsEnd : ℕ → Plan → Replay → List Checkpoint → RunOutput → End → Type 0
+IsEnd n p r checkpoints o Last = r.step ≡ p.total
+IsEnd n p r checkpoints o (Joined j) = (p.next ≤ j) × IsSomeAnd (slice_get checkpoints j) (MeetsAt n p r o.records o.free)
 
 -- no old run with these records agrees with the new one at a checkpoint
 abbrev pub Misses : ℕ → (ℕ → Bool) → Plan → List Step → List Bool → Checkpoint → Type 0
@@ -116,8 +91,6 @@ pub record IsAtStop (n : ℕ) (coins : ℕ → Bool) (begin : ℕ) (p : Plan) (y
   pub order : p.next ≤ next
   pub within : next ≤ length checkpoints
   pub ascending : Ascending p r.step (drop next checkpoints)
-  pub base : p.base ≤ length r.outputs.records.items
-  pub same : take p.base r.outputs.records.items ≡ take p.base old
   pub missed : (number : ℕ) → p.next ≤ number → number < next → IfSome (slice_get checkpoints number) (Misses n coins p ys old)
 
 -- and about to go on from there, with the last checkpoint saved there

@@ -1,9 +1,9 @@
 ghost use Rattle.std.specs.Prelude.{◌≡◌, ℕ, ◌+◌, ◌*◌, ◌<◌, ◌≤◌, List, IfSome};
 ghost use Rattle.stab_items.specs.Steps.{Step};
-ghost use Rattle.stab_edits.specs.Repeats.{AreRepeats, IsRepeat};
+ghost use Rattle.stab_items.specs.Repeats.{AreRepeats, IsRepeat};
 
 use crate::replay::{Plan, Replay};
-use stab_edits::Repeat;
+use stab_items::Repeat;
 
 /// How many checkpoints the rounds of one period have at most.
 const MOST_CHECKPOINTS: usize = 32;

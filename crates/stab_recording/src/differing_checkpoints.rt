@@ -1,15 +1,14 @@
 ghost use Rattle.std.specs.Prelude.{◌≡◌, ◌↔◌, ℕ, ◌-◌, ◌<◌, ◌≤◌, Bool, true, IsTrue, IfSome, IsSomeAnd, length, slice_get};
 ghost use Rattle.stab_items.specs.Steps.{most_steps};
 ghost use Rattle.stab_run.specs.ProgramStates.{output_of};
-ghost use Rattle.stab_frames.specs.Pivots.{PivotsState};
 ghost use Rattle.stab_recording.specs.Replays.{Misses};
 ghost use Rattle.stab_recording.specs.inner.RestFrameStates.{IsBeside, HasOtherCoins};
 
 use crate::checkpoint::{Checkpoint, shifted};
 use crate::checkpoint_places::{block_at, end_of};
 use crate::replay::{Plan, Replay};
-use stab_edits::Repeat;
 use stab_frames::between;
+use stab_items::Repeat;
 use stab_run::Outputs;
 
 /// How many periods of a block have to be left so that folding its rounds takes less time than a frame of many letters over them.
@@ -95,7 +94,7 @@ impl<'a> Replay<'a> {
         requires stride { 1 ≤ plan.stride }
         ensures order { next ≤ result }
         ensures within { result ≤ length checkpoints.now }
-        ensures missed { (coins : ℕ → Bool) (s : PivotsState) → IsBeside self.now.tableau.qubits coins plan self.now.cursor.all checkpoints.now (output_of old.now) s self.now → length self.now.cursor.all ≤ most_steps → (number : ℕ) → next ≤ number → number < result → IfSome (slice_get checkpoints.now number) (Misses self.now.tableau.qubits coins plan self.now.cursor.all old.now.records.items) }
+        ensures missed { (coins : ℕ → Bool) → IsBeside self.now.tableau.qubits coins plan self.now.cursor.all checkpoints.now (output_of old.now) self.now → length self.now.cursor.all ≤ most_steps → (number : ℕ) → next ≤ number → number < result → IfSome (slice_get checkpoints.now number) (Misses self.now.tableau.qubits coins plan self.now.cursor.all old.now.records.items) }
     {
         let Some(end) = self.end_of_many(repeats, plan) else {
             return next;

@@ -1,7 +1,7 @@
 //! Recorded runs: checkpoints on the way, rounds that are repeated, and frames over what is left of a run.
 //!
-//! In the order in which data flows; each module uses only those before it, except that `rest_frame`, `differing_checkpoints`,
-//! `new_checkpoints`, `checkpoint_places`, `recurrence`, `loop_folding` and `runs` add calls to the replay of `replay`:
+//! In the order in which data flows; each module uses only those before it, except that `differing_checkpoints`, `new_checkpoints`,
+//! `checkpoint_places`, `recurrence`, `loop_folding` and `runs` add calls to the replay of `replay`:
 //!
 //! - `recorded_steps`: steps that a run carries out, with pivots of its random outcomes.
 //! - `propagate`: steps on the way of a frame, until all are past, the frame is gone, or a pivot is missing.
@@ -13,15 +13,15 @@
 //! - `propagated_output`: what a run gave, repeated as a frame changes it.
 //! - `states`, `rest_of_run`: states that a frame changes, and a frame over the rest of a run.
 //! - `old_run`: what is kept of the run before an edit.
-//! - `rest_frame`, `differing_checkpoints`, `new_checkpoints`, `checkpoint_places`, `recurrence`, `loop_folding`, `replay`: a run from a
-//!   checkpoint on, up to a checkpoint of an older run at which they agree, or from which a frame goes on; where its checkpoints are; and
-//!   loop folding: rounds of a block that come again in it, exactly or up to a frame.
+//! - `differing_checkpoints`, `new_checkpoints`, `checkpoint_places`, `recurrence`, `loop_folding`, `replay`: a run from a checkpoint on,
+//!   up to a checkpoint of an older run at which they agree; where its checkpoints are; and loop folding: rounds of a block that come
+//!   again in it, exactly or up to a frame.
 //! - `round_grouping`, `runs`: which rounds of blocks are looked at; runs, which are replays of all steps with no older run.
 //! - `whole_run`, `with_pivots`, `sampler`: what a run gives; the same with a pivot for each random outcome; one circuit made ready for
 //!   many runs.
 //!
 //! Coins, one step and the laws of runs are `stab_run`'s, frames `stab_frames`'. What is recorded of a circuit, and how it follows
-//! an edit, is `stab_splices`'.
+//! an edit, is `stab_session`'.
 //!
 //! Sources: Stim's circuit file format, for what the steps of a circuit do to records, detectors and observables;
 //! D. Gottesman, Stabilizer codes and quantum error correction (1997), and S. Aaronson and D. Gottesman, Improved
@@ -53,7 +53,6 @@ mod recorded_steps;
 mod recurrence;
 mod repeated_output;
 mod replay;
-mod rest_frame;
 mod rest_of_run;
 mod round_grouping;
 mod runs;
@@ -63,7 +62,6 @@ mod whole_run;
 mod with_pivots;
 
 pub use checkpoint::{Checkpoint, Meeting, count_before, save_all, shifted, take_moved};
-pub use frames_between::frame_between;
 pub use meeting::{are_fixed, comes_again, has_one, may_have_coin, meets};
 pub use old_run::OldRun;
 pub use other_coins::propagate_with_coins;
@@ -72,7 +70,6 @@ pub use propagated_output::{append_propagated, lengths_propagated, repeat_pivots
 pub use recorded_steps::run_recording_pivots;
 pub use repeated_output::{part_between, repeat_outputs};
 pub use replay::{End, Plan, Replay};
-pub use rest_frame::RestFrame;
 pub use rest_of_run::propagate_rest;
 pub use round_grouping::{MOST_SINGLE, is_long, taken_together};
 pub use sampler::{Sampler, run_once};

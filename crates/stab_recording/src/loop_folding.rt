@@ -5,9 +5,9 @@ ghost use Rattle.std.specs.Prelude.{◌≡◌, ℕ, ◌+◌, ◌-◌, ◌*◌, �
 ghost use Rattle.std.specs.Option.{option_map};
 ghost use Rattle.stab_io.specs.declared.refusal.Refusal.TheVariants.{OutOfMemory};
 ghost use Rattle.stab_items.specs.Steps.{most_steps};
-ghost use Rattle.stab_edits.specs.Views.{circuit_items};
-ghost use Rattle.stab_edits.specs.Repeats.{AreRepeats};
-ghost use Rattle.stab_edits.specs.declared.circuit.repeats.Repeat.{Repeat};
+ghost use Rattle.stab_items.specs.Views.{circuit_items};
+ghost use Rattle.stab_items.specs.Repeats.{AreRepeats};
+ghost use Rattle.stab_items.specs.declared.circuit.repeats.Repeat.{Repeat};
 ghost use Rattle.stab_recording.specs.declared.checkpoint.Checkpoint.{Checkpoint};
 ghost use Rattle.stab_run.specs.Records.{ones};
 ghost use Rattle.stab_recording.specs.declared.replay.Plan.{Plan};
@@ -26,9 +26,9 @@ use crate::recurrence::Recurrence;
 use crate::repeated_output::{part_between, repeat_outputs};
 use crate::replay::{Plan, Replay};
 use crate::states::propagated_checkpoint;
-use stab_edits::{Circuit, Cursor, Repeat};
 use stab_frames::{Propagation, between, count_ones};
 use stab_io::Refusal;
+use stab_items::{Circuit, Cursor, Repeat};
 use stab_run::{Coins, Lengths};
 use std::alloc::Global;
 

@@ -1,7 +1,6 @@
 //! The run before an edit, which a replay of the edited circuit follows.
 
 use crate::checkpoint::Checkpoint;
-use stab_frames::Pivots;
 use stab_run::Outputs;
 
 /// What is kept of the run of the circuit as it was before an edit.
@@ -9,6 +8,4 @@ use stab_run::Outputs;
 pub struct OldRun<'a> {
     pub checkpoints: &'a [Checkpoint],
     pub outputs: &'a Outputs,
-    /// The pivots of its random outcomes.
-    pub pivots: &'a Pivots,
 }

@@ -10,8 +10,8 @@ ghost use Rattle.stab_frames.specs.OtherCoins.{coins_from, PropagatesToOthers};
 ghost use Rattle.stab_frames.specs.inner.Draws.{outcome_of, differing};
 
 use crate::propagate::propagate;
-use stab_edits::Cursor;
 use stab_frames::{Draw, Known, Pivots, Propagation, bit_at};
+use stab_items::Cursor;
 use stab_run::Coins;
 use std::alloc::AllocError;
 

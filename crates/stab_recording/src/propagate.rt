@@ -11,8 +11,8 @@ ghost use Rattle.stab_recording.specs.declared.propagate.Stop.TheVariants.{Gone}
 ghost use Rattle.stab_frames.specs.inner.Draws.{AsksFree};
 ghost use Rattle.stab_frames.specs.inner.Propagates.{GoesOver};
 
-use stab_edits::Cursor;
 use stab_frames::{Draw, Known, Pivots, Propagation, SameCoins, propagate_instruction};
+use stab_items::Cursor;
 use stab_run::{Coins, ListCoins};
 use std::alloc::AllocError;
 

@@ -6,9 +6,9 @@ ghost use Rattle.stab_run.specs.Points.{all_coins_of};
 ghost use Rattle.stab_run.specs.ProgramStates.{StepFits, program_state, output_of};
 ghost use Rattle.stab_recording.specs.RecordedSteps.{AreOnQubits, HasRecorded, KeepsRecorded};
 
-use stab_edits::Cursor;
 use stab_frames::PivotRecorder;
 use stab_io::Refusal;
+use stab_items::Cursor;
 use stab_pauli::Pauli;
 use stab_run::{Coins, Outputs};
 use stab_tableau::Tableau;

@@ -9,9 +9,9 @@ use crate::checkpoint::Checkpoint;
 use crate::frames_between::frame_between;
 use crate::meeting::comes_again;
 use crate::replay::Replay;
-use stab_edits::Repeat;
 use stab_frames::Propagation;
 use stab_io::Refusal;
+use stab_items::Repeat;
 use stab_pauli::Pauli;
 use std::alloc::Global;
 

@@ -1,26 +1,24 @@
 ghost use Rattle.std.specs.Prelude.{◌≡◌, ℕ, ◌+◌, ◌-◌, ◌*◌, ◌<◌, ◌≤◌, ◌^◌, None, All, OnOk, IfOk, IfErr, length, drop};
 ghost use Rattle.stab_io.specs.declared.refusal.Refusal.TheVariants.{OutOfMemory};
 ghost use Rattle.stab_items.specs.Steps.{most_steps};
-ghost use Rattle.stab_edits.specs.Views.{circuit_items};
-ghost use Rattle.stab_edits.specs.Repeats.{AreRepeats};
+ghost use Rattle.stab_items.specs.Views.{circuit_items};
+ghost use Rattle.stab_items.specs.Repeats.{AreRepeats};
 ghost use Rattle.stab_run.specs.Records.{ones};
 ghost use Rattle.stab_run.specs.Points.{all_coins_of};
 ghost use Rattle.stab_run.specs.ProgramStates.{StepFits, output_of};
 ghost use Rattle.stab_recording.specs.Replays.{IsAtStep, IsReplay, Ascending, spacing_of, IsAtStop, IsOnWay, StopsAt};
-ghost use Rattle.stab_frames.specs.Pivots.{PivotsState};
 ghost use Rattle.stab_recording.specs.inner.Arrivals.{IsArrival};
 ghost use Rattle.stab_recording.specs.inner.Progress.{HasCarriedOut, IsFurther};
-ghost use Rattle.stab_recording.specs.PropagatedReplays.{IsOldRun};
+ghost use Rattle.stab_recording.specs.OldRuns.{IsOldRun};
 ghost use Rattle.stab_recording.specs.FollowedRuns.{Costs, HasEnded, HasSteps, IsFollowed, IsNew, IsPlanned};
 
 use crate::checkpoint::{Checkpoint, shifted};
 use crate::meeting::meets;
 use crate::old_run::OldRun;
 use crate::recorded_steps::run_recording_pivots;
-use crate::rest_frame::RestFrame;
-use stab_edits::{Circuit, Cursor, Repeat};
-use stab_frames::{PivotRecorder, Pivots};
+use stab_frames::PivotRecorder;
 use stab_io::Refusal;
+use stab_items::{Circuit, Cursor, Repeat};
 use stab_pauli::Pauli;
 use stab_run::{Coins, Outputs};
 use stab_tableau::Tableau;
@@ -57,21 +55,17 @@ pub struct Plan {
     pub new_end: usize,
     /// The first old checkpoint that may be met.
     pub next: usize,
-    /// This many records are those of the old run.
-    pub base: usize,
     /// The old steps look back to no more records than this many.
     pub window: u32,
 }
 
 /// How a replay ended.
-#[derive(Drop)]
+#[derive(Clone, Copy)]
 pub enum End {
     /// After the last step.
     Last,
     /// At the old checkpoint with this number, from which on the old run went on as the new one would.
     Joined(usize),
-    /// At the old checkpoint where a frame begins that was propagated over the rest of the old run.
-    Propagated(RestFrame),
 }
 
 /// What a replay finds at the step where it stops.
@@ -107,17 +101,6 @@ impl Plan {
         ensures within { result ≤ self.stride }
     {
         self.stride - self.stride / 4
-    }
-
-    /// Whether blocks come after what was changed in which a state may come again.
-    fn has_rounds_ahead(self, repeats: &[Repeat]) -> bool {
-        for repeat in repeats {
-            let steps = repeat.rounds.saturating_mul(repeat.length);
-            if steps >= self.stride && repeat.first.saturating_add(steps) > self.new_end {
-                return true;
-            }
-        }
-        false
     }
 
     /// Where a replay that is at a step stops next, before the place of an old checkpoint or at it.
@@ -235,7 +218,7 @@ impl<'a> Replay<'a> {
         next: usize,
         coins: &mut C,
     ) -> Result<usize, Refusal>
-        requires old { (s : PivotsState) × IsOldRun self.old.tableau.qubits (C.sequence coins.old) plan self.old.cursor.all old.now.checkpoints.now (output_of old.now.outputs.now) s }
+        requires old { IsOldRun self.old.tableau.qubits (C.sequence coins.old) plan self.old.cursor.all old.now.checkpoints.now (output_of old.now.outputs.now) }
         requires planned { IsPlanned self.old.tableau.qubits plan self.old.cursor.all }
         requires few_applied { (self.old.applied + self.old.by_frame) ≤ self.old.step }
         requires at_step { IsAtStep self.old.tableau.qubits (C.sequence coins.old) self.old.cursor.all self.old }
@@ -256,10 +239,8 @@ impl<'a> Replay<'a> {
         Ok(next)
     }
 
-    /// Carries out steps until the replay meets an old checkpoint, or a frame is propagated from one over the rest of the old run,
-    /// or no step is left. Keeps checkpoints on the way: at most one for each spacing and one for each old checkpoint that it
-    /// passes. Repeats rounds of blocks whose state comes again. The steps of a frame that could not be propagated to the end are
-    /// counted.
+    /// Carries out steps until the replay meets an old checkpoint, or no step is left. Keeps checkpoints on the way, and repeats
+    /// rounds of blocks whose state comes again.
     pub fn follow<C: Coins>(
         &mut self,
         alloc: Global,
@@ -268,15 +249,12 @@ impl<'a> Replay<'a> {
         old: &OldRun<'_>,
         plan: Plan,
         coins: &mut C,
-        tried: &mut u64,
     ) -> Result<End, Refusal>
         requires begun { IsNew (C.sequence coins.old) plan.stride self.old }
         requires planned { IsPlanned self.old.tableau.qubits plan self.old.cursor.all }
         requires circuit { HasSteps (circuit_items circuit.now) self.old.cursor.all }
         requires repeats { AreRepeats 0 self.old.cursor.all repeats.now }
         requires followed { IsFollowed (C.sequence coins.old) plan old.now self.old }
-        requires few_tried { tried.old ≤ 2 * most_steps }
-        ensures tried { OnOk result (tried.new ≤ tried.old + (plan.total - plan.new_end)) }
         ensures same_coins { C.sequence coins.new ≡ C.sequence coins.old }
         ensures replay { OnOk result (IsReplay self.old.tableau.qubits (C.sequence coins.old) plan.stride self.old.step self.old.cursor.all self.new) }
         ensures costs { OnOk result (Costs (C.asks coins.old) (C.asks coins.new) self.old self.new) }
@@ -290,28 +268,12 @@ impl<'a> Replay<'a> {
         let mut determining = 0;
         // What checkpoints are expanded into, so that memory for it is asked for once at most.
         let mut spare: Option<Tableau> = None;
-        // Whether frames are propagated, which is so until a pivot is missing for one. Where rounds lie ahead a state comes again
-        // in less time.
-        let mut frame_is_tried = !plan.has_rounds_ahead(repeats);
         'following: loop {
             let reached = self.advance(alloc, repeats, old, plan, next, coins)?;
             match self.arrive(alloc, old, plan, reached, &mut spare, &mut determining)? {
                 Arrival::Met => return Ok(End::Joined(reached)),
                 Arrival::After => return Ok(End::Last),
                 Arrival::Between(later) => next = later,
-            }
-            let by_frame = self.frame_rest(
-                alloc,
-                circuit,
-                old,
-                plan,
-                reached,
-                &mut spare,
-                &mut frame_is_tried,
-                tried,
-            )?;
-            if let Some(by_frame) = by_frame {
-                return Ok(End::Propagated(by_frame));
             }
             self.save(alloc)?;
             let place = plan.place(old.checkpoints, next);

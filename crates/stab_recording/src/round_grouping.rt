@@ -2,9 +2,9 @@
 
 ghost use Rattle.std.specs.Prelude.{◌≡◌, ◌+◌, ◌*◌, ◌<◌, ◌≤◌, ◌^◌, nat_le, List};
 ghost use Rattle.stab_items.specs.Steps.{Step};
-ghost use Rattle.stab_edits.specs.Repeats.{IsRepeat};
+ghost use Rattle.stab_items.specs.Repeats.{IsRepeat};
 
-use stab_edits::Repeat;
+use stab_items::Repeat;
 
 /// How many rounds of a block are compared one by one; the others are handled as a whole.
 pub const MOST_SINGLE: usize = 64;

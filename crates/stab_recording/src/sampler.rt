@@ -1,7 +1,7 @@
 ghost use Rattle.std.specs.Prelude.{◌≡◌, ◌+◌, ◌≤◌, IfOk};
 ghost use Rattle.stab_gates.specs.Limits.{most_qubits};
 ghost use Rattle.stab_items.specs.Steps.{unroll, check_within};
-ghost use Rattle.stab_edits.specs.Views.{circuit_items};
+ghost use Rattle.stab_items.specs.Views.{circuit_items};
 ghost use Rattle.stab_run.specs.Records.{ones};
 ghost use Rattle.stab_io.specs.Refusals.{Refuses};
 ghost use Rattle.stab_run.specs.Runs.{run_of};
@@ -9,8 +9,8 @@ ghost use Rattle.stab_run.specs.Points.{all_coins_of};
 ghost use Rattle.stab_run.specs.Laws.{DependsOnCoinsAt};
 
 use crate::whole_run::{Shot, run_whole};
-use stab_edits::{Circuit, Repeat};
 use stab_io::{Fault, Refusal};
+use stab_items::{Circuit, Repeat};
 use stab_rounds::find_rounds;
 use stab_run::Coins;
 use std::alloc::Global;
@@ -44,7 +44,7 @@ impl Drop for Sampler<'_> {
 }
 
 impl<'a> Model for Sampler<'a> {
-    ghost use Rattle.stab_edits.specs.Views.{circuit_items};
+    ghost use Rattle.stab_items.specs.Views.{circuit_items};
     ghost use Rattle.stab_recording.specs.Samplers.{SamplerState};
     ghost use Rattle.stab_recording.specs.inner.ReadySamplers.{IsReady, sampler_code};
 
@@ -62,7 +62,7 @@ impl<'a> Sampler<'a> {
     ghost use Rattle.stab_io.specs.declared.refusal.Refusal.TheVariants.{OutOfMemory};
     ghost use Rattle.stab_gates.specs.Limits.{most_qubits};
     ghost use Rattle.stab_items.specs.Steps.{unroll, check_within};
-    ghost use Rattle.stab_edits.specs.Views.{circuit_items};
+    ghost use Rattle.stab_items.specs.Views.{circuit_items};
     ghost use Rattle.stab_run.specs.Records.{ones};
     ghost use Rattle.stab_io.specs.Refusals.{Refuses};
     ghost use Rattle.stab_run.specs.Runs.{run_of};

@@ -4,8 +4,8 @@ ghost use Rattle.std.specs.Prelude.{◌≡◌, ◌+◌, ◌≤◌, false, length
 ghost use Rattle.stab_io.specs.declared.refusal.Refusal.TheVariants.{OutOfMemory};
 ghost use Rattle.stab_gates.specs.Limits.{most_qubits};
 ghost use Rattle.stab_items.specs.Steps.{unroll, check_within};
-ghost use Rattle.stab_edits.specs.Views.{circuit_items};
-ghost use Rattle.stab_edits.specs.Repeats.{AreRepeats};
+ghost use Rattle.stab_items.specs.Views.{circuit_items};
+ghost use Rattle.stab_items.specs.Repeats.{AreRepeats};
 ghost use Rattle.stab_run.specs.Records.{ones};
 ghost use Rattle.stab_run.specs.Runs.{run, start};
 ghost use Rattle.stab_run.specs.Points.{all_coins_of, with_additions};
@@ -13,8 +13,8 @@ ghost use Rattle.stab_recording.specs.inner.Shots.{IsShotOf};
 
 use crate::replay::Replay;
 use crate::runs::pivots_of_frames;
-use stab_edits::{Circuit, Repeat};
 use stab_io::Refusal;
+use stab_items::{Circuit, Repeat};
 use stab_run::{Coins, Outputs, observables as summed};
 use std::alloc::{AllocError, Global};
 

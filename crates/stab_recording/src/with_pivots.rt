@@ -4,14 +4,14 @@ ghost use Rattle.std.specs.Prelude.{◌≡◌, ◌≤◌, None, IfOk, IfErr};
 ghost use Rattle.stab_io.specs.declared.refusal.Refusal.TheVariants.{OutOfMemory};
 ghost use Rattle.stab_gates.specs.Limits.{most_qubits};
 ghost use Rattle.stab_items.specs.Steps.{check_within};
-ghost use Rattle.stab_edits.specs.Views.{circuit_items};
+ghost use Rattle.stab_items.specs.Views.{circuit_items};
 ghost use Rattle.stab_recording.specs.RunsWithPivots.{IsRunWithPivots};
 
 use crate::replay::Replay;
 use crate::whole_run::{Shot, shot_of};
-use stab_edits::Circuit;
 use stab_frames::{PivotRecorder, Pivots};
 use stab_io::Refusal;
+use stab_items::Circuit;
 use stab_rounds::find_rounds;
 use stab_run::Coins;
 use std::alloc::Global;

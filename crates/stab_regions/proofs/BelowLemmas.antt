@@ -1,8 +1,8 @@
 -- Observables that steps name: those of a circuit's items are among this many.
 use Rattle.stab_regions.proofs.Names.{ℕ, zero, suc, ◌≤◌, false, true, List, [], ◌∷◌, map, get_or, arith, All, All-nil, All-cons, All-append, All-map, Axis, ControlledPair, Kind, Items, done, next, block, letter_of, Step, one, two, collapse, detector, observable, measured, controlled_step, steps_of, rounds, unroll, past, named_observables, observables_of, max-left, max-right, NamesBelow}
 use Rattle.stab_gates.specs.declared.gate.PairGate.TheVariants as gate
-use Rattle.stab_lines.specs.declared.control.ControlledPair.TheVariants as pair
-use Rattle.stab_lines.specs.declared.operation.Kind.TheVariants as kind
+use Rattle.stab_instructions.specs.declared.control.ControlledPair.TheVariants as pair
+use Rattle.stab_instructions.specs.declared.operation.Kind.TheVariants as kind
 use Rattle.stab_items.specs.Steps.{measured_product}
 
 each : {A : Type 0} (m : ℕ) (f : A → Step) → ((x : A) → NamesBelow m (f x)) → (xs : List A) → All (NamesBelow m) (map f xs)

@@ -13,13 +13,13 @@ pub use Rattle.std.proofs.lemmas.List.Elements.{All-nil, All-cons, All-append, A
 pub use Rattle.std.specs.List.{flat_map, list_any, range_with_len}
 pub use Rattle.std.specs.Prelude.{Option, Some, ◌==◌, if◌then◌else◌, All, nat_lt, slice_index_or, replicate, Result, Ok, Err, OnOk, slice_set, None, slice_index}
 pub use Rattle.std.specs.Vec.{with_items}
-pub use Rattle.stab_edits.specs.Cursors.{HasDistinctQubits, step_shown}
+pub use Rattle.stab_items.specs.Cursors.{HasDistinctQubits, step_shown}
 pub use Rattle.stab_items.specs.Items.{Items, done, next, block}
 pub use Rattle.stab_items.specs.Steps.{Step, one, two, collapse, detector, observable, measured, product as measured_product, controlled_step, steps_of, rounds, unroll, past, named_observables, observables_of, detectors_of, controlled, product, is_detector, factor_qubits, check_of}
-pub use Rattle.stab_edits.specs.Views.{circuit_items}
-pub use Rattle.stab_distance.proofs.AscendingLemmas.{named-ascending}
-pub use Rattle.stab_distance.proofs.Totals.{odd-append}
-pub use Rattle.stab_distance.specs.Ascending.{AscendsFrom, IsAscending}
+pub use Rattle.stab_items.specs.Views.{circuit_items}
+pub use Rattle.stab_search.proofs.AscendingLemmas.{named-ascending}
+pub use Rattle.stab_search.proofs.Totals.{odd-append}
+pub use Rattle.stab_search.specs.Ascending.{AscendsFrom, IsAscending}
 pub use Rattle.stab_frames.proofs.ImageLemmas.{first_by, second_by, first_controlled, second_controlled}
 pub use Rattle.stab_frames.proofs.SignLemmas.{sign-sign, product-sign_right, product-sign_left, back-letter}
 pub use Rattle.stab_frames.specs.Images.{has_both, exchanges, controlled_letter}
@@ -29,12 +29,12 @@ pub use Rattle.stab_gates.specs.declared.gate.Gate.{Gate}
 pub use Rattle.stab_gates.specs.declared.gate.PairGate.{PairGate}
 pub use Rattle.stab_gates.specs.declared.letter.Letter.{Letter}
 pub use Rattle.stab_gates.specs.declared.letter.Letter.TheVariants.{I, X, Y, Z}
-pub use Rattle.stab_lines.specs.Axes.{letter_of}
-pub use Rattle.stab_lines.specs.Products.{is_on, names_twice}
-pub use Rattle.stab_lines.specs.declared.axis.Axis.{Axis}
-pub use Rattle.stab_lines.specs.declared.control.ControlledPair.{ControlledPair}
-pub use Rattle.stab_lines.specs.declared.operation.Kind.{Kind}
-pub use Rattle.stab_lines.specs.declared.product.Factor.{Factor}
+pub use Rattle.stab_instructions.specs.Axes.{letter_of}
+pub use Rattle.stab_instructions.specs.Products.{is_on, names_twice}
+pub use Rattle.stab_instructions.specs.declared.axis.Axis.{Axis}
+pub use Rattle.stab_instructions.specs.declared.control.ControlledPair.{ControlledPair}
+pub use Rattle.stab_instructions.specs.declared.operation.Kind.{Kind}
+pub use Rattle.stab_instructions.specs.declared.product.Factor.{Factor}
 pub use Rattle.stab_pauli.proofs.SignedLemmas.{signed_path, anticommute-product, anticommute-comm, length-product, product-self}
 pub use Rattle.stab_pauli.proofs.StringLemmas.{strings_anticommute-blank_right, string_product-assoc, string_product-blank, strings_anticommute-product, strings_anticommute-blank, get_or-string_product, strings_anticommute-self}
 pub use Rattle.stab_pauli.specs.Paulis.{single, anticommute, Signed, strings_anticommute, string_product, minus, with_sign, product as times, identity}

@@ -7,7 +7,7 @@ use Rattle.stab_gates.specs.Letters.{◌⊕◌, letters_anticommute}
 use Rattle.stab_pauli.specs.Paulis.{Signed, single}
 use Rattle.stab_tableau.specs.Gates.{letter_at}
 use Rattle.stab_items.specs.Steps.{Step}
-pub use Rattle.stab_distance.specs.Tables.{odd, row}
+pub use Rattle.stab_search.specs.Tables.{odd, row}
 use Rattle.stab_regions.specs.Regions.{Region, times_where, region_before}
 
 -- in one row these numbers are named once more, and the other rows stay

@@ -3,7 +3,7 @@ ghost use Rattle.stab_io.specs.Refusals.{Refuses};
 ghost use Rattle.stab_io.specs.declared.refusal.Refusal.TheVariants.{OutOfMemory};
 ghost use Rattle.stab_gates.specs.Limits.{most_qubits};
 ghost use Rattle.stab_items.specs.Steps.{Step, check_within};
-ghost use Rattle.stab_edits.specs.Views.{circuit_items};
+ghost use Rattle.stab_items.specs.Views.{circuit_items};
 ghost use Rattle.stab_regions.specs.Faults.{AreDeterministic, IsFaultTable, RowsAdd, sites_at};
 ghost use Rattle.stab_regions.specs.inner.Sites.{sites_asked};
 
@@ -11,8 +11,8 @@ use crate::fault_laws::{deterministic_parities, faults_add, faults_flip_parities
 use crate::fault_rows::FaultRows;
 use crate::sites::Asked;
 use crate::sweep::{Sweep, sweep_back};
-use stab_edits::Circuit;
 use stab_io::{Fault, Refusal};
+use stab_items::Circuit;
 use std::alloc::Global;
 use std::marker::Model;
 

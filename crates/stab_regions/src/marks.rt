@@ -1,5 +1,5 @@
 ghost use Rattle.std.specs.Prelude.{◌≡◌, ℕ, Bool, false, not, ◌<◌, ◌||◌, nat_eq, length, slice_index_or};
-ghost use Rattle.stab_distance.specs.Ascending.{IsAscending};
+ghost use Rattle.stab_search.specs.Ascending.{IsAscending};
 ghost use Rattle.stab_regions.specs.Rows.{odd};
 
 /// Makes a bit 1; a place past the end has none.

@@ -1,6 +1,6 @@
 ghost use Rattle.std.specs.Prelude.{◌≡◌, ℕ, Bool, false, ◌<◌, All, length, IfOk, OnOk};
 ghost use Rattle.stab_pauli.specs.Paulis.{Signed, anticommute};
-ghost use Rattle.stab_lines.specs.Products.{names_twice};
+ghost use Rattle.stab_instructions.specs.Products.{names_twice};
 ghost use Rattle.stab_items.specs.Steps.{product};
 ghost use Rattle.stab_run.specs.Runs.{string_of};
 ghost use Rattle.stab_regions.specs.Regions.{times_where};
@@ -9,7 +9,7 @@ ghost use Rattle.stab_regions.specs.Rows.{odd, ShowsLetters, MovesLetters, Moves
 use crate::lookbacks::newest;
 use crate::parities::Parities;
 use crate::rows::{flipped, multiply};
-use stab_lines::Factor;
+use stab_instructions::Factor;
 use std::alloc::{AllocError, Global};
 use std::collections::VecDeque;
 

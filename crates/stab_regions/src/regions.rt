@@ -9,8 +9,8 @@ use crate::parities::Parities;
 use crate::products::{before_product, flipped_by_product};
 use crate::rows::flipped;
 use crate::steps::{before_collapse, before_controlled};
+use stab_instructions::Factor;
 use stab_items::Step;
-use stab_lines::Factor;
 use stab_pauli::Letter;
 use stab_tableau::{Gate, PairGate};
 use std::alloc::{AllocError, Global};
@@ -69,9 +69,9 @@ fn mark_all(bits: &mut [bool], rows: &[Parities])
 impl Regions {
     ghost use Rattle.std.specs.Prelude.{◌≡◌, ◌≢◌, ◌+◌, ◌<◌, ◌^◌, Bool, false, [], All, length, IfOk, OnOk};
     ghost use Rattle.stab_gates.specs.declared.letter.Letter.TheVariants.{X, Z};
-    ghost use Rattle.stab_lines.specs.Products.{names_twice};
+    ghost use Rattle.stab_instructions.specs.Products.{names_twice};
     ghost use Rattle.stab_items.specs.Steps.{one, two, controlled, collapse, product, detector, observable};
-    ghost use Rattle.stab_edits.specs.Cursors.{step_shown, HasDistinctQubits};
+    ghost use Rattle.stab_items.specs.Cursors.{step_shown, HasDistinctQubits};
     ghost use Rattle.stab_run.specs.ProgramStates.{StepFits};
     ghost use Rattle.stab_regions.specs.inner.RegionsAt.{IsRegionsAt, IsSized, HasParity, MovesBack, MovesTo, AreFlipped, DetermineDeterministic};
 

@@ -1,5 +1,5 @@
 ghost use Rattle.std.specs.Prelude.{◌≡◌, ◌<◌, length, slice_index};
-ghost use Rattle.stab_edits.specs.Cursors.{step_shown};
+ghost use Rattle.stab_items.specs.Cursors.{step_shown};
 ghost use Rattle.stab_regions.specs.inner.Sites.{sides_asked, marks, all_sides as all_sides_of, step_qubits};
 
 use stab_items::Step;

@@ -2,9 +2,9 @@ ghost use Rattle.std.specs.Prelude.{◌≡◌, ℕ, ◌+◌, ◌-◌, ◌*◌, �
 ghost use Rattle.std.specs.List.{flat_map};
 ghost use Rattle.stab_io.specs.declared.refusal.Refusal.TheVariants.{OutOfMemory};
 ghost use Rattle.stab_gates.specs.Limits.{most_qubits};
-ghost use Rattle.stab_edits.specs.Cursors.{step_shown};
+ghost use Rattle.stab_items.specs.Cursors.{step_shown};
 ghost use Rattle.stab_items.specs.Steps.{Step, unroll, check_of, check_within, observables_of, detectors_of};
-ghost use Rattle.stab_edits.specs.Views.{circuit_items};
+ghost use Rattle.stab_items.specs.Views.{circuit_items};
 ghost use Rattle.stab_run.specs.ProgramStates.{StepFits};
 ghost use Rattle.stab_regions.specs.inner.Sites.{step_qubits, where_asked};
 ghost use Rattle.stab_regions.specs.inner.RegionsAt.{IsRegionsAt};
@@ -14,9 +14,8 @@ ghost use Rattle.stab_regions.specs.inner.Sweeps.{Inserted, inserted_on, inserte
 use crate::fault_rows::FaultRows;
 use crate::regions::Regions;
 use crate::sites::{Asked, Sides, qubit_in, qubits_in, sides_at};
-use stab_edits::{Circuit, Cursor};
 use stab_io::Refusal;
-use stab_items::Step as StepValue;
+use stab_items::{Circuit, Cursor, Step as StepValue};
 use std::alloc::{AllocError, Global};
 
 // Steps are walked backwards in pieces of this many, each of which is unrolled forwards.

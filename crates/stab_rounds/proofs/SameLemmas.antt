@@ -1,6 +1,6 @@
 -- Steps that are compared as the elements that they stand for.
 use Rattle.stab_rounds.proofs.Names.{◌≡◌, ap, ◌∙◌, ℕ, Bool, true, List, length, map, take, drop, OnTrue, pointwise, length-map, take-map, drop-map, Step, Steps, steps_shown, same_mapped}
-pub use Rattle.stab_edits.proofs.SameLemmas.{both_true, same_bool, same_list, determines_qubits, determines_pairs, determines_targets, same_measurement, determines_factors}
+pub use Rattle.stab_items.proofs.SameLemmas.{both_true, same_bool, same_list, determines_qubits, determines_pairs, determines_targets, same_measurement, determines_factors}
 
 -- steps of the same kind with the same list
 pub same_shown : {A K : Type 0} (E : A → A → Bool) (determines : (a b : A) → E a b ≡ true → a ≡ b) (f : K → A → Step) (own k : K) (xs ys : List A) (steps : Steps) (r : Bool)

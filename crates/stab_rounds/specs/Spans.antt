@@ -2,7 +2,7 @@
 -- Source: this project's own.
 use Rattle.std.specs.Prelude.{◌≡◌, ◌≤◌, List, length, take, drop}
 use Rattle.stab_items.specs.Steps.{Step, most_steps}
-use Rattle.stab_edits.specs.declared.edit.Span.{Span}
+use Rattle.stab_items.specs.declared.edit.Span.{Span}
 
 -- two lists of steps are the same before one step, and after another of each
 pub record IsSpan (xs ys : List Step) (s : Span) : Type 0 where

@@ -3,13 +3,12 @@ ghost use Rattle.std.specs.Prelude.{◌≡◌, ℕ, ◌+◌, ◌*◌, ◌<◌, �
 ghost use Rattle.std.specs.Bool.{OnTrue};
 ghost use Rattle.stab_io.specs.declared.refusal.Refusal.TheVariants.{OutOfMemory};
 ghost use Rattle.stab_items.specs.Steps.{unroll, check_of, most_steps, rounds};
-ghost use Rattle.stab_edits.specs.Views.{circuit_items};
-ghost use Rattle.stab_edits.specs.Cursors.{steps_shown};
+ghost use Rattle.stab_items.specs.Views.{circuit_items};
+ghost use Rattle.stab_items.specs.Cursors.{steps_shown};
 
 use crate::same::begin_with;
-use stab_edits::{Circuit, Cursor};
 use stab_io::Refusal;
-use stab_items::Steps;
+use stab_items::{Circuit, Cursor, Steps};
 use std::alloc::Global;
 
 /// Whether the next steps that a cursor has left are these. If so, it is after them then; otherwise its place

@@ -2,13 +2,13 @@
 ghost use Rattle.std.specs.Prelude.{◌≡◌, ◌+◌, ◌*◌, ◌<◌, ◌≤◌, None, List, length, OnOk, IfOk, IfErr, IfSome};
 ghost use Rattle.stab_io.specs.declared.refusal.Refusal.TheVariants.{OutOfMemory};
 ghost use Rattle.stab_items.specs.Steps.{Step, unroll, check_of, most_steps};
-ghost use Rattle.stab_edits.specs.Views.{circuit_items};
-ghost use Rattle.stab_edits.specs.Repeats.{AreRepeats, IsRepeat};
+ghost use Rattle.stab_items.specs.Views.{circuit_items};
+ghost use Rattle.stab_items.specs.Repeats.{AreRepeats, IsRepeat};
 ghost use Rattle.stab_rounds.specs.Spans.{IsSpan, IsEditOf};
 
 use crate::alike::go_alike;
-use stab_edits::{Circuit, Cursor, Repeat, Span};
 use stab_io::Refusal;
+use stab_items::{Circuit, Cursor, Repeat, Span};
 use std::alloc::Global;
 
 /// Between two repeats lie at most this many rounds that are compared with theirs.

@@ -6,14 +6,14 @@
 //! - `search`: where rounds that are written out are.
 //! - `edited`: which rounds an edited circuit has, by those that it had.
 //!
-//! `stab_edits` lists the blocks. Rounds that are written out are looked for only in circuits without
+//! `stab_items` lists the blocks. Rounds that are written out are looked for only in circuits without
 //! blocks, and only as far as looking for them costs little: a search may find none if there
 //! are some, or begin a round or two after the first. What it finds it compares, step by step.
 //!
 //! Source: this project's own.
 //!
 //! Proved: what is found are rounds of the same steps, one after the other (`specs/Repeats.antt` of
-//! `stab_edits`); no step looks further back than is reported.
+//! `stab_items`); no step looks further back than is reported.
 #![tactic(auto)]
 
 mod alike;

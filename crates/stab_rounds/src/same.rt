@@ -2,11 +2,11 @@
 ghost use Rattle.std.specs.Prelude.{◌≡◌, ◌+◌, ◌≤◌, ◌∷◌, [], length, take, drop, map};
 ghost use Rattle.std.specs.Bool.{OnTrue};
 ghost use Rattle.stab_items.specs.Steps.{one, two, collapse, product, observable, controlled_step, measured};
-ghost use Rattle.stab_edits.specs.Cursors.{step_shown, steps_shown, lookbacks_of};
+ghost use Rattle.stab_items.specs.Cursors.{step_shown, steps_shown, lookbacks_of};
 
 use stab_gates::{Gate, Letter, PairGate};
+use stab_instructions::{Axis, ControlledPair, Factor, MeasureTarget, Measurement, Qubit};
 use stab_items::{Detectors, Step, Steps};
-use stab_lines::{Axis, ControlledPair, Factor, MeasureTarget, Measurement, Qubit};
 
 /// Whether these are the steps of a gate on qubits.
 fn are_gates(gate: Gate, qubits: &[Qubit], steps: Steps) -> bool

@@ -2,15 +2,14 @@
 ghost use Rattle.std.specs.Prelude.{◌≡◌, ◌+◌, ◌*◌, ◌<◌, ◌≤◌, ◌++◌, None, length, take, drop, IfOk, IfErr, IfSome, OnOk};
 ghost use Rattle.stab_io.specs.declared.refusal.Refusal.TheVariants.{OutOfMemory};
 ghost use Rattle.stab_items.specs.Steps.{unroll, check_of};
-ghost use Rattle.stab_edits.specs.Views.{circuit_items};
-ghost use Rattle.stab_edits.specs.Repeats.{AreRepeats, IsRepeat};
+ghost use Rattle.stab_items.specs.Views.{circuit_items};
+ghost use Rattle.stab_items.specs.Repeats.{AreRepeats, IsRepeat};
 
 use crate::alike::count_rounds;
 use crate::same::are_same;
 use crate::window::window_of;
-use stab_edits::{Circuit, Cursor, Repeat};
 use stab_io::Refusal;
-use stab_items::{Step, Steps};
+use stab_items::{Circuit, Cursor, Repeat, Step, Steps};
 use std::alloc::Global;
 
 /// How many steps rounds have at least in all, and how many rounds there are at least: fewer are no

@@ -2,8 +2,7 @@
 ghost use Rattle.std.specs.Prelude.{take, All};
 ghost use Rattle.stab_items.specs.Steps.{LooksWithin};
 
-use stab_edits::Cursor;
-use stab_items::furthest_of_steps;
+use stab_items::{Cursor, furthest_of_steps};
 
 /// How far back the next steps look that a cursor has left, this many, or all if there are fewer.
 pub(crate) fn window_of(cursor: &mut Cursor, count: usize) -> u32

@@ -1,8 +1,8 @@
 -- StepFits: the steps of a circuit that is not refused on n qubits are on these qubits.
 use Rattle.stab_run.proofs.Names.{◌≡◌, ℕ, zero, suc, ◌<◌, ◌≤◌, min, max, refl, sym, subst, Bool, true, false, nat_lt, List, [], ◌∷◌, ◌++◌, length, map, All, get_or, arith, Option, Some, None, if◌then◌else◌, All-nil, All-cons, All-append, Refusal, PairGate, MeasureTarget, Measurement, Axis, ControlledPair, Factor, Kind, Items, done, next, block, letter_of, pair_qubits, Step, one, two, controlled, collapse, product, detector, observable, measured, measured_product, controlled_gate, controlled_step, steps_of, rounds, unroll, past, target_qubits, controlled_qubits, factor_qubits, product_qubits, named_qubits, qubits_of, most_steps, steps_cap, check_of, check_within, HasDistinctQubits, StepFits}
 use Rattle.stab_gates.specs.declared.gate.PairGate.TheVariants as gate
-use Rattle.stab_lines.specs.declared.control.ControlledPair.TheVariants as pair
-use Rattle.stab_lines.specs.declared.operation.Kind.TheVariants as kind
+use Rattle.stab_instructions.specs.declared.control.ControlledPair.TheVariants as pair
+use Rattle.stab_instructions.specs.declared.operation.Kind.TheVariants as kind
 
 -- the qubits of a step are below n
 abbrev IsWithin : ℕ → Step → Type 0

@@ -8,10 +8,9 @@ pub use Rattle.std.specs.List.{list_any}
 pub use Rattle.std.specs.Prelude.{Option, Some, None, if◌then◌else◌, slice_index_or}
 pub use Rattle.rand_chacha.specs.ChaCha.{key_of}
 pub use Rattle.stab_items.proofs.LineDistinctLemmas.{joined_distinct}
-pub use Rattle.stab_items.specs.Steps.{HasDistinctQubits}
+pub use Rattle.stab_items.specs.Steps.{HasDistinctQubits, Step, one, two, controlled, collapse, product, detector, observable, measured, measured_product, controlled_gate, controlled_step, steps_of, rounds, unroll, past, target_qubits, controlled_qubits, factor_qubits, product_qubits, named_qubits, qubits_of, most_steps, steps_cap, check_within, makes, records_of, lookbacks, looks_too_far, observables_of}
 pub use Rattle.stab_items.specs.StepValues.{step_shown, steps_shown, lookbacks_of}
 pub use Rattle.stab_items.specs.Items.{Items, done, next, block}
-pub use Rattle.stab_items.specs.Steps.{Step, one, two, controlled, collapse, product, detector, observable, measured, measured_product, controlled_gate, controlled_step, steps_of, rounds, unroll, past, target_qubits, controlled_qubits, factor_qubits, product_qubits, named_qubits, qubits_of, most_steps, steps_cap, check_within, makes, records_of, lookbacks, looks_too_far, observables_of}
 unfoldable pub use Rattle.stab_items.specs.Steps.{check_of}
 pub use Rattle.stab_gates.proofs.ParityLemmas.{parity-false}
 pub use Rattle.stab_gates.specs.Letters.{◌⊕◌}
@@ -21,14 +20,14 @@ pub use Rattle.stab_gates.specs.declared.letter.Letter.{Letter}
 pub use Rattle.stab_gates.specs.declared.letter.Letter.TheVariants.{I}
 pub use Rattle.stab_io.specs.declared.refusal.Refusal.{Refusal}
 pub use Rattle.stab_items.proofs.StepLemmas.{window-rounds, looks_too_far_window}
-pub use Rattle.stab_lines.specs.Axes.{letter_of}
-pub use Rattle.stab_lines.specs.Targets.{pair_qubits}
-pub use Rattle.stab_lines.specs.declared.axis.Axis.{Axis}
-pub use Rattle.stab_lines.specs.declared.control.ControlledPair.{ControlledPair}
-pub use Rattle.stab_lines.specs.declared.operation.Kind.{Kind}
-pub use Rattle.stab_lines.specs.declared.operation.Measurement.{Measurement}
-pub use Rattle.stab_lines.specs.declared.product.Factor.{Factor}
-pub use Rattle.stab_lines.specs.declared.range.MeasureTarget.{MeasureTarget}
+pub use Rattle.stab_instructions.specs.Axes.{letter_of}
+pub use Rattle.stab_instructions.specs.Targets.{pair_qubits}
+pub use Rattle.stab_instructions.specs.declared.axis.Axis.{Axis}
+pub use Rattle.stab_instructions.specs.declared.control.ControlledPair.{ControlledPair}
+pub use Rattle.stab_instructions.specs.declared.operation.Kind.{Kind}
+pub use Rattle.stab_instructions.specs.declared.operation.Measurement.{Measurement}
+pub use Rattle.stab_instructions.specs.declared.product.Factor.{Factor}
+pub use Rattle.stab_instructions.specs.declared.range.MeasureTarget.{MeasureTarget}
 pub use Rattle.stab_pauli.proofs.SignedLemmas.{product-twice, length-product}
 pub use Rattle.stab_pauli.specs.Paulis.{Signed, single, minus, identity, with_sign, anticommute}
 pub use Rattle.stab_tableau.proofs.MemberLemmas.{same-applied, same-applied_pair, same-projected, same-outcome, same-free}

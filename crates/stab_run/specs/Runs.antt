@@ -10,8 +10,8 @@ use Rattle.stab_pauli.specs.Paulis.{Signed, single}
 use Rattle.stab_gates.specs.declared.gate.Gate.{Gate}
 use Rattle.stab_gates.specs.declared.gate.Gate.TheVariants as on
 use Rattle.stab_tableau.specs.Traces.{Event, applied, applied_pair, projected, outcome, is_free}
-use Rattle.stab_lines.specs.declared.product.Factor.{Factor}
-use Rattle.stab_lines.specs.Axes.{letter_of}
+use Rattle.stab_instructions.specs.declared.product.Factor.{Factor}
+use Rattle.stab_instructions.specs.Axes.{letter_of}
 use Rattle.stab_items.specs.Items.{Items}
 use Rattle.stab_items.specs.Steps.{Step, one, two, controlled, collapse, product, detector, observable, unroll, observables_of}
 use Rattle.stab_run.specs.Records.{looked_up, parity}

@@ -9,7 +9,7 @@ ghost use Rattle.stab_run.specs.Records.{ones};
 ghost use Rattle.stab_run.specs.Runs.{string_of};
 
 use crate::coins::Coins;
-use stab_lines::Factor;
+use stab_instructions::Factor;
 use stab_pauli::{Letter, Pauli};
 use stab_tableau::{Collapse, Tableau};
 

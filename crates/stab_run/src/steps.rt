@@ -11,8 +11,8 @@ ghost use Rattle.stab_run.specs.ProgramStates.{StepFits, IsRun, program_state, o
 use crate::coins::Coins;
 use crate::records::{Outputs, looked_up, parity};
 use crate::step::{apply_step, apply_where};
+use stab_instructions::{Axis, ControlledPair, MeasureTarget, Measurement, Qubit};
 use stab_items::{Detectors, Steps, controlled_gate, measured_step};
-use stab_lines::{Axis, ControlledPair, MeasureTarget, Measurement, Qubit};
 use stab_pauli::Pauli;
 use stab_tableau::{Gate, Tableau};
 use std::alloc::AllocError;

@@ -4,7 +4,7 @@ use Rattle.std.specs.Prelude.{ℕ, ◌==◌, Bool, List, [], ◌∷◌, ◌++◌
 use Rattle.std.specs.List.{flat_map}
 use Rattle.stab_gates.specs.Letters.{◌⊕◌}
 use Rattle.stab_run.specs.Runs.{State}
-use Rattle.stab_texts.specs.Coins.{ShotBits}
+use Rattle.stab_report.specs.Coins.{ShotBits}
 use Rattle.stab_results.specs.declared.format.Kinds.{Kinds}
 use Rattle.stab_results.specs.declared.format.Kinds.TheVariants.{Measurements, Detectors}
 use Rattle.stab_results.specs.Formats.{entry, one_places}

@@ -5,11 +5,11 @@ use Rattle.stab_io.specs.declared.refusal.Refusal.{Refusal}
 use Rattle.stab_io.specs.declared.refusal.Refusal.TheVariants.{PlaceOutOfRange}
 use Rattle.stab_circuit.specs.Items.{Items}
 use Rattle.stab_circuit.specs.Steps.{qubits_of}
-use Rattle.stab_texts.specs.Coins.{table_of}
+use Rattle.stab_report.specs.Coins.{table_of}
 use Rattle.stab_jobs.specs.declared.job.FaultLayout.TheVariants.{Lines}
-use Rattle.stab_texts.specs.declared.random.Bit.{Bit}
-use Rattle.stab_texts.specs.CoinTables.{coins_text}
-use Rattle.stab_texts.specs.Reasons.{has_bit, number_of_bit, reason_text}
+use Rattle.stab_report.specs.declared.random.Bit.{Bit}
+use Rattle.stab_report.specs.CoinTables.{coins_text}
+use Rattle.stab_report.specs.Reasons.{has_bit, number_of_bit, reason_text}
 
 -- the table, as the command `coins` writes it
 abbrev pub coins_shown : Items → List ℕ

@@ -1,15 +1,16 @@
 -- Counted requests: what only a counted script asks for, and the words that ask for it.
 -- Source: this project's own.
 use Rattle.std.specs.Prelude.{ℕ, ◌==◌, List, [], ◌∷◌, length, codes, bytes_eq, Option, Some, None, if◌then◌else◌}
-use Rattle.stab_lines.specs.Words.{value}
-use Rattle.stab_edits.specs.Paths.{Path}
-use Rattle.stab_texts.specs.declared.random.Bit.{Bit}
-use Rattle.stab_texts.specs.declared.random.Bit.TheVariants.{Detector, Observable}
+use Rattle.stab_instructions.specs.Words.{value}
+use Rattle.stab_items.specs.Paths.{Path}
+use Rattle.stab_report.specs.declared.random.Bit.{Bit}
+use Rattle.stab_report.specs.declared.random.Bit.TheVariants.{Detector, Observable}
 use Rattle.stab_script.specs.ScriptWords.{first_word, after_word, is_place_number, place_of}
 
 -- that changes are counted from now on; that a round, counted from 0, is split off the block at a place; or that this is shown: the numbers of
 -- the circuit, what changed of detectors and observables, what changed of records, the sign of a Pauli string, the item at a place,
--- where it is in the unrolled circuit, the table of coins, the coins that decide a detector or an observable
+-- where it is in the unrolled circuit, the table of coins, the coins that decide a detector or an observable, the way of the string of a word
+-- that is put in at the place of another
 pub data CountedRequest : Type 0 where
   mark : CountedRequest
   split : (place : Path) → (round : ℕ) → CountedRequest
@@ -21,6 +22,7 @@ pub data CountedRequest : Type 0 where
   counts : (place : Path) → CountedRequest
   coin_table : CountedRequest
   why : Bit → CountedRequest
+  way : (at word : List ℕ) → CountedRequest
 
 -- the request, if nothing is after its word
 abbrev pub alone : (rest : List ℕ) → CountedRequest → Option CountedRequest
@@ -52,6 +54,10 @@ changed_of rest = if bytes_eq rest (codes "records") then Some changed_records e
 abbrev pub sign_of : (word rest : List ℕ) → Option CountedRequest
 sign_of word rest = if length word == 0 then None else alone rest (sign word)
 
+-- the way of the string of a word, put in at the place of another
+abbrev pub way_asked : (at word rest : List ℕ) → Option CountedRequest
+way_asked at word rest = if length word == 0 then None else alone rest (way at word)
+
 -- the bit that a letter and a number name: D and a detector's, or L and an observable's
 abbrev pub bit_by : (letter : ℕ) → Option ℕ → Option Bit
 bit_by letter None = None
@@ -72,4 +78,5 @@ counted_show word rest =
     else if bytes_eq word (codes "place") then alone_with counts (place_of (first_word rest)) (after_word rest)
     else if bytes_eq word (codes "coins") then alone rest coin_table
     else if bytes_eq word (codes "why") then alone_with why (bit_of_word (first_word rest)) (after_word rest)
+    else if bytes_eq word (codes "way") then way_asked (first_word rest) (first_word (after_word rest)) (after_word (after_word rest))
     else None

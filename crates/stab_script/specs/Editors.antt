@@ -5,7 +5,7 @@ use Rattle.stab_io.specs.Devices.{OutputView, Took, CutOff}
 use Rattle.stab_io.specs.declared.refusal.Fault.{Fault}
 use Rattle.stab_io.specs.declared.refusal.Refusal.TheVariants.{WriteFault}
 use Rattle.stab_io.specs.Refusals.{whole}
-use Rattle.stab_texts.specs.Endings.{TookAndFlushed, TookAndFlushFailed}
+use Rattle.stab_report.specs.Endings.{TookAndFlushed, TookAndFlushFailed}
 use Rattle.stab_script.specs.declared.editor.Editor.{Editor}
 use Rattle.stab_script.specs.Scripts.{Environment, Request, Held, Answer, IsAnswerToAll}
 

@@ -5,6 +5,8 @@ pub mod Changes
 pub mod PlaceCounts
 pub mod CoinReplies
 pub mod Signs
+pub mod Words
+pub mod WayTexts
 pub mod Scripts
 pub mod Requests
 pub mod Replies
@@ -13,3 +15,9 @@ pub mod Editors
 pub mod Watchers
 pub mod LoggedInputs
 pub mod inner
+pub mod ScriptEndings
+pub mod ScriptTurns
+pub mod ScriptLaws
+pub mod EachTexts
+pub mod WayLaws
+pub mod Endings

@@ -3,8 +3,8 @@
 use Rattle.std.specs.Prelude.{ℕ, ◌+◌, List, ◌++◌, length, take, drop, codes, decimal}
 use Rattle.stab_circuit.specs.Items.{Items, entries}
 use Rattle.stab_circuit.specs.Steps.{Step, unroll, records_of, detectors_of}
-use Rattle.stab_edits.specs.Paths.{Path}
-use Rattle.stab_edits.specs.Edits.{steps_before}
+use Rattle.stab_items.specs.Paths.{Path}
+use Rattle.stab_items.specs.Edits.{steps_before}
 use Rattle.stab_run.specs.Points.{all_coins_of}
 use Rattle.stab_script.specs.declared.reply.StepCounts.{StepCounts}
 

@@ -2,7 +2,7 @@
 -- Source: this project's own.
 use Rattle.std.specs.Prelude.{List, ℕ, [], ◌∷◌, Option, Some, None}
 use Rattle.stab_script.specs.Scripts.{Request, begin, put, delete, show, ask, deterministic, distance, refuse, Gathering}
-use Rattle.stab_script.specs.CountedRequests.{CountedRequest, mark, split, numbers, changed, changed_records, sign, item, counts, coin_table, why}
+use Rattle.stab_script.specs.CountedRequests.{CountedRequest, mark, split, numbers, changed, changed_records, sign, item, counts, coin_table, why, way}
 use Rattle.stab_script.specs.declared.counted.CountedRequest.{CountedRequest as CountedAsked}
 use Rattle.stab_script.specs.declared.counted.CountedRequest.TheVariants as counted_asks
 use Rattle.stab_script.specs.declared.request.Request.{Request as Asked}
@@ -20,6 +20,7 @@ counted_asked (counted_asks.Item place) = item place
 counted_asked (counted_asks.Place place) = counts place
 counted_asked counted_asks.Coins = coin_table
 counted_asked (counted_asks.Why bit) = why bit
+counted_asked (counted_asks.Way at string) = way at.items string.items
 
 -- the same, if there is one
 abbrev pub counted_if_any : Option CountedAsked → Option CountedRequest

@@ -2,9 +2,9 @@
 -- Source: this project's own.
 use Rattle.std.specs.Prelude.{ℕ, ◌+◌, ◌-◌, Bool, false, ◌&&◌, ◌==◌, nat_le, List, [], ◌++◌, length, take, drop, slice_index_or, map, Option, Some, None, if◌then◌else◌}
 use Rattle.std.specs.List.{before_first, position_or_len, slice_split, list_all}
-use Rattle.stab_lines.specs.Lines.{is_byte, is_spacing, trimmed_front}
-use Rattle.stab_lines.specs.Words.{is_number, value}
-use Rattle.stab_edits.specs.Paths.{Path}
+use Rattle.stab_instructions.specs.Lines.{is_byte, is_spacing, trimmed_front}
+use Rattle.stab_instructions.specs.Words.{is_number, value}
+use Rattle.stab_items.specs.Paths.{Path}
 
 -- the first word of a text that does not begin with spacing
 abbrev pub first_word : List ℕ → List ℕ

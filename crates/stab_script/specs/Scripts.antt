@@ -5,29 +5,29 @@ use Rattle.stab_io.specs.declared.refusal.Refusal.{Refusal}
 use Rattle.stab_io.specs.declared.refusal.Refusal.TheVariants.{BadCommand, TooLong, NotDeterministic}
 use Rattle.stab_io.specs.declared.refusal.Fault.{Fault}
 use Rattle.stab_tableau.specs.Traces.{member}
-use Rattle.stab_lines.specs.Lines.{content_of, ends_with_byte}
-use Rattle.stab_lines.specs.Meanings.{is_close}
+use Rattle.stab_instructions.specs.Lines.{content_of, ends_with_byte}
+use Rattle.stab_instructions.specs.Meanings.{is_close}
 use Rattle.stab_circuit.specs.Items.{Items, OneItem, done, before, listed, entries}
-use Rattle.stab_edits.specs.Paths.{Path}
-use Rattle.stab_edits.specs.declared.edit.Edit.{Edit}
-use Rattle.stab_edits.specs.declared.edit.Edit.TheVariants as circuit_edit
-use Rattle.stab_edits.specs.Edits.{edited, list_verdict}
+use Rattle.stab_items.specs.Paths.{Path}
+use Rattle.stab_items.specs.declared.edit.Edit.{Edit}
+use Rattle.stab_items.specs.declared.edit.Edit.TheVariants as circuit_edit
+use Rattle.stab_items.specs.Edits.{edited, list_verdict}
 use Rattle.stab_circuit.specs.Circuits.{most_bytes, item_fault, StandsForOne}
 use Rattle.stab_circuit.specs.Prints.{printed}
 use Rattle.stab_run.specs.Runs.{State, run_of}
-use Rattle.stab_texts.specs.Coins.{ShotBits, bits_of}
+use Rattle.stab_report.specs.Coins.{ShotBits, bits_of}
 use Rattle.stab_results.specs.Formats.{f01_bytes}
-use Rattle.stab_texts.specs.FaultLines.{refused_text}
+use Rattle.stab_report.specs.FaultLines.{refused_text}
 use Rattle.stab_results.specs.declared.format.Format.TheVariants.{F01}
-use Rattle.stab_texts.specs.Rows.{IsStabilisersText}
-use Rattle.stab_texts.specs.Deterministic.{IsDeterministicText}
-use Rattle.stab_texts.specs.declared.random.Random.{Random}
-use Rattle.stab_texts.specs.FaultTables.{IsFirstRandom}
-use Rattle.stab_texts.specs.Distances.{IsDistanceText}
+use Rattle.stab_report.specs.Rows.{IsStabilisersText}
+use Rattle.stab_report.specs.Deterministic.{IsDeterministicText}
+use Rattle.stab_report.specs.declared.random.Random.{Random}
+use Rattle.stab_report.specs.FaultTables.{IsFirstRandom}
+use Rattle.stab_report.specs.Distances.{IsDistanceText}
 use Rattle.stab_jobs.specs.declared.job.DistanceOptions.{DistanceOptions}
 use Rattle.stab_jobs.specs.declared.job.ErrorLetters.TheVariants.{All}
-use Rattle.stab_edits.specs.Places.{item_at}
-use Rattle.stab_edits.specs.Splits.{split}
+use Rattle.stab_items.specs.Places.{item_at}
+use Rattle.stab_items.specs.Splits.{split}
 use Rattle.stab_script.specs.ScriptWords.{first_word, after_word, place_of, Gathered, more, is_nothing}
 use Rattle.stab_script.specs.CountedRequests as counted_asks
 use Rattle.stab_script.specs.CountedRequests.{CountedRequest, alone, mark, numbers, changed, changed_records, sign, round_number_of, counted_split, counted_show}
@@ -36,6 +36,8 @@ use Rattle.stab_script.specs.Changes.{no_mark, changed_text, changed_records_tex
 use Rattle.stab_script.specs.PlaceCounts.{place_text}
 use Rattle.stab_script.specs.CoinReplies.{coins_shown, why_shown}
 use Rattle.stab_script.specs.Signs.{string_of_word, sign_in, sign_line}
+use Rattle.stab_script.specs.Words.{put_in_of}
+use Rattle.stab_script.specs.WayTexts.{way_text}
 use Rattle.stab_script.specs.declared.request.ItemEdit.{ItemEdit}
 use Rattle.stab_script.specs.declared.request.ItemEdit.TheVariants.{Insert, Replace}
 use Rattle.stab_script.specs.declared.request.Show.{Show}
@@ -308,6 +310,7 @@ counted_shown n run held (counted_asks.item place) = text_found (λ x. printed (
 counted_shown n run held (counted_asks.counts place) = text_found (λ x. place_text place held.items) (item_at place (entries held.items))
 counted_shown n run held counted_asks.coin_table = Ok (coins_shown held.items)
 counted_shown n run held (counted_asks.why bit) = why_shown held.items bit
+counted_shown n run held (counted_asks.way at word) = text_found (way_text held.items false) (put_in_of n held.items at word)
 
 -- what is held with such a list, or as before if the split was refused
 abbrev pub held_split : Held → Result (List OneItem) Refusal → Held

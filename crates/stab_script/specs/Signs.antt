@@ -7,10 +7,10 @@ use Rattle.stab_io.specs.declared.refusal.Refusal.TheVariants.{BadTarget, QubitO
 use Rattle.stab_gates.specs.declared.letter.Letter.{Letter}
 use Rattle.stab_gates.specs.declared.letter.Letter.TheVariants as letter
 use Rattle.stab_pauli.specs.Paulis.{Signed, with_sign, minus}
-use Rattle.stab_lines.specs.declared.product.Factor.{Factor}
-use Rattle.stab_lines.specs.Results.{◌>>=◌}
-use Rattle.stab_lines.specs.Lines.{starts_with_byte}
-use Rattle.stab_lines.specs.Products.{product_of}
+use Rattle.stab_instructions.specs.declared.product.Factor.{Factor}
+use Rattle.stab_instructions.specs.Results.{◌>>=◌}
+use Rattle.stab_instructions.specs.Lines.{starts_with_byte}
+use Rattle.stab_instructions.specs.Products.{product_of}
 use Rattle.stab_circuit.specs.Steps.{is_inverted}
 use Rattle.stab_run.specs.Runs.{string_of}
 

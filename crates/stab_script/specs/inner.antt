@@ -1,1 +1,4 @@
+-- Definitions that only private contracts cite.
 pub mod StepCounts
+pub mod Distances
+pub mod SessionAnswers

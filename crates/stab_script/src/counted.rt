@@ -2,14 +2,14 @@
 ghost use Rattle.std.specs.Prelude.{◌≡◌, Some, IfOk, IfErr};
 ghost use Rattle.stab_io.specs.Refusals.{whole};
 ghost use Rattle.stab_io.specs.declared.refusal.Refusal.TheVariants.{OutOfMemory};
-ghost use Rattle.stab_script.specs.CountedRequests.{alone as alone_of, alone_with, item, counts, why, round_number_of, split_of, counted_split, changed_of, sign_of, bit_by as bit_by_letter, bit_of_word, counted_show as shown_by};
+ghost use Rattle.stab_script.specs.CountedRequests.{alone as alone_of, alone_with, item, counts, why, round_number_of, split_of, counted_split, changed_of, sign_of, way_asked, bit_by as bit_by_letter, bit_of_word, counted_show as shown_by};
 ghost use Rattle.stab_script.specs.ScriptWords.{first_word as first_of, after_word, place_of};
 ghost use Rattle.stab_script.specs.Requests.{counted_asked, counted_if_any};
 
 use crate::place::{first_word, place_number, read_place};
 use stab_circuit::Path;
 use stab_io::Fault;
-use stab_texts::Bit;
+use stab_report::Bit;
 use std::alloc::Global;
 
 /// What only a counted script asks for.
@@ -35,6 +35,8 @@ pub enum CountedRequest {
     Coins,
     /// The coins that decide a detector or an observable.
     Why(Bit),
+    /// The way of the string of a word, put in at the place of another.
+    Way { at: Vec<u8>, string: Vec<u8> },
 }
 
 /// The request, if nothing is after its word.
@@ -97,6 +99,24 @@ fn read_sign(alloc: Global, word: &[u8], rest: &[u8]) -> Result<Option<CountedRe
     }
     let word = Vec::from_slice(alloc, word)?;
     Ok(alone(rest, CountedRequest::Sign(word)))
+}
+
+/// The way of the string of a word, put in at the place of another.
+fn read_way(
+    alloc: Global,
+    at: &[u8],
+    word: &[u8],
+    rest: &[u8],
+) -> Result<Option<CountedRequest>, Fault>
+    ensures gives { IfOk result (λ r. counted_if_any r ≡ way_asked at.now word.now rest.now) }
+    ensures err { IfErr result (λ f. f ≡ whole OutOfMemory) }
+{
+    if word.is_empty() {
+        return Ok(None);
+    }
+    let at = Vec::from_slice(alloc, at)?;
+    let string = Vec::from_slice(alloc, word)?;
+    Ok(alone(rest, CountedRequest::Way { at, string }))
 }
 
 /// The item at a place.
@@ -180,6 +200,10 @@ pub(crate) fn read_counted_show(
         Ok(alone(rest, CountedRequest::Coins))
     } else if word == b"why".as_slice() {
         Ok(read_why(rest))
+    } else if word == b"way".as_slice() {
+        let (at, rest) = first_word(rest);
+        let (word, rest) = first_word(rest);
+        read_way(alloc, at, word, rest)
     } else {
         Ok(None)
     }

@@ -10,7 +10,7 @@ use crate::reader::ScriptReader;
 use crate::reply::Reply;
 use crate::request::Request;
 use stab_io::{Fault, Output, write_all};
-use stab_texts::finish;
+use stab_report::finish;
 use std::alloc::Global;
 
 /// The answer to a request: its reply, and whether a line was refused.

@@ -1,4 +1,6 @@
-//! What the lines of an edit script ask for, and the texts of replies.
+//! Edit scripts, what their lines ask for and the texts of replies, and the commands `edit` and `propagate`.
+//!
+//! What answers requests is a trait, `Answer`, over the items and the mark that are held: a session answers them.
 //!
 //! In the order in which data flows; each module uses only those before it:
 //!
@@ -14,40 +16,66 @@
 //! - `editor`: a script as it comes, and each reply written in one go.
 //! - `watcher`: how a script is read beside the output of its replies.
 //! - `logged_input`: an input in memory that keeps a log of such reads.
-//!
-//! What answers requests is a trait here, `Answer`, over the items and the mark that are held: the answers
-//! from a session, and scripts answered by them, are `stab_editor`'s.
+//! - `words`: the place and the string that the words of a command line or a script ask about.
+//! - `lines`: the way of a string as lines.
+//! - `circuit_replies`: what a script asks of its circuit as a whole: deterministic bits, coins, the way of a string and the distance.
+//! - `marks`: the bits that changes are counted from.
+//! - `session_answers`: requests of a script, answered from a session.
+//! - `session_edit`: a script, answered from a session that is opened for it.
+//! - `edit`: the command that edits a circuit by a script.
+//! - `laws`: each script has an answer, and no other if it asks for no distance.
+//! - `propagate`: the command, of one string. `each`: of each error.
 //!
 //! Source: this project's own.
 //!
 //! Proved: the bytes that an `Editor` takes ask for the requests that `specs/Scripts.antt` gives, and when
 //! the call returns exactly the replies to them are written, each as `IsAnswer` there says; if the output
 //! failed or the answer is 20, a first part of these (`specs/Editors.antt`). Replies have the texts
-//! that `CountedReplies`, `Changes`, `PlaceCounts` and `Signs` of `specs/` give. `specs/inner/` has what only
-//! private contracts cite.
+//! that `CountedReplies`, `Changes`, `PlaceCounts`, `Signs` and `WayTexts` of `specs/` give.
+//!
+//! Proved: `edit_circuit` writes exactly the replies that `specs/Scripts.antt` gives for the script and the
+//! circuit's items, or ends by its own cases (`specs/ScriptEndings.antt`), and they are those of one answer, of which the reply to
+//! each line is written before more of the script is asked for (`specs/ScriptTurns.antt`). `specs/inner/` has what only private
+//! contracts cite.
+//!
+//! Proved of `propagate`: what is written is the way of the string, as `stab_ways` says it, with what that means for runs.
 #![tactic(auto)]
 
 mod changes;
+mod circuit_replies;
 mod counted;
+mod each;
+mod edit;
 mod editor;
 mod gathered;
+pub mod laws;
+mod lines;
 mod logged_input;
+mod marks;
 mod place;
 mod place_counts;
+mod propagate;
 mod reader;
 mod reply;
 mod request;
+mod session_answers;
+mod session_edit;
 mod signs;
 mod watcher;
+mod words;
 
 pub use changes::{MarkedBits, push_changes};
 pub use counted::{CountedRequest, read_round};
+pub use each::run_propagate_each;
+pub use edit::{run_edit, run_edit_watched};
 pub use editor::{Answer, Answered, Editor};
 pub use logged_input::{KeepsLog, LoggedInput, LoggedRead};
 pub use place::read_place;
 pub use place_counts::show_place;
+pub use propagate::run_propagate;
 pub use reader::ScriptReader;
 pub use reply::{Reply, SessionNumbers, memory};
 pub use request::{ItemEdit, Request, Show};
+pub use session_edit::edit_circuit;
 pub use signs::read_string;
 pub use watcher::{NoWatcher, Watcher};

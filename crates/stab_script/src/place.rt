@@ -1,11 +1,10 @@
 //! Words of a script, and the paths that they stand for.
 ghost use Rattle.std.specs.Prelude.{◌≡◌, true, false, Some, None, MatchOption};
-ghost use Rattle.stab_lines.specs.Words.{value};
+ghost use Rattle.stab_instructions.specs.Words.{value};
 ghost use Rattle.stab_script.specs.ScriptWords.{first_word as first_of, after_word, is_place_number, place_of};
 
-use stab_circuit::Path;
-use stab_line_reader::{capped_value, is_number};
-use stab_lines::{first_piece, without_spacing_in_front, word_len};
+use stab_circuit::{Path, capped_value, is_number};
+use stab_instructions::{first_piece, without_spacing_in_front, word_len};
 
 /// The most numbers of a place.
 const MOST_NUMBERS: usize = 17;
@@ -21,7 +20,7 @@ pub(crate) fn first_word(text: &[u8]) -> (&[u8], &[u8])
 }
 
 /// The number of a place that a word stands for: 1 to 18 digits.
-#[tactic(auto, using(stab_lines::proofs::WordLemmas::eighteen_digits))]
+#[tactic(auto, using(stab_instructions::proofs::WordLemmas::eighteen_digits))]
 pub(crate) fn place_number(word: &[u8]) -> Option<usize>
     ensures value { MatchOption result (is_place_number word.now ≡ false) (λ n. (is_place_number word.now ≡ true) × (n ≡ value word.now)) }
 {

@@ -8,9 +8,8 @@ ghost use Rattle.stab_script.specs.Requests.{request_asked, asked_if_any, opened
 
 use crate::gathered::Gathered;
 use crate::request::{ItemEdit, Request, read_request};
-use stab_circuit::Path;
+use stab_circuit::{Path, content, ends_with, is_close};
 use stab_io::{Fault, Refusal};
-use stab_line_reader::{content, ends_with, is_close};
 use std::alloc::Global;
 use std::marker::Model;
 

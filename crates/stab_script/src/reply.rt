@@ -5,23 +5,23 @@ ghost use Rattle.stab_pauli.specs.Texts.{pauli_text};
 ghost use Rattle.stab_io.specs.Refusals.{whole};
 ghost use Rattle.stab_io.specs.declared.refusal.Refusal.TheVariants.{OutOfMemory};
 ghost use Rattle.stab_circuit.specs.Items.{before, done};
-ghost use Rattle.stab_edits.specs.Views.{circuit_items};
+ghost use Rattle.stab_items.specs.Views.{circuit_items};
 ghost use Rattle.stab_circuit.specs.Prints.{printed};
 ghost use Rattle.stab_results.specs.Formats.{f01_bytes, dets_bytes, detectors_of};
-ghost use Rattle.stab_texts.specs.FaultLines.{refused_text};
-ghost use Rattle.stab_texts.specs.Rows.{lines_of};
+ghost use Rattle.stab_report.specs.FaultLines.{refused_text};
+ghost use Rattle.stab_report.specs.Rows.{lines_of};
 ghost use Rattle.stab_script.specs.Changes.{count_line, entries_line};
 ghost use Rattle.stab_script.specs.PlaceCounts.{place_line, two_numbers};
 ghost use Rattle.stab_script.specs.CountedReplies.{greeting as greeting_of, lines_in, made_text, numbers_line, reply_text};
 ghost use Rattle.stab_script.specs.Signs.{sign_line};
-ghost use Rattle.stab_texts.specs.Texts.{texts_joined};
+ghost use Rattle.stab_report.specs.Texts.{texts_joined};
 ghost use Rattle.stab_script.specs.Replies.{ReplyBytes, no_reply, reply_output};
 
 use stab_circuit::{Circuit, Item, write_circuit, write_one_item};
 use stab_io::{DeviceFault, Fault, Output, Refusal, write_all};
 use stab_pauli::Pauli;
+use stab_report::write_texts;
 use stab_results::{Format, Kinds, write_shot};
-use stab_texts::write_texts;
 use std::alloc::Global;
 use std::marker::Model;
 

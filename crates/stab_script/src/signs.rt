@@ -1,13 +1,13 @@
 //! The Pauli strings of words.
 ghost use Rattle.std.specs.Prelude.{◌≡◌, ◌<◌, IfOk, length, nat_lt, true};
 ghost use Rattle.std.specs.List.{list_all};
-ghost use Rattle.stab_lines.specs.Results.{Gives};
+ghost use Rattle.stab_instructions.specs.Results.{Gives};
 ghost use Rattle.stab_circuit.specs.Steps.{is_inverted as inverted_of};
 ghost use Rattle.stab_script.specs.Signs.{unsigned as unsigned_of, is_letter as is_letter_of, letter_at as letter_of, lettered, string_within, string_without_sign, string_of_word};
 
+use stab_circuit::{read_product, starts_with};
+use stab_instructions::Factor;
 use stab_io::Refusal;
-use stab_line_reader::{read_product, starts_with};
-use stab_lines::Factor;
 use stab_pauli::{Letter, Pauli};
 use stab_run::write_product;
 use std::alloc::Global;

@@ -4,12 +4,12 @@ use Rattle.std.specs.Prelude.{ℕ, ◌+◌, ◌-◌, ◌*◌, ◌/◌, Bool, Lis
 use Rattle.stab_io.specs.declared.refusal.Refusal.{Refusal}
 use Rattle.stab_circuit.specs.Items.{OneItem, entries, listed}
 use Rattle.stab_circuit.specs.Steps.{unroll, observables_of}
-use Rattle.stab_edits.specs.Edits.{edit_path, edited, verdict, first_changed, old_end, new_end, put_item}
-use Rattle.stab_edits.specs.declared.edit.Edit.{Edit}
+use Rattle.stab_items.specs.Edits.{edit_path, edited, verdict, first_changed, old_end, new_end, put_item}
+use Rattle.stab_items.specs.declared.edit.Edit.{Edit}
 use Rattle.stab_run.specs.Runs.{run, start}
 use Rattle.stab_run.specs.Points.{Point, point_of}
 use Rattle.stab_run.specs.Laws.{AgreeAt}
-use Rattle.stab_splices.specs.Counts.{AgreeAsFarAsLooked, IsCounted}
+use Rattle.stab_session.specs.Counts.{AgreeAsFarAsLooked, IsCounted}
 use Rattle.stab_session.specs.Sessions.{SessionState}
 
 -- how many steps a session's circuit has

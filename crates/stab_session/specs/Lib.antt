@@ -1,6 +1,11 @@
-pub use Rattle.stab_splices.specs.Counts
+pub mod LongerLists
+pub mod PauliSpans
+pub mod PassedPlaces
+pub mod Counts
+pub mod Recordings
+pub mod FollowedEdits
+pub mod inner
 pub mod Sessions
 pub mod Headline
 pub mod SessionEdits
 pub mod Bounds
-pub mod inner

@@ -2,10 +2,10 @@
 -- Source: this project's own.
 use Rattle.std.specs.Prelude.{◌≡◌, ℕ, Bool, None, Ok}
 use Rattle.stab_circuit.specs.Items.{entries}
-use Rattle.stab_edits.specs.Edits.{edited, verdict}
-use Rattle.stab_edits.specs.declared.edit.Edit.{Edit}
-use Rattle.stab_edits.specs.Paths.{Path}
-use Rattle.stab_edits.specs.Splits.{split}
+use Rattle.stab_items.specs.Edits.{edited, verdict}
+use Rattle.stab_items.specs.declared.edit.Edit.{Edit}
+use Rattle.stab_items.specs.Paths.{Path}
+use Rattle.stab_items.specs.Splits.{split}
 use Rattle.stab_session.specs.Sessions.{SessionState}
 
 -- the session was edited: its items are the edited ones, which nothing refuses, its qubits, stride and sequence of coins the same

@@ -4,22 +4,22 @@ ghost use Rattle.stab_io.specs.declared.refusal.Refusal.TheVariants.{OutOfMemory
 ghost use Rattle.stab_circuit.specs.Items.{OneItem, listed};
 ghost use Rattle.stab_circuit.specs.Steps.{unroll, check_within};
 ghost use Rattle.stab_items.specs.Steps.{Step};
-ghost use Rattle.stab_edits.specs.Views.{circuit_items};
-ghost use Rattle.stab_edits.specs.Repeats.{AreRepeats};
-ghost use Rattle.stab_edits.specs.declared.edit.Edit.{Edit};
-ghost use Rattle.stab_edits.specs.declared.edit.Span.{Span as span_type};
+ghost use Rattle.stab_items.specs.Views.{circuit_items};
+ghost use Rattle.stab_items.specs.Repeats.{AreRepeats};
+ghost use Rattle.stab_items.specs.declared.edit.Edit.{Edit};
+ghost use Rattle.stab_items.specs.declared.edit.Span.{Span as span_type};
 ghost use Rattle.stab_rounds.specs.Spans.{IsEditOf};
-ghost use Rattle.stab_splices.specs.PauliSpans.{DifferByPaulis};
+ghost use Rattle.stab_session.specs.PauliSpans.{DifferByPaulis};
 ghost use Rattle.stab_session.specs.inner.Pendings.{IsBegun};
 ghost use Rattle.stab_session.specs.inner.PauliItems.{AreAccepted};
 
+use crate::past_places::PauliChange;
 use crate::paulis::difference;
 use crate::pending::Pending;
 use stab_circuit::{Circuit, Span};
-use stab_edits::Repeat;
 use stab_io::Refusal;
+use stab_items::Repeat;
 use stab_rounds::edited_rounds;
-use stab_splices::PauliChange;
 use std::alloc::Global;
 
 /// What an edit changes.

@@ -2,25 +2,25 @@ ghost use Rattle.std.specs.Prelude.{◌≡◌, ◌<◌, ◌∷◌, false, [], Li
 ghost use Rattle.std.specs.List.{AllByRecursion};
 ghost use Rattle.stab_io.specs.declared.refusal.Refusal.TheVariants.{OutOfMemory};
 ghost use Rattle.stab_pauli.specs.Paulis.{string_product};
-ghost use Rattle.stab_lines.specs.declared.operation.Kind.TheVariants.{Gate as gates_of_kind};
+ghost use Rattle.stab_instructions.specs.declared.operation.Kind.TheVariants.{Gate as gates_of_kind};
 ghost use Rattle.stab_circuit.specs.Items.{OneItem, listed};
 ghost use Rattle.stab_circuit.specs.Steps.{unroll};
-ghost use Rattle.stab_edits.specs.declared.edit.Edit.{Edit};
-ghost use Rattle.stab_edits.specs.declared.edit.Span.{Span};
+ghost use Rattle.stab_items.specs.declared.edit.Edit.{Edit};
+ghost use Rattle.stab_items.specs.declared.edit.Span.{Span};
 ghost use Rattle.stab_run.specs.Runs.{gate_of};
 ghost use Rattle.stab_frames.specs.Starts.{letters_on};
-ghost use Rattle.stab_splices.specs.PauliSpans.{DifferByPaulis};
+ghost use Rattle.stab_session.specs.PauliSpans.{DifferByPaulis};
 ghost use Rattle.stab_session.specs.inner.Pendings.{pending_path, IsBegun};
 ghost use Rattle.stab_session.specs.inner.PauliItems.{ArePauliItems, AreAccepted, IsPauliItem, IsPauliEdit, is_pauli_gate, is_pauli_kind, taken_items};
 
+use crate::past_places::PauliChange;
 use crate::pending::Pending;
 use stab_circuit::{Circuit, Item, Path, Qubit};
 use stab_gates::{Gate, Letter};
+use stab_instructions::Kind;
 use stab_io::Refusal;
 use stab_items::Part;
-use stab_lines::Kind;
 use stab_pauli::Pauli;
-use stab_splices::PauliChange;
 use std::alloc::Global;
 
 /// A Pauli gate on each of some qubits, one after another.

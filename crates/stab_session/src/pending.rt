@@ -1,9 +1,9 @@
 ghost use Rattle.std.specs.Prelude.{◌≡◌, Ok, None, OnErr, IfOk, IfErr};
 ghost use Rattle.stab_io.specs.Refusals.{IsCallFault, whole};
-ghost use Rattle.stab_edits.specs.declared.edit.Edit.TheVariants.{Insert as inserting, Replace as replacing, Delete as deleting};
+ghost use Rattle.stab_items.specs.declared.edit.Edit.TheVariants.{Insert as inserting, Replace as replacing, Delete as deleting};
 ghost use Rattle.stab_circuit.specs.Steps.{check_within};
-ghost use Rattle.stab_edits.specs.Views.{circuit_items};
-ghost use Rattle.stab_edits.specs.Edits.{list_refusal, verdict, put_item};
+ghost use Rattle.stab_items.specs.Views.{circuit_items};
+ghost use Rattle.stab_items.specs.Edits.{list_refusal, verdict, put_item};
 ghost use Rattle.stab_session.specs.inner.Pendings.{taken_back, item_back, finished, IsBegun};
 
 use stab_circuit::{Circuit, Edit, Item, Path, Refused, Span};

@@ -1,13 +1,14 @@
 mod edits;
 mod splits;
 
+use crate::opening::{Recorded, record_run};
+use crate::recording::Recording;
 pub use edits::Report;
 use stab_circuit::Circuit;
-use stab_edits::Repeat;
 use stab_io::{Fault, Refusal};
+use stab_items::Repeat;
 use stab_pauli::Pauli;
 use stab_run::Coins;
-use stab_splices::{Recorded, Recording, record_run};
 use stab_tableau::Tableau;
 use std::alloc::Global;
 use std::marker::Model;
@@ -56,8 +57,8 @@ pub struct OpenRefused<C: Coins> {
 
 impl<C: Coins> Model for Session<C> {
     ghost use Rattle.stab_circuit.specs.Steps.{unroll};
-    ghost use Rattle.stab_edits.specs.Views.{circuit_items};
-    ghost use Rattle.stab_edits.specs.Repeats.{AreRepeats};
+    ghost use Rattle.stab_items.specs.Views.{circuit_items};
+    ghost use Rattle.stab_items.specs.Repeats.{AreRepeats};
     ghost use Rattle.stab_session.specs.Sessions.{SessionState};
     ghost use Rattle.stab_session.specs.inner.SessionRecordings.{IsRecorded, session_of, session_code};
 
@@ -78,7 +79,7 @@ impl<C: Coins> Session<C> {
     ghost use Rattle.stab_tableau.specs.Traces.{member};
     ghost use Rattle.stab_tableau.specs.Reduced.{AreReduced};
     ghost use Rattle.stab_circuit.specs.Steps.{unroll, check_within};
-    ghost use Rattle.stab_edits.specs.Views.{circuit_items};
+    ghost use Rattle.stab_items.specs.Views.{circuit_items};
     ghost use Rattle.stab_circuit.specs.Limits.{most_stride};
     ghost use Rattle.stab_run.specs.Records.{ones};
     ghost use Rattle.stab_run.specs.Runs.{run_of};

@@ -22,7 +22,7 @@ product-whole (suc n) (l ∷ letters) e =
 
 module _ (n : ℕ) (coins others : ℕ → Bool) (us : List Step) (flips : RunOutput) where
   -- one letter
-  letter-put : (vs : List Step) (f : Frame) (l : Letter) (q : ℕ) → q < n → AreFronts n coins others us vs f flips
+  pub letter-put : (vs : List Step) (f : Frame) (l : Letter) (q : ℕ) → q < n → AreFronts n coins others us vs f flips
       → AreFronts n coins others us (vs ++ one (gate_of l) q ∷ []) (record f { letters = string_product f.letters (single n q l).letters }) flips
   letter-put vs f l q lt fronts =
       let size = length-one_letter n q l in

@@ -21,12 +21,12 @@ pub use Rattle.stab_gates.specs.declared.gate.PairGate.{PairGate}
 pub use Rattle.stab_tableau.proofs.PlaceLemmas.{get_or-blank, set-blank}
 pub use Rattle.stab_tableau.specs.Gates.{image, image_pair, letter_image, pair_letters, letter_at}
 pub use Rattle.stab_tableau.specs.Conjugations.{IsConjugated}
-pub use Rattle.stab_lines.specs.declared.axis.Axis.{Axis}
-pub use Rattle.stab_lines.specs.declared.operation.Measurement.{Measurement}
-pub use Rattle.stab_lines.specs.declared.range.MeasureTarget.{MeasureTarget}
-pub use Rattle.stab_lines.specs.declared.control.ControlledPair.{ControlledPair}
-pub use Rattle.stab_lines.specs.Axes.{letter_of}
-pub use Rattle.stab_items.specs.Steps.{steps_of, controlled_step, measured, Step, one, two, controlled, collapse, product, detector, observable, makes, records_of}
+pub use Rattle.stab_instructions.specs.declared.axis.Axis.{Axis}
+pub use Rattle.stab_instructions.specs.declared.operation.Measurement.{Measurement}
+pub use Rattle.stab_instructions.specs.declared.range.MeasureTarget.{MeasureTarget}
+pub use Rattle.stab_instructions.specs.declared.control.ControlledPair.{ControlledPair}
+pub use Rattle.stab_instructions.specs.Axes.{letter_of}
+pub use Rattle.stab_items.specs.Steps.{steps_of, controlled_step, measured, Step, one, two, controlled, collapse, product, detector, observable, makes, records_of, unroll, rounds}
 pub use Rattle.stab_run.specs.Runs.{gate_of, flip_of, string_of, when, applied_where, outcome_at, State, start, run}
 pub use Rattle.stab_run.specs.Points.{Point, RunOutput, origin, nothing, joined, coins_of, all_coins_of, next_point, point_after, outputs}
 pub use Rattle.stab_run.specs.ProgramStates.{StepFits}
@@ -43,7 +43,7 @@ pub use Rattle.stab_frames.specs.Fronts.{AreFronts, IsFlippedRun}
 pub use Rattle.stab_frames.specs.Pivots.{pivot_at}
 pub use Rattle.stab_frames.specs.Propagations.{PropagationState, frame_at, IsPlaced, PropagatesOver}
 pub use Rattle.stab_frames.specs.inner.Draws.{never}
-pub use Rattle.stab_frames.specs.inner.Propagates.{GoesOver}
+pub use Rattle.stab_frames.specs.inner.Propagates.{GoesOver, IsMissing}
 pub use Rattle.stab_frames.specs.inner.Touches.{acts}
 pub use Rattle.stab_frames.proofs.FreeLemmas.{pivot-none}
 pub use Rattle.stab_frames.proofs.StepsPropagatedLemmas.{propagation-same, fits-over}
@@ -55,19 +55,17 @@ pub use Rattle.stab_frames.proofs.FrontLemmas.{group-origin}
 pub use Rattle.stab_frames.proofs.PropagatedPointLemmas.{conjugated-over, conjugated-comm, conjugated-stabiliser}
 pub use Rattle.stab_frames.proofs.SignLemmas.{sign-twice, back-letter}
 pub use Rattle.stab_ways.specs.PutIn.{letter_gates, with_string, by_letters, reset_leaves, step_leaves, way_after, way_over, way_flips, frame_begun, string_after, string_flips}
-pub use Rattle.stab_ways.specs.Laws.{coins_with, StringsFlipRuns, FixedOutcomesKeepCoins}
+pub use Rattle.stab_ways.specs.Laws.{coins_with, StringsFlipRuns, LettersFlipRuns, FixedOutcomesKeepCoins}
 pub use Rattle.stab_ways.specs.Ways.{Part, is_tick, rest_of, rounds_counted, Turn, placed, differ, changed_string, tick_string, listed_string, turns, part_rounds, parts_of, parts_after, string_turns, turn_shown}
 pub use Rattle.stab_ways.specs.inner.Walks.{EndsTogether, IsFront, has_letter_at, steps_leave, passed, WalkState, put_in, ended, past_steps, reported, over_part, walked, walk_shown, IsWalk}
 pub use Rattle.stab_ways.specs.declared.way.PlacedLetter.{PlacedLetter}
 pub use Rattle.stab_run.specs.Records.{ones}
 pub use Rattle.stab_items.specs.StepValues.{lookbacks_of, step_shown, steps_shown}
-pub use Rattle.stab_frames.specs.inner.Propagates.{IsMissing}
 pub use Rattle.std.proofs.lemmas.List.Concat.{flat_map-append}
 pub use Rattle.stab_items.specs.Items.{Items, OneItem, next, block, done, before, listed, join, repeat, depth, depth_of as nested_in}
-pub use Rattle.stab_items.specs.Steps.{unroll, rounds}
 pub use Rattle.stab_items.specs.inner.Parts.{part_of}
 pub use Rattle.stab_items.proofs.ItemLemmas.{listed-append, listed_pushed, depth_at}
 pub use Rattle.stab_items.proofs.StepLemmas.{length-rounds, unroll-join}
 pub use Rattle.stab_items.proofs.SummaryLemmas.{few_steps}
 pub use Rattle.stab_run.proofs.FitLemmas.{check-fits, check-whole}
-pub use Rattle.stab_edits.specs.Views.{circuit_items}
+pub use Rattle.stab_items.specs.Views.{circuit_items}

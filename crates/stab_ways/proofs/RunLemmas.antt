@@ -1,9 +1,9 @@
 -- Runs: what a string that is put in flips in them.
-use Rattle.stab_ways.proofs.Names.{◌≡◌, ℕ, ◌+◌, ◌-◌, ◌<◌, ◌≤◌, refl, sym, ◌∙◌, ap, subst, Bool, false, ◌&&◌, List, [], ◌++◌, length, take, drop, All, replicate, get_or, arith, take-take, take-append-drop, All-take, All-nil, All-drop, Letter, I, string_product, string_product-blank, ◌⊕◌, member, IsConjugated, Step, records_of, State, start, run, Point, RunOutput, origin, nothing, all_coins_of, point_after, outputs, StepFits, coins-are, flags-counted, outputs-append, run-state, length-replicate, drop-take, Frame, frame_of, identity_frame, AreFronts, IsFlippedRun, by_frame-same, flipped-run, letter_gates, with_string, way_over, way_flips, frame_begun, string_after, string_flips, coins_with, StringsFlipRuns, FixedOutcomesKeepCoins}
+use Rattle.stab_ways.proofs.Names.{◌≡◌, ℕ, ◌+◌, ◌-◌, ◌<◌, ◌≤◌, refl, sym, ◌∙◌, ap, subst, Bool, false, ◌&&◌, List, [], ◌∷◌, ◌++◌, length, take, drop, All, replicate, get_or, arith, take-take, take-append-drop, All-take, All-nil, All-drop, Letter, I, string_product, string_product-blank, ◌⊕◌, member, IsConjugated, Step, records_of, State, start, run, Point, RunOutput, origin, nothing, all_coins_of, point_after, outputs, StepFits, coins-are, flags-counted, outputs-append, run-state, length-replicate, drop-take, Frame, frame_of, identity_frame, AreFronts, IsFlippedRun, by_frame-same, flipped-run, letter_gates, with_string, way_over, way_flips, frame_begun, string_after, string_flips, coins_with, StringsFlipRuns, LettersFlipRuns, FixedOutcomesKeepCoins, append_assoc, gate_of, one, single, length-one_letter}
 use Rattle.stab_ways.proofs.EnoughLemmas.{Differ, differ-front, get_or-following, get_or-front, long-flips}
 use Rattle.stab_ways.proofs.BlankLemmas.{blank-over}
 use Rattle.stab_ways.proofs.FrontLemmas.{fronts-way}
-use Rattle.stab_ways.proofs.GateLemmas.{product-whole, letters-put}
+use Rattle.stab_ways.proofs.GateLemmas.{product-whole, letter-put, letters-put}
 
 -- a flag for each coin
 long-flags : (n : ℕ) (coins : ℕ → Bool) (xs : List Step) → length (outputs n coins xs origin).free ≡ all_coins_of xs
@@ -117,14 +117,35 @@ module _ (n k : ℕ) (string : List Letter) (xs : List Step) (coins : ℕ → Bo
       (subst (λ us. IsConjugated n (string_after n k string xs m) (member (point_after n coins (front ++ part m) origin).trace)
       (member (point_after n others ((us ++ letter_gates 0 string) ++ part m) origin).trace)) (front-is m le) shown)
 
-  whole : IsFlippedRun n coins others xs (with_string k string xs) (string_flips n k string xs)
-  whole =
-      let all = fronts-way n coins changes back front (front ++ letter_gates 0 string) begun front_flips fits-front fits-back put differ-back in
-      subst (λ ys. IsFlippedRun n coins others ys (with_string k string xs) (string_flips n k string xs)) (take-append-drop k xs)
-      (flipped-run n coins others (front ++ back) (with_string k string xs) (string_flips n k string xs) all.given all.matches)
+  whole : (vs : List Step) → AreFronts n coins others front vs begun front_flips → IsFlippedRun n coins others xs (vs ++ back) (string_flips n k string xs)
+  whole vs there =
+      let all = fronts-way n coins changes back front vs begun front_flips fits-front fits-back there differ-back in
+      subst (λ ys. IsFlippedRun n coins others ys (vs ++ back) (string_flips n k string xs)) (take-append-drop k xs)
+      (flipped-run n coins others (front ++ back) (vs ++ back) (string_flips n k string xs) all.given all.matches)
 
 pub strings-flip : StringsFlipRuns
-strings-flip n k string xs coins fits size = record { run = whole n k string xs coins fits size; states = states n k string xs coins fits size }
+strings-flip n k string xs coins fits size = record {
+  run = whole n k string xs coins fits size (take k xs ++ letter_gates 0 string) (put n k string xs coins fits size);
+  states = states n k string xs coins fits size;
+}
+
+pub letters-flip : LettersFlipRuns
+letters-flip n k l q xs coins fits lt =
+    subst (λ ys. IsFlippedRun n coins (coins_with n k string xs coins) xs ys (string_flips n k string xs)) (append_assoc (take k xs) (g ∷ []) (drop k xs))
+    (whole n k string xs coins fits size (take k xs ++ g ∷ [])
+    (subst (λ s. AreFronts n coins (coins_with n k string xs coins) (take k xs) (take k xs ++ g ∷ []) (frame_of s (records_of (take k xs))) (front_flips n k string xs coins fits size))
+    (string_product-blank n string size)
+    (letter-put n coins (coins_with n k string xs coins) (take k xs) (front_flips n k string xs coins fits size) (take k xs) (identity_frame n (records_of (take k xs))) l q lt
+    (before-blank n k string xs coins fits size))))
+  where
+    g : Step
+    g = one (gate_of l) q
+
+    string : List Letter
+    string = (single n q l).letters
+
+    size : length string ≡ n
+    size = length-one_letter n q l
 
 pub fixed-coins : FixedOutcomesKeepCoins
 fixed-coins n k string xs coins fixed t = ap (λ b. (b && get_or (string_flips n k string xs).outcomes t false) ⊕ coins t) (fixed t)

@@ -1,7 +1,7 @@
 -- Together: what resets leave of a string after several steps is what they leave one by one.
 use Rattle.stab_ways.proofs.Names.{◌≡◌, ℕ, ◌+◌, ◌<◌, ◌≤◌, refl, sym, ◌∙◌, ap, subst, Bool, true, false, not, ◌&&◌, List, [], ◌∷◌, ◌++◌, length, map, take, drop, take-append-drop, take-append_seam, append-nil, length-append, length-take, length-map, map-append, All, All-nil, All-cons, All-head, All-tail, All-take, arith, get_or, list_any, or-left, or-right, Letter, I, X, Y, Z, letter_product, letters_anticommute, single, strings_anticommute, strings_anticommute-comm, one_letter-anticommute, letter_at, acts, Gate, Axis, Measurement, MeasureTarget, ControlledPair, letter_of, Step, one, controlled_step, measured, detector, flip_of, joined, coins_of, StepFits, PropagationState, fits-mapped, map_more, Frame, times_where, letters_after, frame_after, frame_over, flips_given, flips_over, by_letters, reset_leaves, step_leaves, way_after, way_over, way_flips, EndsTogether, IsFront, has_letter_at, steps_leave}
-use Rattle.stab_lines.specs.declared.control.ControlledPair.TheVariants as pair
-use Rattle.stab_lines.specs.declared.axis.Axis.TheVariants as axis
+use Rattle.stab_instructions.specs.declared.control.ControlledPair.TheVariants as pair
+use Rattle.stab_instructions.specs.declared.axis.Axis.TheVariants as axis
 use Rattle.stab_ways.proofs.FixedLemmas.{fixed-frame, fixed-flips}
 use Rattle.stab_gates.proofs.LetterLemmas.{letters_anticommute-I}
 

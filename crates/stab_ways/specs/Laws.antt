@@ -1,11 +1,12 @@
 -- Laws of strings that are put in: what runs show of them, and that what is listed of one is the string there.
-use Rattle.std.specs.Prelude.{◌≡◌, ℕ, ◌≤◌, Bool, false, List, All, length, take, slice_index_or}
+use Rattle.std.specs.Prelude.{◌≡◌, ℕ, ◌≤◌, ◌<◌, Bool, false, List, ◌∷◌, ◌++◌, All, length, take, drop, slice_index_or}
 use Rattle.stab_gates.specs.declared.letter.Letter.{Letter}
 use Rattle.stab_tableau.specs.Traces.{member}
 use Rattle.stab_tableau.specs.Conjugations.{IsConjugated}
 use Rattle.stab_items.specs.Items.{Items}
-use Rattle.stab_items.specs.Steps.{Step, unroll}
-use Rattle.stab_run.specs.Runs.{start, run}
+use Rattle.stab_items.specs.Steps.{Step, one, unroll}
+use Rattle.stab_pauli.specs.Paulis.{single}
+use Rattle.stab_run.specs.Runs.{start, run, gate_of}
 use Rattle.stab_run.specs.Points.{origin, point_after}
 use Rattle.stab_run.specs.ProgramStates.{StepFits}
 use Rattle.stab_frames.specs.Fronts.{IsFlippedRun}
@@ -28,6 +29,12 @@ abbrev pub StringsFlipRuns : Type 0
 StringsFlipRuns =
     (n k : ℕ) (string : List Letter) (xs : List Step) (coins : ℕ → Bool) → All (StepFits n) xs → length string ≡ n →
     FlipsRun n k string xs coins (coins_with n k string xs coins)
+
+-- a letter that is put in as one gate flips what the string does that has no other letter
+abbrev pub LettersFlipRuns : Type 0
+LettersFlipRuns =
+    (n k : ℕ) (l : Letter) (q : ℕ) (xs : List Step) (coins : ℕ → Bool) → All (StepFits n) xs → q < n →
+    IsFlippedRun n coins (coins_with n k (single n q l).letters xs coins) xs (take k xs ++ one (gate_of l) q ∷ drop k xs) (string_flips n k (single n q l).letters xs)
 
 -- and where no outcome is free, the coins are the same
 abbrev pub FixedOutcomesKeepCoins : Type 0

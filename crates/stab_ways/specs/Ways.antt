@@ -6,8 +6,8 @@ use Rattle.std.specs.List.{list_any}
 use Rattle.stab_gates.specs.declared.letter.Letter.{Letter}
 use Rattle.stab_gates.specs.declared.letter.Letter.TheVariants.{I, X, Y, Z}
 use Rattle.stab_pauli.specs.Paulis.{string_product}
-use Rattle.stab_lines.specs.declared.operation.Kind.{Kind}
-use Rattle.stab_lines.specs.declared.operation.Kind.TheVariants as kind
+use Rattle.stab_instructions.specs.declared.operation.Kind.{Kind}
+use Rattle.stab_instructions.specs.declared.operation.Kind.TheVariants as kind
 use Rattle.stab_items.specs.Items.{Items, done, next, block}
 use Rattle.stab_items.specs.Steps.{Step, steps_of, unroll}
 use Rattle.stab_frames.specs.Frames.{Frame}

@@ -10,8 +10,8 @@ ghost use Rattle.stab_ways.specs.inner.Walks.{EndsTogether, IsFront, has_letter_
 
 use stab_frames::Propagation;
 use stab_gates::Letter;
+use stab_instructions::{MeasureTarget, Measurement};
 use stab_items::{Step, Steps};
-use stab_lines::{MeasureTarget, Measurement};
 
 // Measurements that reset are looked at as many at once: a string has letters on few of their qubits.
 const PART: usize = 32;

@@ -8,8 +8,8 @@ ghost use Rattle.stab_ways.specs.Ways.{part_rounds, parts_of, rounds_counted};
 ghost use Rattle.stab_ways.specs.inner.Walks.{walked, walk_shown, IsWalk};
 
 use crate::walk::{Walk, over_instruction};
+use stab_instructions::Kind;
 use stab_items::{Item, Part};
-use stab_lines::Kind;
 use stab_pauli::Pauli;
 use std::alloc::{AllocError, Global};
 

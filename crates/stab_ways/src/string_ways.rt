@@ -3,7 +3,7 @@
 ghost use Rattle.std.specs.Prelude.{◌≡◌, ℕ, Bool, None, length, map, IfOk, IfErr};
 ghost use Rattle.stab_io.specs.declared.refusal.Refusal.TheVariants.{OutOfMemory};
 ghost use Rattle.stab_items.specs.Steps.{unroll, check_within};
-ghost use Rattle.stab_edits.specs.Views.{circuit_items};
+ghost use Rattle.stab_items.specs.Views.{circuit_items};
 ghost use Rattle.stab_ways.specs.PutIn.{string_after, string_flips};
 ghost use Rattle.stab_ways.specs.Ways.{string_turns, turn_shown};
 ghost use Rattle.stab_ways.specs.Laws.{FlipsRun, coins_with};
@@ -12,9 +12,9 @@ use crate::laws::strings_flip_runs;
 use crate::rounds::over_items;
 use crate::walk::{Walk, finish};
 use crate::way::Way;
-use stab_edits::Circuit;
 use stab_frames::{Pivots, Propagation};
 use stab_io::Refusal;
+use stab_items::Circuit;
 use stab_pauli::Pauli;
 use std::alloc::Global;
 

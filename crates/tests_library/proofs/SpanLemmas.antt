@@ -4,11 +4,11 @@ use Rattle.std.proofs.lemmas.List.{length-append}
 use Rattle.std.specs.Prelude.{Option, Some, None, Ok}
 use Rattle.stab_circuit.specs.Items.{OneItem, listed, depth}
 use Rattle.stab_circuit.specs.Steps.{unroll, check_of, check_within}
-use Rattle.stab_edits.proofs.EditLemmas.{edits_leave, steps_split}
-use Rattle.stab_edits.specs.Editings.{IsSpanOf}
-use Rattle.stab_edits.specs.Edits.{edit_path, edited, verdict, list_verdict, first_changed, old_end, new_end, after_taken, after_put, outermost}
-use Rattle.stab_edits.specs.declared.edit.Edit.{Edit}
-use Rattle.stab_edits.specs.declared.edit.Span.{Span}
+use Rattle.stab_items.proofs.EditLemmas.{edits_leave, steps_split}
+use Rattle.stab_items.specs.Editings.{IsSpanOf}
+use Rattle.stab_items.specs.Edits.{edit_path, edited, verdict, list_verdict, first_changed, old_end, new_end, after_taken, after_put, outermost}
+use Rattle.stab_items.specs.declared.edit.Edit.{Edit}
+use Rattle.stab_items.specs.declared.edit.Span.{Span}
 use Rattle.stab_io.specs.declared.refusal.Refusal.{Refusal}
 use Rattle.stab_io.specs.declared.refusal.Refusal.TheVariants.{TooDeep}
 use Rattle.stab_rounds.specs.Spans.{IsSpan, IsEditOf}

@@ -1,7 +1,7 @@
 //! How many sets of errors are a logical error: worked examples, and tables at random beside all sets of their errors.
 use crate::distances::{numbers_of, table_of};
-use stab_distance::{Answer, Table, Unwatched, count_least, least_logical_error};
 use stab_io::Refusal;
+use stab_search::{Answer, Table, Unwatched, count_least, least_logical_error};
 use std::alloc::{AllocError, Global};
 use std::test::Fail;
 

@@ -1,10 +1,10 @@
 //! Parts of a search: of all parts together comes what one search answers.
 
 use crate::distances::numbers_of;
-use stab_distance::{
+use stab_io::Refusal;
+use stab_search::{
     Answer, PartAnswer, SearchPart, Table, Unwatched, least_in_part, least_logical_error,
 };
-use stab_io::Refusal;
 use std::alloc::Global;
 use std::test::Fail;
 

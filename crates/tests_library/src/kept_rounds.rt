@@ -2,8 +2,8 @@
 
 ghost use Rattle.std.specs.Prelude.{◌≡◌, None, OnOk, IfOk};
 ghost use Rattle.stab_circuit.specs.Steps.{unroll, check_of};
-ghost use Rattle.stab_edits.specs.Views.{circuit_items};
-ghost use Rattle.stab_edits.specs.Repeats.{AreRepeats};
+ghost use Rattle.stab_items.specs.Views.{circuit_items};
+ghost use Rattle.stab_items.specs.Repeats.{AreRepeats};
 
 use crate::circuit_edits::{Call, edit_of};
 use stab_circuit::{Circuit, Edit, Path, Refused, Repeat, read_circuit};

@@ -1,6 +1,6 @@
 //! An item that a caller makes, and does not read.
+use stab_instructions::{Kind, Operation, Sequence};
 use stab_items::{Instruction, Item};
-use stab_lines::{Kind, Operation, Sequence};
 use std::alloc::{AllocError, Global};
 
 /// The item of `TICK[by hand]`.

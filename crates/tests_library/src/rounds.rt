@@ -2,7 +2,7 @@
 use stab_circuit::{Repeat, read_circuit};
 use stab_pauli::MemoryInput;
 use stab_rounds::find_rounds;
-use stab_shots::Reference;
+use stab_sampler::Reference;
 use std::alloc::Global;
 use std::test::Fail;
 

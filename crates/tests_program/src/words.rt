@@ -39,6 +39,8 @@ stabsim sample --shots 12 --out_format dets --seed 34 --in a.stim --out b/c.dets
 stabsim detect --out b/c.dets --append_observables --in=a.stim --seed=34 --out_format=dets --shots=12|Detect { format: Dets, shots: Shots { first: 0, number: 12 }, append: true } Seed(34) Some("a.stim") Some("b/c.dets")
 stabsim propagate --at 3/0 X0*Z1 --in a.stim|Propagate { every: false } Seed(0) Some("a.stim") None
 stabsim propagate --every --at 3/0 X0*Z1 --in a.stim|Propagate { every: true } Seed(0) Some("a.stim") None
+stabsim propagate_each --in a.stim|PropagateEach { everywhere: false } Seed(0) Some("a.stim") None
+stabsim propagate_each --everywhere|PropagateEach { everywhere: true } Seed(0) None None
 stabsim sample --first_shot 5 --shots=2|Sample { format: F01, shots: Shots { first: 5, number: 2 } } Seed(0) None None
 stabsim detect --first_shot=18446744073709551615|Detect { format: F01, shots: Shots { first: 18446744073709551615, number: 1 }, append: false } Seed(0) None None
 stabsim sample --out_format 01|Sample { format: F01, shots: Shots { first: 0, number: 1 } } Seed(0) None None

@@ -6,8 +6,8 @@ use crate::stop::Stop;
 use crate::trial::{Ending, Trial, print_ending, try_call};
 use stab_circuit::{Circuit, Cursor};
 use stab_pauli::{MemoryOutput, write_all};
+use stab_sampler::run_shots;
 use stab_session::{ListCoins, Sampler, Shot, run_once};
-use stab_shots::run_shots;
 use std::alloc::Global;
 use std::io;
 

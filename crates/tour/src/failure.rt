@@ -1,4 +1,4 @@
-use stab_pauli::{Fault, Refusal};
+use stabsim_library::{Fault, Refusal};
 use std::alloc::AllocError;
 use std::io;
 use thiserror::Error;

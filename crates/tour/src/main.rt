@@ -14,10 +14,10 @@ mod shown;
 
 use failure::Failure;
 use shown::{Bits, ShownRow};
-use stab_circuit::{Circuit, Path, read_circuit, read_item};
-use stab_pauli::MemoryInput;
-use stab_session::{Edit, ListCoins, Session, run_once};
-use stab_shots::run_shots;
+use stabsim_library::{
+    Circuit, Edit, ListCoins, MemoryInput, Path, Session, read_circuit, read_item, run_once,
+    run_shots,
+};
 
 /// A Bell pair, and a detector that compares its two measurements.
 const TEXT: &[u8] = b"H 0\nCX 0 1\nM 0 1\nDETECTOR rec[-1] rec[-2]\n";

@@ -1,4 +1,4 @@
-use stab_pauli::{Letter, Pauli};
+use stabsim_library::{Letter, Pauli};
 use std::fmt;
 
 /// Bits as characters 0 and 1.

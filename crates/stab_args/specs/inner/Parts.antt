@@ -40,7 +40,7 @@ IsOneOf (first ∷ rest) name = (name ≡ first) ⊎ IsOneOf rest name
 
 -- the names of the program's commands
 abbrev pub command_names : List Text
-command_names = codes "sample" ∷ codes "detect" ∷ codes "stabilisers" ∷ codes "edit" ∷ codes "check" ∷ codes "deterministic" ∷ codes "faults" ∷ codes "coins" ∷ codes "distance" ∷ codes "propagate" ∷ []
+command_names = codes "sample" ∷ codes "detect" ∷ codes "stabilisers" ∷ codes "edit" ∷ codes "check" ∷ codes "deterministic" ∷ codes "faults" ∷ codes "coins" ∷ codes "distance" ∷ codes "propagate" ∷ codes "propagate_each" ∷ []
 
 -- a name is that of one of them
 abbrev pub IsCommandName : Text → Type 0

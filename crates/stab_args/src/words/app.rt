@@ -1,7 +1,7 @@
 //! The commands of the program and their options, as the command line reader is given them.
 ghost use Rattle.std.specs.Prelude.{IfOk};
 ghost use Rattle.clap.specs.Words.{App, Rule, new_app, with_rule, with_subcommand};
-ghost use Rattle.stab_args.specs.Options.{alone, bare, check, coins, detect, deterministic, deterministic_only, distance, edit, faults, flag, last_observable, most_errors, named, numbered, one_name, positional, propagate, ranged, shot_command, stabilisers, stabsim, valued, wanted};
+ghost use Rattle.stab_args.specs.Options.{alone, bare, check, coins, detect, deterministic, deterministic_only, distance, edit, faults, flag, last_observable, most_errors, named, numbered, one_name, positional, propagate, propagate_each, ranged, shot_command, stabilisers, stabsim, valued, wanted};
 ghost use Rattle.stab_args.specs.inner.Parts.{IsApp, IsOption, with_common, with_files};
 
 use crate::words::help;
@@ -315,6 +315,20 @@ fn propagate_command<'a>(alloc: Global) -> Result<Command<'a>, AllocError>
     with_files(alloc, command, help::IN)
 }
 
+/// The command `propagate_each`, which takes no coins.
+fn propagate_each_command<'a>(alloc: Global) -> Result<Command<'a>, AllocError>
+    ensures app { IfOk result (IsApp (alone propagate_each)) }
+{
+    let command = Ok(named_command(
+        alloc,
+        "propagate_each",
+        help::ABOUT_PROPAGATE_EACH,
+        help::AFTER_PROPAGATE_EACH,
+    ));
+    let command = with_option(command, flag(alloc, "everywhere", help::EVERYWHERE));
+    with_files(alloc, command, help::IN)
+}
+
 /// The command `detect`.
 fn detect_command<'a>(alloc: Global, formats: &'a [&'a str]) -> Result<Command<'a>, AllocError>
     ensures app { IfOk result (IsApp (alone (detect formats.entry))) }
@@ -375,5 +389,6 @@ pub(crate) fn app<'a>(
     let program = with_command(program, faults_command(alloc, formats));
     let program = with_command(program, coins_command(alloc, formats));
     let program = with_command(program, distance_command(alloc, letters));
-    with_command(program, propagate_command(alloc))
+    let program = with_command(program, propagate_command(alloc));
+    with_command(program, propagate_each_command(alloc))
 }

@@ -28,6 +28,9 @@ pub(crate) const ABOUT_DISTANCE: &str =
 pub(crate) const ABOUT_PROPAGATE: &str =
     "Says what a Pauli string becomes that is put in, and what it flips";
 
+pub(crate) const ABOUT_PROPAGATE_EACH: &str =
+    "Says what each error flips, and which Pauli string it leaves at the end";
+
 pub(crate) const ABOUT_EDIT: &str =
     "Edits a circuit by a script, and writes the reply to each line";
 
@@ -101,6 +104,7 @@ follow. It may also ask for these, which are refused 13 without it:
   show deterministic    1 for each detector and observable that is the same for all coins
   show why D37          the coins that decide a detector or observable, in the words of --explain
   show coins            what each coin flips, in the words of `coins`
+  show way 2/0 X0*Z3    what a string becomes that is put in at a place, in the words of `propagate`
   show distance 5       the distance if it is at most 5; show distance 5 everywhere takes errors everywhere
 
 Examples, at the top of the repository; without --qubits 1 the first line of the first is refused 6:
@@ -198,6 +202,22 @@ these outcomes exchanged, the run with the string is the run without it, flipped
 
 Example, at the top of the repository:
   printf 'R 0 1\\nCX 0 1\\nM 0 1\\n' | ./stabsim propagate --at 1 X0
+
+See docs/use/faults.md. Refusals, by number and name, are explained in docs/use/refusals.md.
+";
+
+pub(crate) const AFTER_PROPAGATE_EACH: &str = "\
+Errors are those of `faults`: X and Z at each target of I, or with --everywhere at each gate, measurement and
+reset. Each has a line: how many steps come before it, the path of the item that it is at, the Pauli, the records,
+detectors and observables that it flips, and the string that it leaves at the end, 1 if it has no letter, as in
+
+  1207 3/0/2 X17 M3 D24 L0 left X3*Z4
+
+That is what `propagate` says of this Pauli there. A measurement that anticommutes with the string is flipped, also
+if its outcome is random.
+
+Example, at the top of the repository:
+  printf 'R 0 1\\nI 0\\nCX 0 1\\nM 1\\n' | ./stabsim propagate_each
 
 See docs/use/faults.md. Refusals, by number and name, are explained in docs/use/refusals.md.
 ";

@@ -234,6 +234,9 @@ fn command(alloc: Global, name: &str, options: &ArgMatches) -> Result<Command, U
         "propagate" => Command::Propagate {
             every: flag(options, "every"),
         },
+        "propagate_each" => Command::PropagateEach {
+            everywhere: flag(options, "everywhere"),
+        },
         _ => Command::Edit {
             framed: flag(options, "framed"),
             qubits: qubits(options),

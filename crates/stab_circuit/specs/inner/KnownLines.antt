@@ -2,12 +2,12 @@
 -- Source: this project's own.
 use Rattle.std.specs.Prelude.{◌≡◌, ℕ, false, List, [], ◌∷◌, ◌++◌, All, Option, Some, None, Ok}
 use Rattle.std.specs.List.{slice_split}
-use Rattle.stab_lines.specs.declared.operation.Operation.{Operation}
-use Rattle.stab_lines.specs.declared.operation.Line.{Line}
-use Rattle.stab_lines.specs.declared.operation.Line.TheVariants as line
-use Rattle.stab_lines.specs.Lines.{is_byte, content_of}
-use Rattle.stab_lines.specs.Words.{pieces_after}
-use Rattle.stab_lines.specs.Meanings.{meaning_of}
+use Rattle.stab_instructions.specs.declared.operation.Operation.{Operation}
+use Rattle.stab_instructions.specs.declared.operation.Line.{Line}
+use Rattle.stab_instructions.specs.declared.operation.Line.TheVariants as line
+use Rattle.stab_instructions.specs.Lines.{is_byte, content_of}
+use Rattle.stab_instructions.specs.Words.{pieces_after}
+use Rattle.stab_instructions.specs.Meanings.{meaning_of}
 use Rattle.stab_items.specs.Items.{OneItem, operation}
 
 -- no line ends in it

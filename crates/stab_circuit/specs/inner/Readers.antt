@@ -9,15 +9,15 @@ use Rattle.stab_io.specs.declared.refusal.Refusal.{Refusal}
 use Rattle.stab_io.specs.declared.refusal.Refusal.TheVariants.{BadBlock, TooDeep, OutOfMemory}
 use Rattle.stab_io.specs.declared.refusal.Fault.{Fault}
 use Rattle.stab_io.specs.Refusals.{whole}
-use Rattle.stab_lines.specs.declared.operation.Line.TheVariants.{Blank, Close, Open}
-use Rattle.stab_lines.specs.declared.operation.Line.TheVariants as line
+use Rattle.stab_instructions.specs.declared.operation.Line.TheVariants.{Blank, Close, Open}
+use Rattle.stab_instructions.specs.declared.operation.Line.TheVariants as line
 use Rattle.stab_circuit.specs.declared.reader.OpenBlock.{OpenBlock as StoredBlock}
 use Rattle.stab_circuit.specs.declared.reader.CircuitReader.{CircuitReader}
 use Rattle.stab_items.specs.Items.{Items, OneItem, done, next, block, before, join, listed, depth}
-use Rattle.stab_lines.specs.declared.operation.Operation.{Operation}
-use Rattle.stab_lines.specs.Lines.{is_byte, content_of}
-use Rattle.stab_lines.specs.Words.{pieces_after}
-use Rattle.stab_lines.specs.Meanings.{meaning_of}
+use Rattle.stab_instructions.specs.declared.operation.Operation.{Operation}
+use Rattle.stab_instructions.specs.Lines.{is_byte, content_of}
+use Rattle.stab_instructions.specs.Words.{pieces_after}
+use Rattle.stab_instructions.specs.Meanings.{meaning_of}
 use Rattle.stab_items.specs.Circuits.{Meaning, at_line, meaning_after, one_item, contents}
 
 -- an open block, and the items before it

@@ -6,8 +6,8 @@ use Rattle.std.specs.Option.{option_copied}
 use Rattle.stab_io.specs.declared.refusal.Refusal.{Refusal}
 use Rattle.stab_io.specs.declared.refusal.Refusal.TheVariants.{OutOfMemory}
 use Rattle.stab_io.specs.declared.refusal.Fault.{Fault}
-use Rattle.stab_lines.specs.Lines.{is_byte, content_of}
-use Rattle.stab_lines.specs.Words.{pieces_after}
+use Rattle.stab_instructions.specs.Lines.{is_byte, content_of}
+use Rattle.stab_instructions.specs.Words.{pieces_after}
 use Rattle.stab_circuit.specs.declared.stretches.Stretch.{Stretch}
 use Rattle.stab_circuit.specs.declared.stretches.Run.{Run}
 use Rattle.stab_circuit.specs.declared.stretches.Stretches.{Stretches}

@@ -6,8 +6,8 @@ use Rattle.stab_io.specs.Refusals.{whole}
 use Rattle.stab_io.specs.declared.refusal.Refusal.TheVariants.{WriteFault}
 use Rattle.stab_io.specs.declared.refusal.Fault.{Fault}
 use Rattle.stab_pauli.specs.Paulis.{Signed}
-use Rattle.stab_texts.specs.Endings.{FailsToSend, TookAndFlushed}
-use Rattle.stab_texts.specs.Rows.{lines_of}
+use Rattle.stab_report.specs.Endings.{FailsToSend, TookAndFlushed}
+use Rattle.stab_report.specs.Rows.{lines_of}
 
 -- the lines of these strings were sent: all of them, with a flush after them; or the output failed
 abbrev pub SendsLines : {T : Type 0} → List Signed → OutputView → OutputView → Result T Fault → Type 0

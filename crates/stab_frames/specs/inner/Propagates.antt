@@ -5,8 +5,8 @@ use Rattle.stab_gates.specs.declared.letter.Letter.{Letter}
 use Rattle.stab_gates.specs.Letters.{◌⊕◌, letters_anticommute}
 use Rattle.stab_pauli.specs.Paulis.{strings_anticommute}
 use Rattle.stab_tableau.specs.Gates.{letter_at}
-use Rattle.stab_lines.specs.declared.product.Factor.{Factor}
-use Rattle.stab_lines.specs.Axes.{letter_of}
+use Rattle.stab_instructions.specs.declared.product.Factor.{Factor}
+use Rattle.stab_instructions.specs.Axes.{letter_of}
 use Rattle.stab_items.specs.Steps.{Step}
 use Rattle.stab_run.specs.Records.{ones}
 use Rattle.stab_run.specs.Runs.{measured_by}

@@ -5,9 +5,9 @@ use Rattle.stab_gates.specs.declared.letter.Letter.{Letter}
 use Rattle.stab_gates.specs.declared.letter.Letter.TheVariants.{I, X, Y, Z}
 use Rattle.stab_gates.specs.Letters.{letters_anticommute}
 use Rattle.stab_tableau.specs.Gates.{letter_at}
-use Rattle.stab_lines.specs.declared.control.ControlledPair.{ControlledPair}
-use Rattle.stab_lines.specs.declared.control.ControlledPair.TheVariants as pair
-use Rattle.stab_lines.specs.declared.range.MeasureTarget.{MeasureTarget}
+use Rattle.stab_instructions.specs.declared.control.ControlledPair.{ControlledPair}
+use Rattle.stab_instructions.specs.declared.control.ControlledPair.TheVariants as pair
+use Rattle.stab_instructions.specs.declared.range.MeasureTarget.{MeasureTarget}
 
 -- whether a letter is other than I
 abbrev pub acts : Letter → Bool

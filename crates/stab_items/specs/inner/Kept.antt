@@ -3,8 +3,8 @@
 use Rattle.std.specs.Prelude.{◌≡◌, ◌≤◌, []}
 use Rattle.stab_items.specs.declared.item.Node.{Node}
 use Rattle.stab_items.specs.declared.item.Node.TheVariants as node
-use Rattle.stab_lines.specs.declared.operation.Kind.TheVariants as kind
-use Rattle.stab_lines.specs.Rules.{IsTag}
+use Rattle.stab_instructions.specs.declared.operation.Kind.TheVariants as kind
+use Rattle.stab_instructions.specs.Rules.{IsTag}
 use Rattle.stab_items.specs.Items.{OneItem, operation, repeat, listed, AreGood}
 use Rattle.stab_items.specs.inner.Summaries.{summary_of, IsSummary}
 

@@ -1,10 +1,10 @@
 -- Parts: what a borrowed item shows of itself.
 -- Source: this project's own.
 use Rattle.std.specs.Prelude.{◌≡◌, ◌≤◌, []}
-use Rattle.stab_lines.specs.declared.operation.Kind.TheVariants as kind
+use Rattle.stab_instructions.specs.declared.operation.Kind.TheVariants as kind
 use Rattle.stab_items.specs.declared.item.Part.{Part}
 use Rattle.stab_items.specs.declared.item.Part.TheVariants as part
-use Rattle.stab_lines.specs.Rules.{IsTag}
+use Rattle.stab_instructions.specs.Rules.{IsTag}
 use Rattle.stab_items.specs.Items.{OneItem, operation, repeat, listed}
 use Rattle.stab_items.specs.inner.Summaries.{summary_of}
 

@@ -4,7 +4,7 @@ use Rattle.std.proofs.Common.{◌≡◌, ℕ, ◌-◌, List, refl, sym, ap}
 use Rattle.std.specs.Coded.{Coded, coded_ℕ, coded_list, coded×}
 use base.Stored.{Gv, gnil, gnum, gcons, num}
 use native.Mathlib.Nat.{suc-ne-zero}
-use Rattle.stab_lines.specs.contracts.operation.Operation.{the_row}
+use Rattle.stab_instructions.specs.contracts.operation.Operation.{the_row}
 use Rattle.stab_items.specs.Items.{Items, OneItem, done, next, block, operation, repeat}
 
 -- the first and the second branch of a tree, or an empty tree

@@ -5,10 +5,10 @@ use Rattle.stab_io.specs.declared.refusal.Refusal.{Refusal}
 use Rattle.stab_io.specs.declared.refusal.Refusal.TheVariants.{LookbackTooFar, TooManySteps}
 use Rattle.stab_gates.specs.Limits.{most_qubits}
 use Rattle.stab_items.specs.declared.summary.Summary.{Summary}
-use Rattle.stab_lines.specs.declared.control.ControlledPair.{ControlledPair}
-use Rattle.stab_lines.specs.declared.control.ControlledPair.TheVariants as pair
-use Rattle.stab_lines.specs.Limits.{most_lookback}
-use Rattle.stab_lines.specs.declared.operation.Kind.{Kind}
+use Rattle.stab_instructions.specs.declared.control.ControlledPair.{ControlledPair}
+use Rattle.stab_instructions.specs.declared.control.ControlledPair.TheVariants as pair
+use Rattle.stab_instructions.specs.Limits.{most_lookback}
+use Rattle.stab_instructions.specs.declared.operation.Kind.{Kind}
 use Rattle.stab_items.specs.Items.{Items, depth, AreGood}
 use Rattle.stab_items.specs.Steps.{Step, makes, records_of, detectors_of, lookbacks, steps_of, unroll, past, named_qubits, named_observables, qubits_of, observables_of, most_steps, steps_cap}
 

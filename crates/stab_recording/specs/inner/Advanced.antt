@@ -1,7 +1,7 @@
 -- Rounds: where they end among a circuit's steps.
 -- Source: this project's own.
 use Rattle.std.specs.Prelude.{ℕ, ◌+◌, ◌*◌}
-use Rattle.stab_edits.specs.declared.circuit.repeats.Repeat.{Repeat}
+use Rattle.stab_items.specs.declared.circuit.repeats.Repeat.{Repeat}
 
 -- the step after this many rounds
 abbrev pub after_rounds : Repeat → ℕ → ℕ

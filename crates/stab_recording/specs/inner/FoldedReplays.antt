@@ -4,8 +4,8 @@ use Rattle.std.specs.Prelude.{◌≡◌, ◌≢◌, ℕ, ◌+◌, ◌-◌, ◌*�
 use Rattle.stab_tableau.specs.Tableaus.{TableauState, stabilises}
 use Rattle.stab_tableau.specs.Conjugations.{IsConjugated}
 use Rattle.stab_items.specs.Steps.{Step, most_steps}
-use Rattle.stab_edits.specs.declared.circuit.repeats.Repeat.{Repeat}
-use Rattle.stab_edits.specs.Repeats.{IsRepeat}
+use Rattle.stab_items.specs.declared.circuit.repeats.Repeat.{Repeat}
+use Rattle.stab_items.specs.Repeats.{IsRepeat}
 use Rattle.stab_run.specs.Records.{ones}
 use Rattle.stab_run.specs.Points.{RunOutput, origin, joined, all_coins_of, point_after}
 use Rattle.stab_run.specs.ProgramStates.{StepFits, output_of}

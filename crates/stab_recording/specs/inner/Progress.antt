@@ -1,6 +1,6 @@
 -- Progress: how far a call takes a replay, and what it carries out on the way.
 -- Source: this project's own.
-use Rattle.std.specs.Prelude.{◌≡◌, ℕ, ◌+◌, ◌≤◌, Bool, List, All, length, take, drop}
+use Rattle.std.specs.Prelude.{◌≡◌, ℕ, ◌+◌, ◌≤◌, Bool, List, All, length, drop}
 use Rattle.stab_items.specs.Steps.{Step, most_steps}
 use Rattle.stab_run.specs.Points.{all_coins_of}
 use Rattle.stab_run.specs.ProgramStates.{StepFits}
@@ -26,5 +26,4 @@ pub record IsFurther (before after : ℕ) (old new : Replay) : Type 0 where
 pub record HasCarriedOut (n : ℕ) (coins : ℕ → Bool) (old new : Replay) : Type 0 where
   pub at_step : IsAtStep n coins old.cursor.all new
   pub saved : new.saved.items ≡ old.saved.items
-  pub records : old.outputs.records.items ≡ take (length old.outputs.records.items) new.outputs.records.items
   pub by_frame : new.by_frame ≡ old.by_frame

@@ -4,16 +4,15 @@ use Rattle.std.specs.Prelude.{◌≡◌, ◌≢◌, ◌⊎◌, ℕ, ◌≤◌, B
 use Rattle.stab_items.specs.Steps.{Step}
 use Rattle.stab_tableau.specs.Tableaus.{TableauState}
 use Rattle.stab_run.specs.Points.{RunOutput}
-use Rattle.stab_frames.specs.Pivots.{PivotsState}
 use Rattle.stab_recording.specs.declared.checkpoint.Checkpoint.{Checkpoint}
 use Rattle.stab_recording.specs.declared.replay.Plan.{Plan}
 use Rattle.stab_recording.specs.declared.replay.Replay.{Replay}
 use Rattle.stab_recording.specs.Replays.{IsAtStep, step_among_new}
-use Rattle.stab_recording.specs.PropagatedReplays.{IsOldRun}
+use Rattle.stab_recording.specs.OldRuns.{IsOldRun}
 
 -- a replay of the new steps and an older run have the same coins
-pub record IsBeside (n : ℕ) (coins : ℕ → Bool) (p : Plan) (ys : List Step) (checkpoints : List Checkpoint) (o : RunOutput) (s : PivotsState) (r : Replay) : Type 0 where
-  pub old : IsOldRun n coins p ys checkpoints o s
+pub record IsBeside (n : ℕ) (coins : ℕ → Bool) (p : Plan) (ys : List Step) (checkpoints : List Checkpoint) (o : RunOutput) (r : Replay) : Type 0 where
+  pub old : IsOldRun n coins p ys checkpoints o
   pub at_step : IsAtStep n coins ys r
 
 -- a replay is at the place of an old checkpoint after what was changed, and has another number of the next coin there, or other records

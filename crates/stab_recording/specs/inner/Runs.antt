@@ -3,8 +3,8 @@
 use Rattle.std.specs.Prelude.{◌≡◌, ℕ, Bool, List, [], None, All, length}
 use Rattle.stab_items.specs.Items.{Items}
 use Rattle.stab_items.specs.Steps.{Step, unroll, check_within}
-use Rattle.stab_edits.specs.declared.circuit.repeats.Repeat.{Repeat}
-use Rattle.stab_edits.specs.Repeats.{AreRepeats, IsRepeat}
+use Rattle.stab_items.specs.declared.circuit.repeats.Repeat.{Repeat}
+use Rattle.stab_items.specs.Repeats.{AreRepeats, IsRepeat}
 use Rattle.stab_run.specs.ProgramStates.{StepFits}
 use Rattle.stab_recording.specs.declared.replay.Plan.{Plan}
 use Rattle.stab_recording.specs.declared.replay.Replay.{Replay}
@@ -14,7 +14,7 @@ use Rattle.stab_recording.specs.inner.Progress.{AreRunnable}
 
 -- a run of this many steps: checkpoints may lie as far from each other as there are steps
 abbrev pub plan_of_run : ℕ → Plan
-plan_of_run total = record { total = total; stride = total; old_end = 0; new_end = 0; next = 0; base = 0; window = 0 }
+plan_of_run total = record { total = total; stride = total; old_end = 0; new_end = 0; next = 0; window = 0 }
 
 -- a run of these steps has come so far, and its checkpoints are of itself
 abbrev pub IsOwnRun : ℕ → (ℕ → Bool) → List Step → Replay → Type 0

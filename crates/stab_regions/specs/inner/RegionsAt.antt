@@ -6,7 +6,7 @@ use Rattle.stab_regions.specs.declared.regions.Regions.{Regions}
 use Rattle.stab_regions.specs.Regions.{Region, region_of, region_before, keeps_region, with_looks, asks_observable}
 use Rattle.stab_regions.specs.Tables.{named}
 use Rattle.stab_regions.specs.Parities.{detectors_before, parity_region, parity_kept, parity_flips, parity_deterministic}
-use Rattle.stab_distance.specs.Ascending.{IsAscending}
+use Rattle.stab_search.specs.Ascending.{IsAscending}
 use Rattle.stab_regions.specs.Rows.{odd, ShowsRegion}
 
 -- the rows show parity i's region

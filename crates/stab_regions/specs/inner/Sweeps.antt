@@ -4,9 +4,9 @@ use Rattle.std.specs.List.{flat_map}
 use Rattle.stab_gates.specs.declared.letter.Letter.{Letter}
 use Rattle.stab_gates.specs.declared.letter.Letter.TheVariants as letter
 use Rattle.stab_items.specs.Steps.{Step, observable, detectors_of}
-use Rattle.stab_edits.specs.Cursors.{HasDistinctQubits}
+use Rattle.stab_items.specs.Cursors.{HasDistinctQubits}
 use Rattle.stab_run.specs.ProgramStates.{StepFits}
-use Rattle.stab_distance.specs.Ascending.{IsAscending}
+use Rattle.stab_search.specs.Ascending.{IsAscending}
 use Rattle.stab_regions.specs.Rows.{odd}
 use Rattle.stab_regions.specs.Parities.{parity_flips}
 use Rattle.stab_regions.specs.Faults.{Site}

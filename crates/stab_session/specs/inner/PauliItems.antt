@@ -5,12 +5,12 @@ use Rattle.std.specs.List.{AllByRecursion}
 use Rattle.stab_gates.specs.declared.letter.Letter.{Letter}
 use Rattle.stab_gates.specs.declared.gate.Gate.{Gate}
 use Rattle.stab_gates.specs.declared.gate.Gate.TheVariants as gate
-use Rattle.stab_lines.specs.declared.operation.Kind.{Kind}
-use Rattle.stab_lines.specs.declared.operation.Kind.TheVariants as kind
+use Rattle.stab_instructions.specs.declared.operation.Kind.{Kind}
+use Rattle.stab_instructions.specs.declared.operation.Kind.TheVariants as kind
 use Rattle.stab_circuit.specs.Items.{OneItem, operation, repeat, listed}
 use Rattle.stab_circuit.specs.Steps.{one, unroll, past, qubits_of, check_within, most_steps}
-use Rattle.stab_edits.specs.Places.{item_at}
-use Rattle.stab_edits.specs.Rounds.{pieces}
+use Rattle.stab_items.specs.Places.{item_at}
+use Rattle.stab_items.specs.Rounds.{pieces}
 use Rattle.stab_run.specs.Runs.{gate_of}
 use Rattle.stab_session.specs.declared.pending.Pending.{Pending}
 use Rattle.stab_session.specs.declared.pending.Pending.TheVariants.{Inserted, Replaced, Deleted}

@@ -4,11 +4,11 @@ use Rattle.std.specs.Prelude.{◌≡◌, ℕ, List, Option, None, Result, Ok}
 use Rattle.stab_io.specs.declared.refusal.Refusal.{Refusal}
 use Rattle.stab_circuit.specs.Items.{OneItem, listed}
 use Rattle.stab_circuit.specs.Steps.{unroll, observables_of, check_within}
-use Rattle.stab_edits.specs.Paths.{Path}
-use Rattle.stab_edits.specs.Edits.{edited, list_refusal, verdict, taken, put_item, first_changed, old_end, new_end}
-use Rattle.stab_edits.specs.declared.edit.Edit.{Edit}
-use Rattle.stab_edits.specs.declared.edit.Span.{Span}
-use Rattle.stab_edits.specs.declared.edit.Edit.TheVariants.{Insert, Replace, Delete}
+use Rattle.stab_items.specs.Paths.{Path}
+use Rattle.stab_items.specs.Edits.{edited, list_refusal, verdict, taken, put_item, first_changed, old_end, new_end}
+use Rattle.stab_items.specs.declared.edit.Edit.{Edit}
+use Rattle.stab_items.specs.declared.edit.Span.{Span}
+use Rattle.stab_items.specs.declared.edit.Edit.TheVariants.{Insert, Replace, Delete}
 use Rattle.stab_session.specs.declared.pending.Pending.{Pending}
 use Rattle.stab_session.specs.declared.pending.Pending.TheVariants.{Inserted, Replaced, Deleted}
 use Rattle.stab_rounds.specs.Spans.{IsSpan}

@@ -5,13 +5,13 @@ use Rattle.std.specs.Coded.{Coded, code_by, coded×, coded_ℕ, coded_bool, code
 use Rattle.stab_gates.specs.Limits.{most_qubits}
 use Rattle.stab_circuit.specs.Items.{Items}
 use Rattle.stab_circuit.specs.Steps.{unroll, observables_of, check_within}
-use Rattle.stab_edits.specs.Cursors.{HasDistinctQubits}
-use Rattle.stab_splices.specs.declared.recording.Recording.{Recording}
+use Rattle.stab_items.specs.Cursors.{HasDistinctQubits}
+use Rattle.stab_session.specs.declared.recording.Recording.{Recording}
 use Rattle.stab_circuit.specs.Limits.{most_stride}
 use Rattle.stab_session.specs.Sessions.{SessionState}
 use Rattle.stab_session.specs.Headline.{IsRunOfItems}
 use Rattle.stab_recording.specs.Checkpoints.{checkpoint_steps}
-use Rattle.stab_splices.specs.Recordings.{IsRecording}
+use Rattle.stab_session.specs.Recordings.{IsRecording}
 use Rattle.stab_items.specs.inner.StoredItems.{items_code}
 
 -- the four lists of bits of a session, and the steps of its checkpoints

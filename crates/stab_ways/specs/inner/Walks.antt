@@ -5,7 +5,7 @@ use Rattle.stab_pauli.specs.Paulis.{string_product}
 use Rattle.stab_items.specs.Steps.{Step}
 use Rattle.stab_run.specs.Points.{joined, all_coins_of}
 use Rattle.stab_frames.specs.Propagations.{PropagationState, frame_at, IsPlaced}
-use Rattle.stab_lines.specs.declared.range.MeasureTarget.{MeasureTarget}
+use Rattle.stab_instructions.specs.declared.range.MeasureTarget.{MeasureTarget}
 use Rattle.stab_tableau.specs.Gates.{letter_at}
 use Rattle.stab_frames.specs.Frames.{Frame}
 use Rattle.stab_frames.specs.inner.Touches.{acts}

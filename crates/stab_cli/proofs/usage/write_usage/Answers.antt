@@ -1,7 +1,7 @@
 use Rattle.std.proofs.Common.{◌∙◌, subst, inr}
 use Rattle.stab_io.specs.Refusals.{whole}
-use Rattle.stab_texts.specs.Endings.{FailsToSend}
-use Rattle.stab_texts.specs.FaultLines.{ReportsFault}
+use Rattle.stab_report.specs.Endings.{FailsToSend}
+use Rattle.stab_report.specs.FaultLines.{ReportsFault}
 use Rattle.stab_cli.proofs.usage.write_usage.Goals as goal
 
 pub returns-in-Err : goal.returns-in-Err

@@ -1,5 +1,5 @@
 use Rattle.stab_commands.proofs.Names.{◌≡◌, ◌∙◌, ◌+◌, ap, sym, length, arith, subst, Took, of_shots, sends_none, sent_shot, shots_break_off, cut_off_as, written}
-use Rattle.stab_commands.proofs.LineLaws.{length-line}
+use Rattle.stab_commands.proofs.LaneLineLaws.{length-line}
 use Rattle.stab_commands.proofs.packed.send_lines.Goals as goal
 
 pub loop-lane-preserved : goal.loop-lane-preserved

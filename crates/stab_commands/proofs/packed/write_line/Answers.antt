@@ -1,5 +1,5 @@
 use Rattle.stab_commands.proofs.Names.{rules, arith, ◌≡◌, ◌+◌, ◌/◌, ◌^◌, refl, ap, length, get_or, set, bit_and, bit_at, and_mask}
-use Rattle.stab_commands.proofs.LineLaws.{next-digit, line-end}
+use Rattle.stab_commands.proofs.LaneLineLaws.{next-digit, line-end}
 use Rattle.stab_commands.proofs.packed.write_line.Goals as goal
 
 pub loop-k-preserved : goal.loop-k-preserved

@@ -1,5 +1,5 @@
 use Rattle.stab_commands.proofs.Names.{◌≡◌, ◌+◌, take, length}
-use Rattle.stab_commands.proofs.LineLaws.{digits}
+use Rattle.stab_commands.proofs.LaneLineLaws.{digits}
 use Rattle.stab_commands.proofs.packed.write_line.Given as goal
 
 abbrev pub invariant-loop-k : goal.invariant-loop-k

@@ -1,6 +1,6 @@
 use Rattle.stab_commands.proofs.Names.{rules, arith, ◌≡◌, ◌%◌, ◌-◌, ℕ, List, [], Option, subst, IsErrAnd, Took, qubits_of, circuit_items, seed_coin, run_of, IsReference, if-copied, memory_alone, shown_bytes, sends_none}
 use Rattle.stab_commands.proofs.ShotLaws.{front_breaks_off, rest_sent}
-use Rattle.stab_shots.specs.declared.reference.Reference.{Reference}
+use Rattle.stab_sampler.specs.declared.reference.Reference.{Reference}
 use Rattle.stab_commands.proofs.shots.send_in_lanes.Goals as goal
 
 pub returns-in_err-found : goal.returns-in_err-found

@@ -1,5 +1,5 @@
 use Rattle.stab_session.proofs.Names.{refl, subst, IfSome, length, AreGaps}
-use Rattle.stab_session.proofs.PauliSpanLemmas.{taken-fit, put-fit, pending-differs}
+use Rattle.stab_session.proofs.PendingSpanLemmas.{taken-fit, put-fit, pending-differs}
 use Rattle.stab_session.proofs.PendingLemmas.{few}
 use Rattle.stab_session.proofs.paulis.difference.Goals as goal
 

@@ -1,8 +1,8 @@
 use Rattle.std.proofs.Common.{ℕ, ◌+◌, ◌<◌, ◌≤◌, List, [], ◌∷◌, ◌++◌, subst, sym, ◌∙◌, ap, arith}
 use Rattle.std.specs.Global.{Vec}
-use Rattle.stab_distance.specs.Ascending.{AscendsFrom, IsAscending}
-use Rattle.stab_distance.specs.inner.Lists.{Each}
-use Rattle.stab_distance.proofs.ListLemmas.{each-map, each-push}
+use Rattle.stab_search.specs.Ascending.{AscendsFrom, IsAscending}
+use Rattle.stab_search.specs.inner.Lists.{Each}
+use Rattle.stab_search.proofs.ListLemmas.{each-map, each-push}
 use Rattle.tests_library.proofs.distances.numbers_of.Goals as goal
 use Rattle.tests_library.proofs.distances.numbers_of.Goals.{then-bits-n-eq1+in_ok-push, else-bits-n-eq1}
 

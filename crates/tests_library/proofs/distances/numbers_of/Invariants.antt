@@ -1,6 +1,6 @@
 use Rattle.std.proofs.Common.{◌<◌}
-use Rattle.stab_distance.specs.Ascending.{IsAscending}
-use Rattle.stab_distance.specs.inner.Lists.{Each}
+use Rattle.stab_search.specs.Ascending.{IsAscending}
+use Rattle.stab_search.specs.inner.Lists.{Each}
 use Rattle.tests_library.proofs.distances.numbers_of.Given as goal
 
 abbrev pub invariant-bits : goal.invariant-bits

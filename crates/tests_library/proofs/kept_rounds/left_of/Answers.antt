@@ -1,5 +1,5 @@
 use Rattle.stab_circuit.specs.Steps.{unroll}
-use Rattle.stab_edits.specs.Views.{circuit_items}
+use Rattle.stab_items.specs.Views.{circuit_items}
 use Rattle.tests_library.proofs.SpanLemmas.{edit-of}
 use Rattle.tests_library.proofs.kept_rounds.left_of.Goals as goal
 

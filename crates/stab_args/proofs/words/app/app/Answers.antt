@@ -11,4 +11,5 @@ returns c =
     let seventh = c.with_command-program-7.ensures.app _ _ sixth c.faults_command.ensures.app in
     let eighth = c.with_command-program-8.ensures.app _ _ seventh c.coins_command.ensures.app in
     let ninth = c.with_command-program-9.ensures.app _ _ eighth c.distance_command.ensures.app in
-    record { app = c.with_command.ensures.app _ _ ninth c.propagate_command.ensures.app }
+    let tenth = c.with_command-program-10.ensures.app _ _ ninth c.propagate_command.ensures.app in
+    record { app = c.with_command.ensures.app _ _ tenth c.propagate_each_command.ensures.app }

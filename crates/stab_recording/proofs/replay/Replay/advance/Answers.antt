@@ -14,7 +14,7 @@ past : (g : Over) (c : After-skip_differing-next g) (begin : ℕ)
 past g c begin way =
     way-past c.args.self.now.tableau.qubits (g.C.Coins.sequence c.args.coins.now) begin c.args.plan c.args.self.now.cursor.all c.args.old.now.checkpoints.now c.args.old.now.outputs.now.records.items c.args.next
     c.skip_differing-next.result c.args.self.now way c.skip_differing-next.ensures.order c.skip_differing-next.ensures.within
-    (c.skip_differing-next.ensures.missed (g.C.Coins.sequence c.args.coins.now) c.requires.old.0 (record { old = c.requires.old.1; at_step = c.requires.at_step })
+    (c.skip_differing-next.ensures.missed (g.C.Coins.sequence c.args.coins.now) (record { old = c.requires.old; at_step = c.requires.at_step })
     (few-steps c.requires.planned))
 
 -- what is no further than something before a place is before it too
@@ -38,6 +38,6 @@ returns-clause-way g c = λ begin way.
     on-stop c.args.self.now.tableau.qubits (g.C.Coins.sequence c.args.coins.now) begin c.args.plan c.args.self.now.cursor.all c.args.old.now.checkpoints.now c.args.old.now.outputs.now.records.items (g.C.Coins.sequence c.args.coins.now)
     c.skip_differing-next.result c.run_past.new.self.step c.place-place.result c.args.self.now c.run_past.new.self
     (past g ((goal.at.returns-clause-way g c).After-skip_differing-next) begin way)
-    refl done.carried_out.at_step done.carried_out.saved done.carried_out.records done.costs.counted refl c.run_past.ensures.further.step
+    refl done.carried_out.at_step done.carried_out.saved done.costs.counted refl c.run_past.ensures.further.step
     (let within = stops.within in omega (arith, within, most)) (let near = stops.near in omega (arith, near, most)) c.place-place.ensures.value
     (no-further c.place-place.result c.run_past.new.self.step c.stops-stops.result.most most stops.before)

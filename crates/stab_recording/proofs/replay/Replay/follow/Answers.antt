@@ -1,10 +1,9 @@
-use Rattle.stab_recording.proofs.Names.{◌≡◌, ℕ, Option, Some, ◌-◌, ◌≤◌, [], ◌∷◌, ◌++◌, refl, sym, ◌∙◌, ap, subst, length, arith, IfSome, Replay, RestFrame, Last, Joined, Arrival, Met, After, Between, output_of, IsReplay, IsEnd, EndsSoon, IsAtStop, IsOnWay, IsPropagated, checkpoint_of, IsArrival, IsSomeAnd, slice_get}
+use Rattle.stab_recording.proofs.Names.{◌≡◌, ◌≤◌, [], ◌∷◌, ◌++◌, refl, sym, ◌∙◌, ap, subst, arith, Replay, Last, Joined, Arrival, Met, After, Between, output_of, IsReplay, IsEnd, EndsSoon, IsAtStop, IsOnWay, checkpoint_of, IsArrival}
 use Rattle.stab_recording.specs.FollowedRuns.{Costs}
 use Rattle.stab_recording.specs.inner.Progress.{IsFurther}
 use Rattle.stab_recording.proofs.ReplayLemmas.{went-so, ends-soon, on-further, fewer-left}
 use Rattle.stab_recording.proofs.FoldedReplayLemmas.{way-own, way-named}
 use Rattle.stab_recording.proofs.ProgressLemmas.{further-on, further-saved, costs-on, costs-saved}
-use Rattle.stab_recording.proofs.TriedLemmas.{tried-on}
 use Rattle.stab_recording.proofs.replay.Replay.follow.Given.{Over}
 use Rattle.stab_recording.proofs.replay.Replay.follow.Goals as goal
 use Rattle.stab_recording.proofs.replay.Replay.follow.Goals.{In_ok-reached, In_ok-save}
@@ -43,28 +42,6 @@ returns-in-Met-clause-replay g c = replayed g ((goal.at.returns-in-Met-clause-re
 pub returns-in-After-clause-replay : goal.returns-in-After-clause-replay
 returns-in-After-clause-replay g c = replayed g ((goal.at.returns-in-After-clause-replay g c).In_ok-reached) c.arrive.new.self c.arrive.ensures.unchanged
 
--- frames went in vain over no more than the steps after what was changed
-
-pub frame_rest-requires-clause-few_tried : goal.frame_rest-requires-clause-few_tried
-frame_rest-requires-clause-few_tried g c = omega (arith, c.following.invariant.tried.1, c.requires.few_tried, c.requires.planned.few)
-
-all-long : (g : Over) (c : In_ok-reached g) (r : Replay) → r ≡ c.advance.new.self → length r.cursor.all ≡ c.args.plan.total
-all-long g c r same =
-    ap (λ (r : Replay). length r.cursor.all) same ∙ ap length (c.advance.ensures.further.all ∙ c.following.invariant.further.all) ∙ sym c.requires.planned.total
-
-pub returns-in-Met-clause-tried : goal.returns-in-Met-clause-tried
-returns-in-Met-clause-tried g c = c.following.invariant.tried.1
-
-pub returns-in-After-clause-tried : goal.returns-in-After-clause-tried
-returns-in-After-clause-tried g c = c.following.invariant.tried.1
-
-pub returns-in-Some-clause-tried : goal.returns-in-Some-clause-tried
-returns-in-Some-clause-tried g c =
-    let at = (goal.at.returns-in-Some-clause-tried g c).In_ok-reached in
-    (tried-on c.following.frame_is_tried c.frame_rest.new.frame_is_tried c.args.tried.now c.following.tried c.frame_rest.new.tried (c.args.plan.total - c.args.plan.new_end) c.following.invariant.tried
-    c.frame_rest.ensures.once (c.in_ok-by_frame.ensures {u = tt}).untried
-    (omega (arith, c.frame_rest.ensures.most, all-long g at c.arrive.new.self c.arrive.ensures.unchanged))).1
-
 -- how it ended, and what that cost
 
 costs : (g : Over) (c : In_ok-reached g) (r : Replay) → r ≡ c.advance.new.self → Costs (g.C.Coins.asks c.args.coins.now) (g.C.Coins.asks c.advance.new.coins) c.args.self.now r
@@ -84,16 +61,13 @@ returns-in-Met-clause-costs g c = costs g ((goal.at.returns-in-Met-clause-costs 
 pub returns-in-After-clause-costs : goal.returns-in-After-clause-costs
 returns-in-After-clause-costs g c = costs g ((goal.at.returns-in-After-clause-costs g c).In_ok-reached) c.arrive.new.self c.arrive.ensures.unchanged
 
-pub returns-in-Some-clause-costs : goal.returns-in-Some-clause-costs
-returns-in-Some-clause-costs g c = costs g ((goal.at.returns-in-Some-clause-costs g c).In_ok-reached) c.arrive.new.self c.arrive.ensures.unchanged
-
 pub returns-in-Met-clause-ended : goal.returns-in-Met-clause-ended
 returns-in-Met-clause-ended g c =
     let at = (goal.at.returns-in-Met-clause-ended g c).In_ok-reached in
     let met = arrived g at _ Met c.in-Met.is c.in_ok-arrive.ensures.value in
     record {
       end =
-          subst (λ (r : Replay). IsEnd c.args.self.now.tableau.qubits c.args.plan r c.args.old.now.checkpoints.now (output_of c.args.old.now.outputs.now) c.args.old.now.pivots.now (Joined c.in_ok-reached.reached))
+          subst (λ (r : Replay). IsEnd c.args.self.now.tableau.qubits c.args.plan r c.args.old.now.checkpoints.now (output_of c.args.old.now.outputs.now) (Joined c.in_ok-reached.reached))
           (sym c.arrive.ensures.unchanged) ((stopped g at).order, met);
       soon = ended g at c.arrive.new.self c.arrive.ensures.unchanged;
       raised = window g at c.arrive.new.self c.arrive.ensures.unchanged;
@@ -105,22 +79,8 @@ returns-in-After-clause-ended g c =
     let following = arrived g at _ After c.in-After.is c.in_ok-arrive.ensures.value in
     record {
       end =
-          subst (λ (r : Replay). IsEnd c.args.self.now.tableau.qubits c.args.plan r c.args.old.now.checkpoints.now (output_of c.args.old.now.outputs.now) c.args.old.now.pivots.now Last)
+          subst (λ (r : Replay). IsEnd c.args.self.now.tableau.qubits c.args.plan r c.args.old.now.checkpoints.now (output_of c.args.old.now.outputs.now) Last)
           (sym c.arrive.ensures.unchanged) following.0;
-      soon = ended g at c.arrive.new.self c.arrive.ensures.unchanged;
-      raised = window g at c.arrive.new.self c.arrive.ensures.unchanged;
-    }
-
-begun-at : (found : Option RestFrame) (f : RestFrame) (k : ℕ) (Q : RestFrame → Type 0) → found ≡ Some f → IfSome found (λ x. (x.number ≡ k) × Q x) → (f.number ≡ k) × Q f
-begun-at found f k Q is holds = subst (λ m. IfSome m (λ x. (x.number ≡ k) × Q x)) is holds
-
-pub returns-in-Some-clause-ended : goal.returns-in-Some-clause-ended
-returns-in-Some-clause-ended g c =
-    let at = (goal.at.returns-in-Some-clause-ended g c).In_ok-reached in
-    let begun = begun-at c.in_ok-by_frame.by_frame c.in-Some.by_frame c.in_ok-reached.reached _ c.in-Some.is (c.in_ok-by_frame.ensures {u = tt}).by_frame in
-    let order = (stopped g at).order in
-    record {
-      end = (omega (arith, begun.0, order), subst (λ k. IsSomeAnd (slice_get c.args.old.now.checkpoints.now k) (IsPropagated c.args.plan c.arrive.new.self c.args.old.now.checkpoints.now (output_of c.args.old.now.outputs.now) c.args.old.now.pivots.now c.in-Some.by_frame)) (sym begun.0) begun.1);
       soon = ended g at c.arrive.new.self c.arrive.ensures.unchanged;
       raised = window g at c.arrive.new.self c.arrive.ensures.unchanged;
     }
@@ -185,10 +145,6 @@ following-preserved g c =
       further = further-on _ _ _ _ _ _ (further-saved _ _ _ _ c.save.new.self (further g reached) same) kept.further;
       same_coins = kept.same_coins ∙ same_coins;
       costs = costs-on _ _ _ _ _ _ (costs-saved _ _ _ _ c.save.new.self (costs g reached c.advance.new.self refl) same) again.costs;
-      tried =
-          tried-on c.following.frame_is_tried c.frame_rest.new.frame_is_tried c.args.tried.now c.following.tried c.frame_rest.new.tried (c.args.plan.total - c.args.plan.new_end) inv.tried
-          c.frame_rest.ensures.once (c.in_ok-by_frame.ensures {u = tt}).untried
-          (omega (arith, c.frame_rest.ensures.most, all-long g reached c.arrive.new.self c.arrive.ensures.unchanged));
       way =
           way-named c.save.new.self.tableau.qubits c.args.self.now.tableau.qubits (g.C.Coins.sequence c.args.coins.now) c.args.self.now.step c.args.plan c.save.new.self.cursor.all c.args.self.now.cursor.all
           c.args.old.now.checkpoints.now c.args.old.now.outputs.now.records.items c.in-Between.later c.come_again.new.self way.stop.replay.at_step.qubits way.stop.replay.at_step.all

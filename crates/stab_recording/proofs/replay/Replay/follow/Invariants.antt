@@ -1,4 +1,4 @@
-use Rattle.stab_recording.proofs.Names.{true, ◌≡◌, ◌+◌, ◌-◌, ◌≤◌, length, IsOnWay}
+use Rattle.stab_recording.proofs.Names.{◌≡◌, ◌+◌, ◌-◌, length, IsOnWay}
 use Rattle.stab_recording.specs.FollowedRuns.{Costs}
 use Rattle.stab_recording.specs.inner.Progress.{IsFurther}
 use Rattle.stab_recording.proofs.replay.Replay.follow.Given as goal
@@ -8,7 +8,6 @@ invariant-following g l = record {
   further : IsFurther (g.C.Coins.asks l.initial.coins) (g.C.Coins.asks l.coins) l.initial.self l.self;
   same_coins : g.C.Coins.sequence l.coins ≡ g.C.Coins.sequence l.initial.coins;
   costs : Costs (g.C.Coins.asks l.initial.coins) (g.C.Coins.asks l.coins) l.initial.self l.self;
-  tried : (l.frame_is_tried ≡ true → l.tried ≡ l.initial.tried) × (l.tried ≤ l.initial.tried + (l.plan.total - l.plan.new_end));
   way : IsOnWay l.initial.self.tableau.qubits (g.C.Coins.sequence l.initial.coins) l.initial.self.step l.plan l.initial.self.cursor.all l.old.checkpoints.now l.old.outputs.now.records.items l.next l.self;
 }
 

@@ -1,6 +1,6 @@
-use Rattle.stab_recording.proofs.Names.{◌-◌, refl, take, program_state, output_of}
+use Rattle.stab_recording.proofs.Names.{refl}
 use Rattle.stab_recording.proofs.ProgressLemmas.{further-by-steps, costs-by-steps}
-use Rattle.stab_recording.proofs.ReplayLemmas.{records-stay, run-on}
+use Rattle.stab_recording.proofs.ReplayLemmas.{run-on}
 use Rattle.stab_recording.proofs.replay.Replay.run_to.Goals as goal
 
 pub returns-in_err-run_recording_pivots-clause-further : goal.returns-in_err-run_recording_pivots-clause-further
@@ -21,16 +21,10 @@ returns-clause-costs g c =
 pub returns-clause-carried_out : goal.returns-clause-carried_out
 returns-clause-carried_out g c =
     let done = c.in_ok-run_recording_pivots.ensures in
-    let n = c.args.self.now.tableau.qubits in
-    let coins = g.C.Coins.sequence c.args.coins.now in
     record {
       at_step =
-          run-on n coins c.args.self.now.cursor.all c.args.self.now _ c.requires.begun c.requires.order
+          run-on c.args.self.now.tableau.qubits (g.C.Coins.sequence c.args.coins.now) c.args.self.now.cursor.all c.args.self.now _ c.requires.begun c.requires.order
           c.requires.within done.qubits done.sized done.all done.kept done.recorded;
       saved = refl;
-      records =
-          records-stay n coins (take c.args.self.now.step c.args.self.now.cursor.all) (take (c.args.stop - c.args.self.now.step) c.args.self.now.cursor.left)
-          (program_state c.args.self.now.tableau (output_of c.args.self.now.outputs)) (program_state c.run_recording_pivots.new.tableau (output_of c.run_recording_pivots.new.outputs))
-          c.requires.begun.run done.recorded.steps.run;
       by_frame = refl;
     }

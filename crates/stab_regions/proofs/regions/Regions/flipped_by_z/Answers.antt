@@ -1,5 +1,5 @@
 use Rattle.stab_regions.proofs.Names.{◌∙◌, sym, subst, IsAscending}
-use Rattle.stab_distance.proofs.IndexLemmas.{row-in}
+use Rattle.stab_search.proofs.IndexLemmas.{row-in}
 use Rattle.stab_regions.proofs.PlaceLemmas.{flipped-by_z}
 use Rattle.stab_regions.proofs.regions.Regions.flipped_by_z.Goals as goal
 

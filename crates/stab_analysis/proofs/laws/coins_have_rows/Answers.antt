@@ -1,5 +1,0 @@
-use Rattle.stab_analysis.proofs.RowLemmas.{coins-have-rows}
-use Rattle.stab_analysis.proofs.laws.coins_have_rows.Goals as goal
-
-pub returns : goal.returns
-returns c = record { law = coins-have-rows }

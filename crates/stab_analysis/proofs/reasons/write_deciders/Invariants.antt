@@ -1,8 +1,0 @@
-use Rattle.stab_analysis.proofs.Names.{ℕ, List, drop, flat_map, WroteUpTo, circuit_items, decider_text, coin_at}
-use Rattle.stab_analysis.proofs.reasons.write_deciders.Given as goal
-
-abbrev pub invariant-loop-place : goal.invariant-loop-place
-invariant-loop-place g l =
-    let items = circuit_items l.circuit in
-    let text : ℕ → List ℕ = λ k. decider_text items (coin_at items k) in
-    WroteUpTo (g.O.Output.seen l.initial.out) (g.O.Output.seen l.out) (flat_map text l.places) (flat_map text (drop l.place-index l.places))

@@ -1,8 +1,0 @@
-use Rattle.stab_analysis.proofs.Names.{circuit_items, qubits_of}
-use Rattle.stab_texts.proofs.ErrorLineLaws.{rows_counted}
-use Rattle.stab_analysis.proofs.searched.send_errors.Goals as goal
-
-pub write_all_errors-requires-clause-rows : goal.write_all_errors-requires-clause-rows
-write_all_errors-requires-clause-rows g c =
-    let items = circuit_items c.args.circuit.now in
-    rows_counted (qubits_of items) items c.args.errors.now c.requires.table

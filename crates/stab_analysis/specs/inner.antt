@@ -1,5 +1,0 @@
-pub mod Faults
-pub mod CoinRows
-pub mod Deciders
-pub mod Groups
-pub mod Parts

@@ -1,0 +1,10 @@
+use Rattle.stab_commands.proofs.PlaceLemmas.{places-put}
+use Rattle.stab_commands.proofs.coin_places.CoinPlaces.push.Goals as goal
+
+pub loop-taken-preserved : goal.loop-taken-preserved
+loop-taken-preserved c = record {
+  numbers = places-put c.args.self.now.numbers.items _ _ c.args.coin c.args.coin c.loop-taken.taken c.args.free.now c.bit_at-here.result c.loop-taken.invariant.numbers
+      c.bit_at-here.ensures.value c.in_ok-push_when.ensures.value;
+  steps = places-put c.args.self.now.steps.items _ _ c.args.number c.args.coin c.loop-taken.taken c.args.free.now c.bit_at-here.result c.loop-taken.invariant.steps
+      c.bit_at-here.ensures.value c.in_ok-push_when-2.ensures.value;
+}

@@ -1,5 +1,0 @@
-use Rattle.stab_distance.proofs.Names.{ℕ, ◌<◌, ◌≤◌, HasAtLeast}
-use Rattle.stab_distance.proofs.bounds.has_bound.Given as goal
-
-abbrev pub invariant-observables : goal.invariant-observables
-invariant-observables l = (i : ℕ) → l.graph.table.detectors ≤ i → i < l.o → HasAtLeast l.graph.table i l.bound

@@ -1,9 +1,0 @@
-use Rattle.stab_distance.proofs.Names.{◌≡◌, ℕ, ◌<◌, ◌≤◌, ◌⊎◌, true, length, drop, slice_index, Each, has}
-use Rattle.stab_distance.proofs.candidates.live.Given as goal
-
-abbrev pub invariant-loop-r : goal.invariant-loop-r
-invariant-loop-r l = record {
-  inside : Each (λ r. r < length l.cover) l.found.items;
-  all : (e : ℕ) → has e l.rows ≡ true → e < length l.cover → 1 ≤ slice_index l.cover e
-      → (has e (drop l.r-index l.rows) ≡ true) ⊎ (has e l.found.items ≡ true);
-}

@@ -1,5 +1,0 @@
-use Rattle.stab_distance.proofs.Names.{◌≡◌, true, has}
-use Rattle.stab_distance.proofs.candidates.rarest.Given as goal
-
-abbrev pub invariant-loop-d : goal.invariant-loop-d
-invariant-loop-d l = has l.best l.detectors ≡ true

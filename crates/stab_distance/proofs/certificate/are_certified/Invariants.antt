@@ -1,5 +1,0 @@
-use Rattle.stab_distance.proofs.Names.{ℕ, ◌<◌, ◌≤◌, FollowsDetectors}
-use Rattle.stab_distance.proofs.certificate.are_certified.Given as goal
-
-abbrev pub invariant-observables : goal.invariant-observables
-invariant-observables g l = (o : ℕ) → l.detectors ≤ o → o < l.o → FollowsDetectors (record { detectors = l.detectors; rows = l.rows }) o

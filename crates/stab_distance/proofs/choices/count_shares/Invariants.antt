@@ -1,8 +1,0 @@
-use Rattle.stab_distance.proofs.Names.{◌≡◌, ℕ, ◌<◌, ◌≤◌, length, take, slice_index, shares}
-use Rattle.stab_distance.proofs.choices.count_shares.Given as goal
-
-abbrev pub invariant-loop-place : goal.invariant-loop-place
-invariant-loop-place l = record {
-  covers : (e : ℕ) → e < length l.errors.table.rows → 0 < slice_index l.weights e → shares l.errors.table.rows e (take l.place l.detectors) ≤ slice_index l.cover e;
-  length : length l.cover ≡ length l.errors.table.rows;
-}

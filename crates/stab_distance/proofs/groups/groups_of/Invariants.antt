@@ -1,5 +1,0 @@
-use Rattle.stab_distance.proofs.GroupLemmas.{AreSoFar}
-use Rattle.stab_distance.proofs.groups.groups_of.Given as goal
-
-abbrev pub invariant-rows : goal.invariant-rows
-invariant-rows l = AreSoFar l.table l.r l.groups.rows.items l.groups.weights.items

@@ -1,8 +1,0 @@
-use Rattle.stab_distance.proofs.Names.{◌≡◌, ℕ, ◌+◌, ◌-◌, length, listed}
-use Rattle.stab_distance.proofs.index.list.Given as goal
-
-abbrev pub invariant-grow : goal.invariant-grow
-invariant-grow l = (e : ℕ) → listed l.index.items e ≡ listed l.fn.index.items e
-
-abbrev pub decreases-grow : goal.decreases-grow
-decreases-grow l = l.place + 1 - length l.index.items

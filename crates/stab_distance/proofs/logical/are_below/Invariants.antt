@@ -1,5 +1,0 @@
-use Rattle.stab_distance.proofs.Names.{ℕ, ◌<◌, get_or}
-use Rattle.stab_distance.proofs.logical.are_below.Given as goal
-
-abbrev pub invariant-each : goal.invariant-each
-invariant-each l = (j : ℕ) → j < l.k-index → get_or l.found j 0 < l.end

@@ -1,5 +1,0 @@
-use Rattle.stab_distance.proofs.Names.{ArePairs}
-use Rattle.stab_distance.proofs.pairs.pairs_of.Given as goal
-
-abbrev pub invariant-loop-place : goal.invariant-loop-place
-invariant-loop-place l = ArePairs l.rows l.firsts l.pairs.items

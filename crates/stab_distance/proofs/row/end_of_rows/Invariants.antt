@@ -1,5 +1,0 @@
-use Rattle.stab_distance.proofs.Names.{◌≡◌, ℕ, ◌<◌, ◌≤◌, false, odd, row}
-use Rattle.stab_distance.proofs.row.end_of_rows.Given as goal
-
-abbrev pub invariant-rows : goal.invariant-rows
-invariant-rows l = (q i : ℕ) → q < l.r → l.end ≤ i → odd i (row l.rows q) ≡ false

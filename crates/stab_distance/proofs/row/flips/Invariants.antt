@@ -1,5 +1,0 @@
-use Rattle.stab_distance.proofs.Names.{◌≡◌, drop, ◌⊕◌, odd}
-use Rattle.stab_distance.proofs.row.flips.Given as goal
-
-abbrev pub invariant-each : goal.invariant-each
-invariant-each l = l.odd ⊕ odd l.i (drop l.n-index l.numbers) ≡ odd l.i l.numbers

@@ -1,3 +1,0 @@
--- Definitions that only private contracts cite.
-pub mod Distances
-pub mod SessionAnswers

@@ -1,5 +1,0 @@
-use Rattle.stab_edits.proofs.Names.{length}
-use Rattle.stab_edits.proofs.circuit.Circuit.+put_before.Given as goal
-
-abbrev pub decreases-put_before : goal.decreases-put_before
-decreases-put_before l = length l.parts.items

@@ -1,6 +1,0 @@
-use Rattle.stab_edits.proofs.Names.{◌∙◌, sym}
-use Rattle.stab_edits.proofs.EditingLemmas.{deleted}
-use Rattle.stab_edits.proofs.circuit.Circuit.delete.Goals as goal
-
-pub unreachable-requires : goal.unreachable-requires
-unreachable-requires c = deleted c.args.path c.args.self.now c.edit_alone.new.self (c.in-Ok-None.ensures.ok) (sym c.in-Ok-None.ensures.taken ∙ c.in-Ok-None.field-0-is)

@@ -1,5 +1,0 @@
-use Rattle.stab_edits.proofs.Names.{◌≡◌, copies}
-use Rattle.stab_edits.proofs.circuit.gaps.copies.Given as goal
-
-abbrev pub invariant-loop : goal.invariant-loop
-invariant-loop l = l.all.items ≡ copies l.counter l.numbers

@@ -1,6 +1,0 @@
-use Rattle.stab_edits.proofs.Names.{◌∙◌, ap, sym, with_more}
-use Rattle.stab_edits.proofs.GapLemmas.{more-last}
-use Rattle.stab_edits.proofs.circuit.gaps.with_more.Goals as goal
-
-pub returns-clause-ok : goal.returns-clause-ok
-returns-clause-ok c = c.in_ok-push.ensures.items ∙ sym (more-last c.args.more c.in-Some.last c.pop.new.self.items) ∙ ap (with_more c.args.more) (sym c.in-Some.ensures.items)

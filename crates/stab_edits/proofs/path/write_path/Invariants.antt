@@ -1,6 +1,0 @@
-use Rattle.stab_edits.proofs.Names.{drop, path_text, HasWritten}
-use Rattle.stab_edits.proofs.PathLemmas.{places_text}
-use Rattle.stab_edits.proofs.path.write_path.Given as goal
-
-abbrev pub invariant-loop-block : goal.invariant-loop-block
-invariant-loop-block g l = HasWritten (g.O.Output.seen l.fn.out) (g.O.Output.seen l.out) (path_text l.path) (places_text (drop l.block-index l.blocks) l.path.place)

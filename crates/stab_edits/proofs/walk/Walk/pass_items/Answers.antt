@@ -1,5 +1,0 @@
-use Rattle.stab_edits.proofs.PastItemLemmas.{items_passed}
-use Rattle.stab_edits.proofs.walk.Walk.pass_items.Goals as goal
-
-pub returns-clause-left : goal.returns-clause-left
-returns-clause-left c = items_passed c.args.self.now c.args.count c.requires.given

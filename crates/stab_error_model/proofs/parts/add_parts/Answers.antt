@@ -1,0 +1,24 @@
+use Rattle.stab_error_model.proofs.Names.{sym, subst, fault_parts, parts_of, error_shown, fault_shown, Adds, ErrorStands, Stands}
+use Rattle.stab_error_model.proofs.AddingLemmas.{adds-more, adds-weaker}
+use Rattle.stab_error_model.proofs.parts.add_parts.Goals as goal
+
+pub returns-in_ok-add_letter_parts-in-Letter : goal.returns-in_ok-add_letter_parts-in-Letter
+returns-in_ok-add_letter_parts-in-Letter c = record {
+  adds = subst (λ e. Adds (λ faults. ErrorStands faults e) (parts_of (error_shown e)) c.args.errors.now.items c.add_letter_parts.new.errors.items) (sym c.in-Letter.is)
+      c.in_ok-add_letter_parts-in-Letter.ensures.adds;
+}
+
+pub returns-in_ok-add_letter_parts-in-Letters-2 : goal.returns-in_ok-add_letter_parts-in-Letters-2
+returns-in_ok-add_letter_parts-in-Letters-2 c =
+    let first = c.in-Letters.first in
+    let second = c.in-Letters.second in
+    let old = c.args.errors.now.items in
+    let between = c.add_letter_parts-in-Letters.new.errors.items in
+    let new = c.add_letter_parts-in-Letters-2.new.errors.items in record {
+      adds = subst (λ e. Adds (λ faults. ErrorStands faults e) (parts_of (error_shown e)) old new) (sym c.in-Letters.is)
+          (adds-more (λ faults. Stands first.place faults × Stands second.place faults) (fault_parts (fault_shown first)) (fault_parts (fault_shown second)) old between new
+          (adds-weaker (Stands first.place) (λ faults. Stands first.place faults × Stands second.place faults) (fault_parts (fault_shown first)) old between (λ faults both. both.0)
+          c.in_ok-add_letter_parts-in-Letters.ensures.adds)
+          (adds-weaker (Stands second.place) (λ faults. Stands first.place faults × Stands second.place faults) (fault_parts (fault_shown second)) between new (λ faults both. both.1)
+          c.in_ok-add_letter_parts-in-Letters-2.ensures.adds));
+    }

@@ -1,0 +1,244 @@
+//! The errors of a circuit, and which bits each of them flips.
+ghost use Rattle.std.specs.Prelude.{◌≡◌, ◌≤◌, List, ◌∷◌, [], ◌++◌, map, None, All, length, IfOk, IfErr, OnOk};
+ghost use Rattle.stab_io.specs.Refusals.{Refuses};
+ghost use Rattle.stab_io.specs.declared.refusal.Refusal.TheVariants.{OutOfMemory};
+ghost use Rattle.stab_gates.specs.Limits.{most_qubits};
+ghost use Rattle.stab_circuit.specs.Steps.{check_of, check_within, detectors_of, unroll};
+ghost use Rattle.stab_items.specs.Views.{circuit_items};
+ghost use Rattle.stab_run.specs.ProgramStates.{StepFits};
+ghost use Rattle.stab_regions.specs.Faults.{IsFaultTable, faults_of};
+ghost use Rattle.stab_error_model.specs.Errors.{errors_of};
+ghost use Rattle.stab_error_model.specs.Parts.{AreSearched};
+ghost use Rattle.stab_error_model.specs.ErrorTables.{IsErrorTable, StepsInside};
+ghost use Rattle.stab_error_model.specs.declared.placed.Error.{Error as ErrorValue};
+ghost use Rattle.stab_error_model.specs.Placed.{error_shown};
+ghost use Rattle.stab_error_model.specs.inner.Adding.{ErrorStands};
+ghost use Rattle.stab_error_model.specs.inner.ErrorRows.{AreRowsOf, RowsAscend};
+ghost use Rattle.stab_error_model.specs.inner.RowParts.{AreSearchedByRows};
+
+use crate::everywhere::errors_everywhere;
+use crate::marked::errors_marked;
+use crate::parts::split_errors;
+use crate::placed::Error;
+use crate::rows::error_row;
+use stab_circuit::Circuit;
+use stab_io::{Fault, Refusal};
+use stab_jobs::ErrorLetters;
+use stab_regions::fault_laws::{deterministic_parities, faults_add, faults_flip_parities};
+use stab_regions::{FaultTable, faults};
+use stab_search::Table;
+use std::alloc::Global;
+use std::marker::Model;
+
+/// The errors of a circuit, and which of its deterministic detectors and observables each of them flips.
+pub struct ErrorTable {
+    deterministic: Vec<bool>,
+    errors: Vec<Error>,
+    table: Table,
+}
+
+// Written out, so that a proof sees the drop of a value as one call, and not one for each of its parts.
+impl Drop for ErrorTable {
+    fn drop(self) {
+        let ErrorTable {
+            deterministic: _,
+            errors: _,
+            table: _,
+        } = self;
+    }
+}
+
+impl Model for ErrorTable {
+    ghost use Rattle.std.specs.Prelude.{map};
+    ghost use Rattle.stab_error_model.specs.ErrorTables.{ErrorTableState};
+    ghost use Rattle.stab_error_model.specs.Placed.{error_shown};
+
+    ghost Value = { ErrorTableState };
+
+    ghost view = { λ t. record { deterministic = t.deterministic.items; errors = map error_shown t.errors.items; table = t.table } };
+}
+
+impl ErrorTable {
+    ghost use Rattle.std.specs.Prelude.{◌≡◌, ◌<◌, length, slice_index_or};
+    ghost use Rattle.stab_error_model.specs.Placed.{error_shown};
+
+    /// For each detector and then each observable, whether its bit is the same for all random bits.
+    pub fn deterministic(&self) -> &[bool]
+        ensures value { result.now ≡ self.now.deterministic }
+    {
+        self.deterministic.as_slice()
+    }
+
+    /// The number of errors.
+    pub fn len(&self) -> usize
+        ensures value { result ≡ length self.now.errors }
+    {
+        self.errors.len()
+    }
+
+    /// An error, of those numbered from 0.
+    pub fn error(&self, number: usize) -> Error
+        requires in_range { number < length self.now.errors }
+        ensures value { error_shown result ≡ slice_index_or self.now.errors number (error_shown result) }
+    {
+        self.errors[number]
+    }
+
+    /// What each error flips, by the numbers of detectors and then of observables.
+    pub fn table(&self) -> &Table
+        ensures value { result.now ≡ self.now.table }
+    {
+        &self.table
+    }
+}
+
+/// The errors of a circuit: everywhere, or those that it marks. The table has this number of faults.
+fn errors_asked(
+    alloc: Global,
+    circuit: &Circuit,
+    everywhere: bool,
+    letters: ErrorLetters,
+    faults: usize,
+) -> Result<Vec<Error>, Refusal>
+    requires checked { check_of (circuit_items circuit.now) ≡ None }
+    requires faults { faults ≡ length (faults_of everywhere (unroll (circuit_items circuit.now))) }
+    ensures errors { IfOk result (λ v. map error_shown v.items ≡ errors_of everywhere letters (circuit_items circuit.now)) }
+    ensures stand { IfOk result (λ v. All (ErrorStands (faults_of everywhere (unroll (circuit_items circuit.now)))) v.items) }
+    ensures err { IfErr result (λ r. r ≡ OutOfMemory) }
+{
+    if everywhere {
+        errors_everywhere(alloc, circuit, letters, faults)
+    } else {
+        errors_marked(alloc, circuit, letters, faults)
+    }
+}
+
+/// The errors that are searched: these themselves, or split if graph-like errors are asked for.
+fn searched_errors(
+    alloc: Global,
+    faults: &FaultTable,
+    whole: Vec<Error>,
+    detectors: usize,
+    graphlike: bool,
+) -> Result<Vec<Error>, Refusal>
+    requires ascend { RowsAscend faults.now.rows }
+    ensures searched { IfOk result (λ v. AreSearchedByRows graphlike faults.now.rows detectors whole.items v.items) }
+    ensures err { IfErr result (λ r. r ≡ OutOfMemory) }
+{
+    if !graphlike {
+        return Ok(whole);
+    }
+    let split = split_errors(alloc, faults, whole.as_slice(), detectors)?;
+    Ok(split)
+}
+
+/// Adds the row of an error.
+fn add_row(
+    alloc: Global,
+    faults: &FaultTable,
+    error: Error,
+    table: &mut Table,
+) -> Result<(), Refusal>
+    requires ascend { RowsAscend faults.now.rows }
+    ensures rows { OnOk result ((errors : List ErrorValue) → AreRowsOf faults.now.rows errors table.old.rows → AreRowsOf faults.now.rows (errors ++ error ∷ []) table.new.rows) }
+    ensures detectors { table.new.detectors ≡ table.old.detectors }
+    ensures err { IfErr result (λ r. r ≡ OutOfMemory) }
+{
+    let row = error_row(alloc, faults, error)?;
+    table.push(row.as_slice())?;
+    Ok(())
+}
+
+/// What each of some errors flips.
+fn rows_of(
+    alloc: Global,
+    faults: &FaultTable,
+    errors: &[Error],
+    detectors: usize,
+) -> Result<Table, Refusal>
+    requires ascend { RowsAscend faults.now.rows }
+    ensures rows { IfOk result (λ t. AreRowsOf faults.now.rows errors.now t.rows) }
+    ensures detectors { IfOk result (λ t. t.detectors ≡ detectors) }
+    ensures err { IfErr result (λ r. r ≡ OutOfMemory) }
+{
+    let mut table = Table::new(alloc, detectors);
+    'errors: for error in errors {
+        add_row(alloc, faults, *error, &mut table)?;
+    }
+    Ok(table)
+}
+
+/// A copy of bits.
+fn copied(alloc: Global, bits: &[bool]) -> Result<Vec<bool>, Refusal>
+    ensures value { IfOk result (λ v. v.items ≡ bits.now) }
+    ensures err { IfErr result (λ r. r ≡ OutOfMemory) }
+{
+    let mut all = Vec::with_capacity(alloc, bits.len())?;
+    all.extend_from_slice(bits)?;
+    Ok(all)
+}
+
+/// The steps of a circuit that was checked fit on n qubits. It does nothing: its contract is the law.
+fn steps_fit(circuit: &Circuit, n: usize)
+    requires checked { check_within n (circuit_items circuit.now) ≡ None }
+    ensures fits { All (StepFits n) (unroll (circuit_items circuit.now)) }
+{
+    circuit.items();
+}
+
+/// The table of the errors of a circuit with this table of faults.
+fn table_of(
+    alloc: Global,
+    circuit: &Circuit,
+    n: usize,
+    everywhere: bool,
+    letters: ErrorLetters,
+    graphlike: bool,
+    faults: &FaultTable,
+) -> Result<ErrorTable, Refusal>
+    requires checked { check_within n (circuit_items circuit.now) ≡ None }
+    requires table { IsFaultTable n everywhere (circuit_items circuit.now) faults.now.deterministic faults.now.rows }
+    ensures errors { IfOk result (λ t. AreSearched graphlike n (circuit_items circuit.now) (errors_of everywhere letters (circuit_items circuit.now)) t.errors) }
+    ensures table { IfOk result (IsErrorTable n (circuit_items circuit.now)) }
+    ensures steps { IfOk result (λ t. StepsInside (circuit_items circuit.now) t.errors) }
+    ensures err { IfErr result (λ r. r ≡ OutOfMemory) }
+{
+    let whole = errors_asked(alloc, circuit, everywhere, letters, faults.len())?;
+    let deterministic = copied(alloc, faults.deterministic())?;
+    let detectors = deterministic.len() - circuit.observables();
+    let errors = searched_errors(alloc, faults, whole, detectors, graphlike)?;
+    let table = rows_of(alloc, faults, errors.as_slice(), detectors)?;
+    steps_fit(circuit, n);
+    deterministic_parities();
+    faults_flip_parities();
+    faults_add();
+    Ok(ErrorTable {
+        deterministic,
+        errors,
+        table,
+    })
+}
+
+/// The table of the errors of a circuit on n qubits, at most 1,024: those that it marks by the gate `I`, or
+/// those of noise everywhere. If graph-like errors are asked for, the X and the Z of its letters take the place of an error that flips
+/// more than two detectors.
+///
+/// Refused as `Circuit::check` refuses, else `OutOfMemory`, always with line 0.
+pub fn errors(
+    alloc: Global,
+    circuit: &Circuit,
+    n: usize,
+    everywhere: bool,
+    letters: ErrorLetters,
+    graphlike: bool,
+) -> Result<ErrorTable, Fault>
+    requires in_range { n ≤ most_qubits }
+    ensures errors { IfOk result (λ t. AreSearched graphlike n (circuit_items circuit.now) (errors_of everywhere letters (circuit_items circuit.now)) t.errors) }
+    ensures table { IfOk result (IsErrorTable n (circuit_items circuit.now)) }
+    ensures steps { IfOk result (λ t. StepsInside (circuit_items circuit.now) t.errors) }
+    ensures refused { Refuses result (check_within n (circuit_items circuit.now)) }
+{
+    circuit.check(n)?;
+    let faults = faults(alloc, circuit, n, everywhere)?;
+    table_of(alloc, circuit, n, everywhere, letters, graphlike, &faults).map_err(Fault::whole)
+}

@@ -1,0 +1,276 @@
+//! The errors at each step of a circuit.
+ghost use Rattle.std.specs.Prelude.{◌≡◌, ◌≤◌, ◌+◌, ◌*◌, ◌^◌, ◌<◌, ◌∷◌, ◌++◌, [], None, true, ℕ, map, length, OnOk, IfOk, IfErr, IfSome, All};
+ghost use Rattle.stab_io.specs.declared.refusal.Refusal.TheVariants.{OutOfMemory};
+ghost use Rattle.stab_items.specs.Cursors.{step_shown};
+ghost use Rattle.stab_items.specs.Views.{circuit_items};
+ghost use Rattle.stab_circuit.specs.Steps.{check_of, most_steps, makes, unroll};
+ghost use Rattle.stab_run.specs.Runs.{flip_of};
+ghost use Rattle.stab_regions.specs.Faults.{following, fault_on, faults_of, faults_on};
+ghost use Rattle.stab_error_model.specs.Errors.{each_product, errors_at, errors_from, wrong_product, wrong_record};
+ghost use Rattle.stab_error_model.specs.Placed.{error_shown, faults_shown, letter_at};
+ghost use Rattle.stab_error_model.specs.inner.Adding.{Adds, ErrorStands, HasFrom, Stands};
+ghost use Rattle.stab_error_model.specs.inner.Everywhere.{back_of, reset_errors, measured_errors, factor_errors, factor_faults, step_faults};
+
+use crate::error_lists::{add_error, add_letters, add_products};
+use crate::letters::letters_asked;
+use crate::placed::{Error, Place, PlacedLetter};
+use stab_circuit::{Circuit, Cursor, Factor, Step};
+use stab_gates::Letter;
+use stab_io::Refusal;
+use stab_jobs::ErrorLetters;
+use stab_run::flip;
+use std::alloc::{AllocError, Global};
+
+/// The letter that takes a flip of a qubit back after its measurement, unless the qubit is reset.
+fn taken_back(flip: Letter, following: Place, resets: bool) -> Option<PlacedLetter>
+    ensures value { faults_shown result ≡ back_of resets (letter_at following flip) }
+    ensures place { IfSome result (λ f. f.place ≡ following) }
+{
+    if resets {
+        None
+    } else {
+        Some(following.with(flip))
+    }
+}
+
+/// Adds the letters after a measurement, if it resets.
+fn add_reset(
+    errors: &mut Vec<Error>,
+    letters: &[Letter],
+    following: Place,
+    resets: bool,
+) -> Result<(), AllocError>
+    ensures adds { OnOk result (Adds (Stands following) (reset_errors letters.now (letter_at following) resets) errors.old.items errors.new.items) }
+{
+    if resets {
+        add_letters(errors, letters, following)?;
+    }
+    Ok(())
+}
+
+/// Adds the record of this number by itself, of a letter that is measured between two places.
+fn add_record(
+    errors: &mut Vec<Error>,
+    letter: Letter,
+    front: Place,
+    following: Place,
+    resets: bool,
+    number: usize,
+) -> Result<(), AllocError>
+    ensures adds { OnOk result (Adds (λ faults. Stands front faults × Stands following faults) (wrong_record number (letter_at front (flip_of letter)) (back_of resets (letter_at following (flip_of letter))) ∷ []) errors.old.items errors.new.items) }
+{
+    let flip = flip(letter);
+    let error = Error::Record {
+        number,
+        flip: front.with(flip),
+        back: taken_back(flip, following, resets),
+    };
+    add_error(errors, error)?;
+    Ok(())
+}
+
+/// Adds the errors at a measurement of a letter between two places, which makes the record of this number.
+fn add_measured(
+    errors: &mut Vec<Error>,
+    letters: &[Letter],
+    letter: Letter,
+    front: Place,
+    following: Place,
+    resets: bool,
+    number: usize,
+) -> Result<(), AllocError>
+    ensures adds { OnOk result (Adds (λ faults. Stands front faults × Stands following faults) (measured_errors letters.now letter (letter_at front) (letter_at following) resets number) errors.old.items errors.new.items) }
+{
+    add_letters(errors, letters, front)?;
+    add_record(errors, letter, front, following, resets, number)?;
+    add_reset(errors, letters, following, resets)?;
+    Ok(())
+}
+
+/// Adds the letters in front of each factor of a product, of which the first has this row.
+fn add_factors(
+    errors: &mut Vec<Error>,
+    letters: &[Letter],
+    factors: &[Factor],
+    step: usize,
+    row: usize,
+) -> Result<(), AllocError>
+    requires rows { row + length (factor_faults step factors.now) < 2 ^ 64 }
+    ensures adds { OnOk result (Adds (HasFrom row (factor_faults step factors.now)) (factor_errors letters.now step factors.now) errors.old.items errors.new.items) }
+{
+    'factors: for k in 0..factors.len() {
+        let front = Place::in_front(factors[k].qubit.number(), step, row + 4 * k);
+        add_letters(errors, letters, front)?;
+    }
+    Ok(())
+}
+
+/// Adds the record of a product by itself, by its first factor, which has this row.
+fn add_product_record(
+    errors: &mut Vec<Error>,
+    factors: &[Factor],
+    step: usize,
+    row: usize,
+    number: usize,
+) -> Result<(), AllocError>
+    requires few { step ≤ most_steps }
+    requires rows { row + length (factor_faults step factors.now) < 2 ^ 64 }
+    ensures adds { OnOk result (Adds (HasFrom row (factor_faults step factors.now)) (wrong_product step number factors.now) errors.old.items errors.new.items) }
+{
+    if factors.is_empty() {
+        return Ok(());
+    }
+    let factor = factors[0];
+    let qubit = factor.qubit.number();
+    let front = Place::in_front(qubit, step, row);
+    let following = Place::following(qubit, step, row + 2);
+    add_record(
+        errors,
+        factor.letter.letter(),
+        front,
+        following,
+        false,
+        number,
+    )?;
+    Ok(())
+}
+
+/// Adds the errors at a product, whose first factor has this row.
+fn add_product(
+    errors: &mut Vec<Error>,
+    letters: &[Letter],
+    factors: &[Factor],
+    step: usize,
+    row: usize,
+    number: usize,
+) -> Result<(), AllocError>
+    requires few { step ≤ most_steps }
+    requires rows { row + length (factor_faults step factors.now) < 2 ^ 64 }
+    ensures adds { OnOk result (Adds (HasFrom row (factor_faults step factors.now)) (factor_errors letters.now step factors.now ++ wrong_product step number factors.now) errors.old.items errors.new.items) }
+{
+    add_factors(errors, letters, factors, step, row)?;
+    add_product_record(errors, factors, step, row, number)?;
+    Ok(())
+}
+
+/// Adds the products after a gate on two qubits, of which the first has this row.
+fn add_after_two(
+    errors: &mut Vec<Error>,
+    letters: ErrorLetters,
+    first: usize,
+    second: usize,
+    step: usize,
+    row: usize,
+) -> Result<(), AllocError>
+    requires few { step ≤ most_steps }
+    requires rows { row + 2 < 2 ^ 64 }
+    ensures adds { OnOk result (Adds (HasFrom row (faults_on step (following first) ++ faults_on step (following second))) (each_product letters (fault_on step (following first)) (fault_on step (following second))) errors.old.items errors.new.items) }
+{
+    let one = Place::following(first, step, row);
+    let other = Place::following(second, step, row + 2);
+    add_products(errors, letters, one, other)?;
+    Ok(())
+}
+
+/// Adds the errors at a step of this number, with this many records before it, whose first fault has this row.
+fn add_step(
+    errors: &mut Vec<Error>,
+    letters: ErrorLetters,
+    step: Step,
+    number: usize,
+    records: usize,
+    row: usize,
+) -> Result<(), AllocError>
+    requires few { number ≤ most_steps }
+    requires rows { row + length (step_faults number (step_shown step)) < 2 ^ 64 }
+    ensures adds { OnOk result (Adds (HasFrom row (step_faults number (step_shown step.entry))) (errors_at letters number records (step_shown step.entry)) errors.old.items errors.new.items) }
+{
+    let asked = letters_asked(letters);
+    match step {
+        Step::One(_, qubit) => {
+            add_letters(errors, asked, Place::following(qubit, number, row))?;
+            Ok(())
+        }
+        Step::Controlled(_, _, qubit) => {
+            add_letters(errors, asked, Place::following(qubit, number, row))?;
+            Ok(())
+        }
+        Step::Two(_, first, second) => {
+            add_after_two(errors, letters, first, second, number, row)?;
+            Ok(())
+        }
+        Step::Collapse {
+            letter,
+            qubit,
+            recorded,
+            reset,
+            ..
+        } => {
+            if recorded {
+                let front = Place::in_front(qubit, number, row);
+                let following = Place::following(qubit, number, row + 2);
+                add_measured(errors, asked, letter, front, following, reset, records)?;
+                Ok(())
+            } else {
+                add_letters(errors, asked, Place::following(qubit, number, row))?;
+                Ok(())
+            }
+        }
+        Step::Product { factors, .. } => {
+            add_product(errors, asked, factors, number, row, records)?;
+            Ok(())
+        }
+        Step::Detector(_) | Step::Observable(_, _) => Ok(()),
+    }
+}
+
+/// How many faults there are at a step.
+fn faults_at(step: Step) -> usize
+    ensures value { (t : ℕ) → result ≡ length (step_faults t (step_shown step.entry)) }
+{
+    match step {
+        Step::One(_, _) | Step::Controlled(_, _, _) => 2,
+        Step::Two(_, _, _) => 4,
+        Step::Collapse { recorded: true, .. } => 4,
+        Step::Collapse { .. } => 2,
+        Step::Product { factors, .. } => 4 * factors.len(),
+        Step::Detector(_) | Step::Observable(_, _) => 0,
+    }
+}
+
+/// How many records a step makes.
+fn records_made(step: Step) -> usize
+    ensures value { result ≡ makes (step_shown step.entry) }
+{
+    match step {
+        Step::Collapse { recorded: true, .. } | Step::Product { .. } => 1,
+        _ => 0,
+    }
+}
+
+/// The errors of a circuit everywhere, of which this many faults are in the table.
+pub(crate) fn errors_everywhere(
+    alloc: Global,
+    circuit: &Circuit,
+    letters: ErrorLetters,
+    faults: usize,
+) -> Result<Vec<Error>, Refusal>
+    requires checked { check_of (circuit_items circuit.now) ≡ None }
+    requires faults { faults ≡ length (faults_of true (unroll (circuit_items circuit.now))) }
+    ensures errors { IfOk result (λ v. map error_shown v.items ≡ errors_from letters 0 0 (unroll (circuit_items circuit.now))) }
+    ensures stand { IfOk result (λ v. All (ErrorStands (faults_of true (unroll (circuit_items circuit.now)))) v.items) }
+    ensures err { IfErr result (λ r. r ≡ OutOfMemory) }
+{
+    let mut errors = Vec::new(alloc);
+    let mut cursor = Cursor::at(alloc, circuit, 0)?;
+    let mut number = 0;
+    let mut records = 0;
+    let mut row = 0;
+    'steps: while let Some(step) = cursor.next() {
+        add_step(&mut errors, letters, step, number, records, row)?;
+        number += 1;
+        records += records_made(step);
+        row += faults_at(step);
+    }
+    Ok(errors)
+}

@@ -1,0 +1,143 @@
+//! Letters at places between steps, and errors of them.
+ghost use Rattle.std.specs.Prelude.{◌≡◌, List};
+ghost use Rattle.stab_regions.specs.Faults.{FaultPlace};
+ghost use Rattle.stab_error_model.specs.inner.Adding.{ErrorStands, Stands};
+ghost use Rattle.stab_error_model.specs.Placed.{error_shown, fault_shown, letter_at};
+ghost use Rattle.stab_error_model.specs.Errors.{product_at};
+
+use stab_gates::Letter;
+
+/// A place for errors: a qubit in front of a step or after it.
+#[derive(Clone, Copy)]
+pub(crate) struct Place {
+    pub qubit: usize,
+    /// How many steps are in front of it.
+    pub before: usize,
+    /// The number of its step.
+    pub step: usize,
+    /// The row of X there, in the circuit's table of faults. That of Z is the next one.
+    pub row: usize,
+}
+
+/// A Pauli X, Y or Z on a qubit between two steps.
+#[derive(Clone, Copy)]
+pub struct PlacedLetter {
+    pub letter: Letter,
+    pub(crate) place: Place,
+}
+
+/// What goes wrong at once.
+#[derive(Clone, Copy)]
+pub enum Error {
+    /// A letter.
+    Letter(PlacedLetter),
+    /// Letters at two places.
+    Letters(PlacedLetter, PlacedLetter),
+    /// The record of this number by itself: a letter in front of the measurement flips its outcome, and
+    /// unless the qubit is reset, the same letter after it flips the qubit back.
+    Record {
+        number: usize,
+        flip: PlacedLetter,
+        back: Option<PlacedLetter>,
+    },
+}
+
+impl Error {
+    ghost use Rattle.std.specs.Prelude.{◌≡◌};
+    ghost use Rattle.stab_error_model.specs.Errors.{first_fault};
+    ghost use Rattle.stab_error_model.specs.Placed.{error_shown, fault_shown};
+
+    /// The first of its letters.
+    pub fn first(self) -> PlacedLetter
+        ensures value { fault_shown result ≡ first_fault (error_shown self) }
+    {
+        match self {
+            Error::Letter(first) => first,
+            Error::Letters(first, _) => first,
+            Error::Record { flip, .. } => flip,
+        }
+    }
+}
+
+impl PlacedLetter {
+    ghost use Rattle.std.specs.Prelude.{◌≡◌};
+    ghost use Rattle.stab_error_model.specs.Placed.{fault_shown};
+
+    /// The qubit that it is on.
+    pub fn qubit(self) -> usize
+        ensures value { result ≡ (fault_shown self).qubit }
+    {
+        self.place.qubit
+    }
+
+    /// How many steps are in front of it.
+    pub fn before(self) -> usize
+        ensures value { result ≡ (fault_shown self).before }
+    {
+        self.place.before
+    }
+
+    /// The number of the step that it is at.
+    pub fn step(self) -> usize
+        ensures value { result ≡ (fault_shown self).step }
+    {
+        self.place.step
+    }
+}
+
+impl Place {
+    ghost use Rattle.std.specs.Prelude.{◌≡◌, ◌≤◌};
+    ghost use Rattle.stab_gates.specs.declared.letter.Letter.{Letter};
+    ghost use Rattle.stab_circuit.specs.Steps.{most_steps};
+    ghost use Rattle.stab_regions.specs.Faults.{fault_on, in_front as site_in_front, following as site_after};
+    ghost use Rattle.stab_error_model.specs.Placed.{fault_shown, letter_at};
+
+    /// A qubit in front of a step, with its row.
+    pub fn in_front(qubit: usize, step: usize, row: usize) -> Place
+        ensures value { (l : Letter) → letter_at result l ≡ fault_on step (site_in_front qubit) l }
+        ensures row { result.row ≡ row }
+    {
+        Place {
+            qubit,
+            before: step,
+            step,
+            row,
+        }
+    }
+
+    /// A qubit after a step, with its row.
+    pub fn following(qubit: usize, step: usize, row: usize) -> Place
+        requires few { step ≤ most_steps }
+        ensures value { (l : Letter) → letter_at result l ≡ fault_on step (site_after qubit) l }
+        ensures row { result.row ≡ row }
+    {
+        Place {
+            qubit,
+            before: step + 1,
+            step,
+            row,
+        }
+    }
+
+    /// A letter there.
+    pub fn with(self, letter: Letter) -> PlacedLetter
+        ensures value { result ≡ record { letter = letter; place = self } }
+    {
+        PlacedLetter {
+            letter,
+            place: self,
+        }
+    }
+}
+
+/// The error of a product at two places, in which I is none.
+pub(crate) fn product_at(first: Place, second: Place, pair: (Letter, Letter)) -> Error
+    ensures value { error_shown result ≡ product_at (letter_at first) (letter_at second) pair.0 pair.1 }
+    ensures stands { (faults : List FaultPlace) → Stands first faults → Stands second faults → ErrorStands faults result }
+{
+    match pair {
+        (Letter::I, letter) => Error::Letter(second.with(letter)),
+        (letter, Letter::I) => Error::Letter(first.with(letter)),
+        (letter, other) => Error::Letters(first.with(letter), second.with(other)),
+    }
+}

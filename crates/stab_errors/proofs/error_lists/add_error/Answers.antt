@@ -1,6 +1,0 @@
-use Rattle.stab_errors.proofs.Names.{ErrorStands}
-use Rattle.stab_errors.proofs.AddingLemmas.{adds-one}
-use Rattle.stab_errors.proofs.error_lists.add_error.Goals as goal
-
-pub returns : goal.returns
-returns c = record { adds = adds-one (λ faults. ErrorStands faults c.args.error) c.args.error c.args.errors.now.items c.push.new.self.items c.in_ok-push.ensures.items (λ faults is. is) }

@@ -1,0 +1,12 @@
+use Rattle.stab_items.proofs.Names.{◌≡◌, ◌<◌, ◌-◌, length, drop, listed, unroll, paths_from, item_steps_left}
+use Rattle.stab_items.proofs.circuit.step_items.find_item.Given as goal
+
+abbrev pub invariant-items : goal.invariant-items
+invariant-items l = record {
+  in_range : l.found.within < length (unroll (listed (drop l.found.place l.items)));
+  same : drop l.found.within (paths_from l.found.place (listed (drop l.found.place l.items))) ≡ drop l.step (paths_from l.place (listed (drop l.place l.items)));
+  left : item_steps_left (listed (drop l.found.place l.items)) l.found.within ≡ item_steps_left (listed (drop l.place l.items)) l.step;
+}
+
+abbrev pub decreases-items : goal.decreases-items
+decreases-items l = length l.items - l.found.place

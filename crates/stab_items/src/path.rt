@@ -1,0 +1,110 @@
+ghost use Rattle.std.specs.Prelude.{◌++◌, codes};
+ghost use Rattle.std.specs.Fmt.{decimal};
+ghost use Rattle.stab_io.specs.Devices.{WritesAll};
+ghost use Rattle.stab_items.specs.Paths.{path_text};
+
+use itoa::Buffer;
+use stab_io::{Output, Refusal, write_all};
+use std::marker::Model;
+
+/// Where an item is or an edit is made: the places of the blocks around, the outermost first, of
+/// which there are at most 16, and a place in the innermost list. Places are counted from 0.
+#[derive(Clone, Copy, Debug, PartialEq, Eq)]
+pub struct Path {
+    /// The blocks' places, and then zeros.
+    blocks: [usize; 16],
+    depth: usize,
+    place: usize,
+}
+
+impl Model for Path {
+    ghost use Rattle.stab_items.specs.Paths.{Path as PathValue};
+
+    ghost Value = { PathValue };
+
+    ghost use Rattle.stab_items.specs.inner.Places.{path_of, kept_path, kept_path_of, IsPadded};
+
+    ghost view = { path_of };
+
+    ghost invariant = { IsPadded };
+
+    ghost inverse = { kept_path };
+
+    ghost inverse_ok = { kept_path_of };
+}
+
+impl Path {
+    ghost use Rattle.std.specs.Prelude.{◌≡◌, ◌<◌, ◌≤◌, ◌∷◌, length, slice_get, Some};
+    ghost use Rattle.stab_items.specs.Paths.{numbers};
+
+    /// The path of these numbers, of which there are 1 to 17.
+    pub fn new(places: &[usize]) -> Path
+        requires some { 0 < length places.now }
+        requires few { length places.now ≤ 17 }
+        ensures value { numbers result ≡ places.now }
+    {
+        let depth = places.len() - 1;
+        let mut blocks = [0; 16];
+        blocks[..depth].copy_from_slice(&places[..depth]);
+        Path {
+            blocks,
+            depth,
+            place: places[depth],
+        }
+    }
+
+    /// The first number: a place in the outermost list.
+    pub fn first(&self) -> usize
+        ensures value { slice_get (numbers self.now) 0 ≡ Some result }
+    {
+        if self.depth == 0 {
+            self.place
+        } else {
+            self.blocks[0]
+        }
+    }
+
+    /// The places of the blocks around, the outermost first.
+    pub fn blocks(&self) -> &[usize]
+        ensures value { result.now ≡ self.now.blocks }
+    {
+        &self.blocks[..self.depth]
+    }
+
+    /// The place in the innermost list.
+    pub fn place(&self) -> usize
+        ensures value { result ≡ self.now.place }
+    {
+        self.place
+    }
+}
+
+/// Writes a number in decimal.
+fn write_number<O: Output>(out: &mut O, number: usize) -> Result<(), Refusal>
+    ensures writes { WritesAll (O.seen out.old) (O.seen out.new) (decimal number) result }
+{
+    let mut digits = Buffer::new();
+    write_all(out, digits.format(number).as_bytes())
+}
+
+/// Writes the place of a block, with a slash after it.
+fn write_block<O: Output>(out: &mut O, place: usize) -> Result<(), Refusal>
+    ensures writes { WritesAll (O.seen out.old) (O.seen out.new) (decimal place ++ codes "/") result }
+{
+    write_number(out, place)?;
+    write_all(out, b"/")
+}
+
+/// Writes a path's numbers in decimal, joined by slashes, and takes no memory. It does not flush.
+///
+/// Refusal `WriteFault` if a write failed; what was written is then a prefix of the text, and
+/// nothing more is tried.
+pub fn write_path<O: Output>(out: &mut O, path: &Path) -> Result<(), Refusal>
+    ensures writes { WritesAll (O.seen out.old) (O.seen out.new) (path_text path.now) result }
+{
+    let blocks = path.blocks();
+    for block in blocks {
+        write_block(out, *block)?;
+    }
+    write_number(out, path.place())
+}

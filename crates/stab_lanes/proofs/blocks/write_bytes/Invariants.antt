@@ -1,8 +1,0 @@
-use Rattle.stab_lanes.proofs.Names.{◌≡◌, take, length, lane_bytes}
-use Rattle.stab_lanes.proofs.blocks.write_bytes.Given as goal
-
-abbrev pub invariant-loop-i : goal.invariant-loop-i
-invariant-loop-i l = record {
-  size : length l.bytes ≡ length l.words;
-  made : take l.i l.bytes ≡ lane_bytes l.place (take l.i l.words);
-}

@@ -1,6 +1,0 @@
-use Rattle.stab_lanes.proofs.Names.{rules}
-use Rattle.stab_lanes.proofs.SeedLemmas.{coin-later}
-use Rattle.stab_lanes.proofs.coins.SeededShots.after.Goals as goal
-
-pub returns : goal.returns
-returns c = record { value = λ l t. coin-later c.args.self.seed c.args.self.first c.args.self.count c.args.skipped l t _ _ (search rules) (search rules) }

@@ -1,6 +1,0 @@
-use Rattle.stab_lanes.proofs.Names.{AreCoins}
-use Rattle.stab_lanes.proofs.SeedLemmas.{first_shots}
-use Rattle.stab_lanes.proofs.coins.coins_of_half.Given as goal
-
-abbrev pub invariant-loop-lane : goal.invariant-loop-lane
-invariant-loop-lane l = AreCoins (first_shots l.shots l.lane) l.group 32 l.half

@@ -1,9 +1,0 @@
-use Rattle.stab_line_reader.proofs.Names.{◌≡◌, length, words, controlled_of}
-use Rattle.stab_line_reader.proofs.ResultLemmas.{following}
-use Rattle.stab_line_reader.proofs.control.controlled_pairs.Given as goal
-
-abbrev pub invariant-loop-pair : goal.invariant-loop-pair
-invariant-loop-pair l = following l.found.items (controlled_of (words l.rest)) ≡ controlled_of (words l.words_text)
-
-abbrev pub decreases-loop-pair : goal.decreases-loop-pair
-decreases-loop-pair l = length l.rest

@@ -1,6 +1,0 @@
-use Rattle.stab_line_reader.proofs.Names.{◌≡◌, drop, each, paired}
-use Rattle.stab_line_reader.proofs.ResultLemmas.{following}
-use Rattle.stab_line_reader.proofs.control.with_pairs.Given as goal
-
-abbrev pub invariant-loop-target : goal.invariant-loop-target
-invariant-loop-target l = following l.found.items (each paired (drop l.target-index l.targets)) ≡ following l.initial.found.items (each paired l.targets)

@@ -1,5 +1,0 @@
-use Rattle.stab_line_reader.proofs.SpacedTargetLemmas.{measure_target}
-use Rattle.stab_line_reader.proofs.spaced_target.MeasureTargetsSpacedTarget.in_front.Goals as goal
-
-pub returns-in-Some-clause-value : goal.returns-in-Some-clause-value
-returns-in-Some-clause-value c = measure_target c.args.bytes.now c.in-Some.found.1.now c.in-Some.found.0 c.measured.result c.in-Some.ensures.value c.measured.ensures.value

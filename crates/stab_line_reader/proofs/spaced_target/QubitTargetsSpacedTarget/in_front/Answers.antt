@@ -1,5 +1,0 @@
-use Rattle.stab_line_reader.proofs.SpacedTargetLemmas.{qubit_seen}
-use Rattle.stab_line_reader.proofs.spaced_target.QubitTargetsSpacedTarget.in_front.Goals as goal
-
-pub returns-clause-value : goal.returns-clause-value
-returns-clause-value c = qubit_seen c.args.bytes.now c.spaced_qubit.result c.spaced_qubit.ensures.value

@@ -1,4 +1,0 @@
-pub mod Parts
-pub mod Numbers
-pub mod FrontTargets
-pub mod PlainLines

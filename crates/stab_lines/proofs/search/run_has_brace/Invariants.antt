@@ -1,5 +1,0 @@
-use Rattle.stab_lines.proofs.Names.{◌≡◌, take, list_any, is_brace}
-use Rattle.stab_lines.proofs.search.run_has_brace.Given as goal
-
-abbrev pub invariant-loop-byte : goal.invariant-loop-byte
-invariant-loop-byte l = l.found ≡ list_any is_brace (take l.byte-index l.run)

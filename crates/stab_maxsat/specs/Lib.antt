@@ -1,4 +1,0 @@
-pub mod Problems
-pub mod Questions
-pub mod Made
-pub mod inner

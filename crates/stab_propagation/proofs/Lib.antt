@@ -1,4 +1,0 @@
-mod Names
-mod WordLemmas
-mod LineLemmas
-mod SendLemmas

@@ -1,0 +1,53 @@
+use Rattle.stab_report.proofs.Names.{◌≡◌, refl, ◌∙◌, ◌++◌, ◌+◌, List, FaultPlace, length-map, length-append, sym, ap, length, drop, map, append_assoc, append-nil, Some, None, arith, flat_map, slice_get, slice_get_within, step_shown, faults_on, sites_at, site_shown}
+use Rattle.stab_report.specs.PlacedFaults.{fault_placed}
+use Rattle.stab_report.specs.declared.fault_places.PlacedFault.{PlacedFault}
+use Rattle.stab_report.proofs.FaultSiteLaws.{found_none}
+use Rattle.stab_report.proofs.FaultTextLaws.{drop-found, drop-missed}
+use Rattle.stab_report.proofs.fault_places.push_step.Goals as goal
+
+-- two were pushed
+two_more : (old new : List PlacedFault) (both : List FaultPlace) → length both ≡ 2 → map fault_placed new ≡ map fault_placed old ++ both → length new ≡ length old + 2
+two_more old new both two is =
+    omega (arith, two, ap length is, length-map new fault_placed, length-map old fault_placed, length-append (map fault_placed old) both)
+
+pub overflow_add-place : goal.overflow_add-place
+overflow_add-place c =
+    let more = two_more c.places.faults.items c.push_site.new.faults.items (faults_on c.args.number (site_shown c.in-Some.site)) refl c.in_ok-push_site.ensures.faults in
+    record { fits = omega (arith, c.len.ensures, c.len.type_inv, c.push_site.new.faults.ok.0, more, c.places.invariant.pushed) }
+
+pub places-smaller : goal.places-smaller
+places-smaller c =
+    let sites = sites_at c.args.everywhere (step_shown c.args.step) in
+    let site = site_shown c.in-Some.site in
+    let found : slice_get sites c.places.place ≡ Some site = sym c.in-Some.ensures.value in
+    let less = slice_get_within sites c.places.place site found in
+    omega (arith, less)
+
+pub places-preserved : goal.places-preserved
+places-preserved c =
+    let sites = sites_at c.args.everywhere (step_shown c.args.step) in
+    let site = site_shown c.in-Some.site in
+    let found : slice_get sites c.places.place ≡ Some site = sym c.in-Some.ensures.value in
+    let less = slice_get_within sites c.places.place site found in
+    let rest = flat_map (faults_on c.args.number) (drop (c.places.place + 1) sites) in
+    let old = map fault_placed c.places.faults.items in
+    let more = two_more c.places.faults.items c.push_site.new.faults.items (faults_on c.args.number site) refl c.in_ok-push_site.ensures.faults in
+    record {
+      pushed = omega (arith, more, c.places.invariant.pushed);
+      within = omega (arith, less);
+      faults = c.places.invariant.faults
+          ∙ ap (λ xs. old ++ flat_map (faults_on c.args.number) xs) (drop-found sites c.places.place site found)
+          ∙ sym (append_assoc old (faults_on c.args.number site) rest)
+          ∙ ap (λ fs. fs ++ rest) (sym c.in_ok-push_site.ensures.faults);
+    }
+
+pub returns : goal.returns
+returns c =
+    let sites = sites_at c.args.everywhere (step_shown c.args.step) in
+    let missed : slice_get sites c.places.place ≡ None = sym c.site_at.ensures.value ∙ found_none c.site_at.result c.in_default.not-Some in
+    let old = map fault_placed c.places.faults.items in
+    record {
+      faults = sym (append-nil old)
+          ∙ ap (λ xs. old ++ flat_map (faults_on c.args.number) xs) (sym (drop-missed sites c.places.place missed))
+          ∙ sym c.places.invariant.faults;
+    }

@@ -1,0 +1,24 @@
+mod Names
+pub mod WordLemmas
+pub mod WideLemmas
+pub mod MovedBitLemmas
+pub mod ExchangeLemmas
+pub mod DigitLemmas
+pub mod ColumnLemmas
+pub mod TransposeLemmas
+pub mod RowLemmas
+pub mod FrameLemmas
+pub mod LaneLemmas
+pub mod PlaceLemmas
+pub mod SeedLemmas
+pub mod UnitLemmas
+pub mod FollowLemmas
+pub mod GoLemmas
+pub mod PivotLemmas
+pub mod BatchLemmas
+pub mod RecordedLemmas
+pub mod RecordingLemmas
+pub mod LaneRunLemmas
+pub mod FoldLemmas
+pub mod CheckpointLemmas
+pub mod AdvancedLemmas

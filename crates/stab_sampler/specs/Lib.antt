@@ -1,0 +1,12 @@
+pub mod Words
+pub mod Lanes
+pub mod Seeds
+pub mod Units
+pub mod Bytes
+pub mod Blocks
+pub mod RecordedPivots
+pub mod Differences
+pub mod Shots
+pub mod PartRecordings
+pub mod References
+pub mod LaneCheckpoints

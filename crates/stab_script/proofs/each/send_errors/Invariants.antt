@@ -1,0 +1,8 @@
+use Rattle.stab_script.proofs.Names.{drop, flat_map, WroteUpTo, circuit_items}
+use Rattle.stab_script.proofs.EachLemmas.{line_of}
+use Rattle.stab_script.proofs.each.send_errors.Given as goal
+
+abbrev pub invariant-faults : goal.invariant-faults
+invariant-faults g l =
+    let line = line_of (circuit_items l.circuit) in
+    WroteUpTo (g.O.Output.seen l.initial.out) (g.O.Output.seen l.out) (flat_map line l.faults) (flat_map line (drop l.fault-index l.faults))

@@ -1,0 +1,13 @@
+pub mod Ascending
+pub mod Tables
+pub mod LogicalErrors
+pub mod Counts
+pub mod Graphlike
+pub mod Progress
+pub mod PartNumbers
+pub mod inner
+pub mod SearchParts
+pub mod PartSets
+pub mod Problems
+pub mod Questions
+pub mod Made

@@ -1,0 +1,16 @@
+pub mod Lists
+pub mod Errors
+pub mod Classes
+pub mod Ends
+pub mod Indexes
+pub mod Steps
+pub mod Pairs
+pub mod Covers
+pub mod Ways
+pub mod Certificates
+pub mod Shortest
+pub mod ReportedProgress
+pub mod Graphs
+pub mod Labels
+pub mod Parts
+pub mod Sums

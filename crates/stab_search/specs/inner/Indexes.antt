@@ -1,0 +1,21 @@
+-- Indexes: rows listed by places, such as the detectors that they flip.
+use Rattle.std.specs.Prelude.{◌≡◌, ℕ, zero, suc, ◌<◌, true, List, [], ◌∷◌, length, slice_index, bit_and}
+use Rattle.std.specs.Global.{Vec}
+use Rattle.stab_search.specs.Tables.{odd, row}
+use Rattle.stab_search.specs.inner.Lists.{Each, has}
+
+-- the rows listed at a place; none past the end
+abbrev pub listed : List (Vec ℕ) → ℕ → List ℕ
+listed [] place = []
+listed (rows ∷ index) zero = rows.items
+listed (rows ∷ index) (suc place) = listed index place
+
+-- each row is listed at each detector that it flips
+pub record ListsDetectors (rows : List (List ℕ)) (index : List (Vec ℕ)) : Type 0 where
+  pub inside : (d : ℕ) → Each (λ r. r < length rows) (listed index d)
+  pub complete : (d r : ℕ) → r < length rows → odd d (row rows r) ≡ true → has r (listed index d) ≡ true
+
+-- each row is listed at the low bits of its key
+pub record ListsKeys (keys : List ℕ) (mask : ℕ) (index : List (Vec ℕ)) : Type 0 where
+  pub inside : (place : ℕ) → Each (λ r. r < length keys) (listed index place)
+  pub complete : (r : ℕ) → r < length keys → has r (listed index (bit_and (slice_index keys r) mask)) ≡ true

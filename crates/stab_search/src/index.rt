@@ -1,0 +1,63 @@
+ghost use Rattle.std.specs.Prelude.{◌≡◌, ◌≢◌, ℕ, ◌<◌, true, [], ◌∷◌, ◌++◌, IfOk, OnOk};
+ghost use Rattle.stab_search.specs.inner.Lists.{Each, has};
+ghost use Rattle.stab_search.specs.inner.Indexes.{listed, ListsDetectors};
+
+use crate::row::Row;
+use std::alloc::{AllocError, Global};
+
+/// For each detector or observable the rows that flip it.
+pub fn rows_by_detector(alloc: Global, rows: &[Row]) -> Result<Vec<Vec<usize>>, AllocError>
+    ensures index { IfOk result (λ v. ListsDetectors rows.now v.items) }
+{
+    let mut index = Vec::new(alloc);
+    'all: for r in 0..rows.len() {
+        let row = &rows[r];
+        list_row(alloc, &mut index, row.numbers(), r)?;
+    }
+    Ok(index)
+}
+
+/// Lists row r at each of these places.
+fn list_row(
+    alloc: Global,
+    index: &mut Vec<Vec<usize>>,
+    places: &[u32],
+    r: usize,
+) -> Result<(), AllocError>
+    ensures others { OnOk result ((d q : ℕ) → has q (listed index.old.items d) ≡ true → has q (listed index.new.items d) ≡ true) }
+    ensures each { OnOk result ((d : ℕ) → has d places.now ≡ true → has r (listed index.new.items d) ≡ true) }
+    ensures inside { OnOk result ((n d : ℕ) → r < n → Each (λ q. q < n) (listed index.old.items d) → Each (λ q. q < n) (listed index.new.items d)) }
+{
+    'each: for d in places {
+        list(alloc, index, *d as usize, r)?;
+    }
+    Ok(())
+}
+
+/// Lists row r at a place.
+pub fn list(
+    alloc: Global,
+    index: &mut Vec<Vec<usize>>,
+    place: usize,
+    r: usize,
+) -> Result<(), AllocError>
+    ensures here { OnOk result (listed index.new.items place ≡ listed index.old.items place ++ r ∷ []) }
+    ensures elsewhere { OnOk result ((e : ℕ) → e ≢ place → listed index.new.items e ≡ listed index.old.items e) }
+{
+    'grow: while index.len() <= place {
+        index.push(Vec::new(alloc))?;
+    }
+    index[place].push(r)?;
+    Ok(())
+}
+
+/// The rows listed at a place.
+pub fn rows_at(index: &[Vec<usize>], place: usize) -> &[usize]
+    ensures value { result.now ≡ listed index.now place }
+{
+    if place < index.len() {
+        index[place].as_slice()
+    } else {
+        &[]
+    }
+}

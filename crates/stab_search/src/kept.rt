@@ -1,0 +1,269 @@
+//! Errors that are enough: if for each error and each class of detectors another error flips just what it flips of that class, those errors
+//! are enough that flip detectors of one class.
+ghost use Rattle.std.specs.Prelude.{◌≡◌, ◌≢◌, ℕ, ◌<◌, true, false, List, length, map, slice_index, IfOk, IfErr, OnOk};
+ghost use Rattle.stab_io.specs.declared.refusal.Refusal.TheVariants.{OutOfMemory};
+ghost use Rattle.stab_search.specs.Ascending.{IsAscending};
+ghost use Rattle.stab_search.specs.Tables.{ErrorTable, odd, row};
+ghost use Rattle.stab_search.specs.inner.Classes.{class_of, AreOfClass, HaveClasses, Counts, AreParts, Splits, AreEnough};
+ghost use Rattle.stab_search.specs.inner.Errors.{AreRowsOf};
+
+use crate::classes::{class_at, classes_of, parts_of};
+use crate::distinct::{Distinct, distinct_rows, rows_in_order};
+use crate::errors::Errors;
+use crate::logical::flipped_by;
+use crate::merging::merge_into;
+use crate::steps::{find_step, order_by};
+use crate::table::Table;
+use stab_io::Refusal;
+use std::alloc::{AllocError, Global};
+
+/// Errors that are enough, and their numbers in a table.
+#[derive(Drop)]
+pub struct Kept {
+    pub errors: Errors,
+    pub numbers: Vec<usize>,
+}
+
+/// The errors of a table that are enough.
+///
+/// The only refusal is `OutOfMemory`.
+pub fn enough_of(alloc: Global, table: &Table) -> Result<Kept, Refusal>
+    ensures enough { IfOk result (λ k. AreEnough table.now k.errors.table k.numbers.items) }
+    ensures refusal { IfErr result (λ e. e ≡ OutOfMemory) }
+{
+    let distinct = distinct_rows(alloc, table)?;
+    let errors = Errors::new(alloc, table.detectors(), distinct.rows)?;
+    Ok(keep_enough(alloc, errors, distinct.numbers)?)
+}
+
+/// Errors that are enough, in an order in which few can be first.
+fn keep_enough(alloc: Global, errors: Errors, numbers: Vec<usize>) -> Result<Kept, AllocError>
+    ensures enough { IfOk result (λ k. (t : ErrorTable) → AreEnough t errors.table numbers.items → AreEnough t k.errors.table k.numbers.items) }
+{
+    let kept = keep_one_class(alloc, errors, numbers)?;
+    let ordered = put_firsts(alloc, kept)?;
+    Ok(ordered)
+}
+
+/// The errors with those first that no step moves down, if there is a step that moves down most of them.
+fn put_firsts(alloc: Global, kept: Kept) -> Result<Kept, AllocError>
+    ensures enough { IfOk result (λ k. (t : ErrorTable) → AreEnough t kept.errors.table kept.numbers.items → AreEnough t k.errors.table k.numbers.items) }
+{
+    match find_step(alloc, &kept.errors)? {
+        None => Ok(kept),
+        Some(lower) => Ok(put_in_order(
+            alloc,
+            &kept.errors,
+            kept.numbers.as_slice(),
+            lower.as_slice(),
+        )?),
+    }
+}
+
+/// The errors with those first that this step does not move down.
+fn put_in_order(
+    alloc: Global,
+    errors: &Errors,
+    numbers: &[usize],
+    lower: &[u32],
+) -> Result<Kept, AllocError>
+    ensures enough { IfOk result (λ k. (t : ErrorTable) → AreEnough t errors.now.table numbers.now → AreEnough t k.errors.table k.numbers.items) }
+{
+    let order = order_by(alloc, errors, lower)?;
+    let chosen = rows_in_order(alloc, errors.rows(), order.errors.as_slice())?;
+    let numbers = numbers_at(alloc, numbers, chosen.numbers.as_slice())?;
+    let mut ordered = Errors::new(alloc, errors.detectors(), chosen.rows)?;
+    ordered.begin_before(order.firsts, lower);
+    Ok(Kept {
+        errors: ordered,
+        numbers,
+    })
+}
+
+/// The numbers at these places, 0 if there is none.
+fn numbers_at(alloc: Global, numbers: &[usize], places: &[usize]) -> Result<Vec<usize>, AllocError>
+    ensures count { IfOk result (λ v. length v.items ≡ length places.now) }
+    ensures each { IfOk result (λ v. (k : ℕ) → k < length places.now → slice_index v.items k ≡ slice_index numbers.now (slice_index places.now k)) }
+{
+    let mut found = Vec::new(alloc);
+    'places: for k in 0..places.len() {
+        found.push(number_at(numbers, places[k]))?;
+    }
+    Ok(found)
+}
+
+fn number_at(numbers: &[usize], k: usize) -> usize
+    ensures value { result ≡ slice_index numbers.now k }
+{
+    if k < numbers.len() { numbers[k] } else { 0 }
+}
+
+/// Those of these errors that flip detectors of one class, if they are enough; else all.
+fn keep_one_class(alloc: Global, errors: Errors, numbers: Vec<usize>) -> Result<Kept, AllocError>
+    ensures enough { IfOk result (λ k. (t : ErrorTable) → AreEnough t errors.table numbers.items → AreEnough t k.errors.table k.numbers.items) }
+{
+    let classes = classes_of(alloc, &errors)?;
+    let chosen = of_one_class(alloc, &errors, numbers.as_slice(), classes.as_slice())?;
+    let fewer = Errors::new(alloc, errors.detectors(), chosen.rows)?;
+    if fewer.len() < errors.len() && all_split(alloc, &errors, &fewer, classes.as_slice())? {
+        Ok(Kept {
+            errors: fewer,
+            numbers: chosen.numbers,
+        })
+    } else {
+        Ok(Kept { errors, numbers })
+    }
+}
+
+/// The errors that flip detectors of one class.
+fn of_one_class(
+    alloc: Global,
+    errors: &Errors,
+    numbers: &[usize],
+    classes: &[usize],
+) -> Result<Distinct, AllocError>
+    ensures rows { IfOk result (λ x. (rows : List (List ℕ)) → AreRowsOf rows errors.now.table.rows numbers.now → AreRowsOf rows x.rows.items x.numbers.items) }
+    ensures classes { IfOk result (λ x. HaveClasses (record { detectors = errors.now.table.detectors; rows = x.rows.items }) classes.now) }
+{
+    let mut chosen = Distinct::new(alloc);
+    'rows: for r in 0..errors.len().min(numbers.len()) {
+        add_if_of_one_class(
+            alloc,
+            &mut chosen,
+            errors.row(r),
+            numbers[r],
+            classes,
+            errors.detectors(),
+        )?;
+    }
+    Ok(chosen)
+}
+
+/// Adds row r of the table, which has these numbers, if its detectors have one class.
+fn add_if_of_one_class(
+    alloc: Global,
+    chosen: &mut Distinct,
+    numbers: &[u32],
+    r: usize,
+    classes: &[usize],
+    detectors: usize,
+) -> Result<(), AllocError>
+    requires ascending { IsAscending numbers.now }
+    ensures rows { OnOk result ((rows : List (List ℕ)) → r < length rows → row rows r ≡ numbers.now → AreRowsOf rows chosen.old.rows.items chosen.old.numbers.items → AreRowsOf rows chosen.new.rows.items chosen.new.numbers.items) }
+    ensures classes { OnOk result (HaveClasses (record { detectors = detectors; rows = chosen.old.rows.items }) classes.now → HaveClasses (record { detectors = detectors; rows = chosen.new.rows.items }) classes.now) }
+{
+    if is_of_one_class(numbers, classes, detectors) {
+        chosen.add(alloc, numbers, r)?;
+    }
+    Ok(())
+}
+
+/// Whether all detectors among these numbers have the class of the first number, and it is not 0.
+fn is_of_one_class(numbers: &[u32], classes: &[usize], detectors: usize) -> bool
+    ensures yes { result ≡ true → AreOfClass classes.now detectors numbers.now (class_of classes.now numbers.now) }
+{
+    let class = class_of(numbers, classes);
+    'each: for d in numbers {
+        if !is_of_class(*d, classes, detectors, class) {
+            return false;
+        }
+    }
+    true
+}
+
+/// Whether a number has this class, which is not 0, if it is a detector.
+fn is_of_class(d: u32, classes: &[usize], detectors: usize, class: usize) -> bool
+    ensures yes { result ≡ true → d < detectors → (slice_index classes.now d ≡ class) × (class ≢ 0) }
+{
+    d as usize >= detectors || (class != 0 && class_at(classes, d) == class)
+}
+
+/// The class of the first of these numbers, 0 if there is none.
+fn class_of(numbers: &[u32], classes: &[usize]) -> usize
+    ensures value { result ≡ class_of classes.now numbers.now }
+{
+    if numbers.is_empty() {
+        0
+    } else {
+        class_at(classes, numbers[0])
+    }
+}
+
+/// Whether each of the errors splits into some of those kept.
+fn all_split(
+    alloc: Global,
+    errors: &Errors,
+    kept: &Errors,
+    classes: &[usize],
+) -> Result<bool, AllocError>
+    ensures all { IfOk result (λ b. b ≡ true → (r : ℕ) → r < length errors.now.table.rows → Splits kept.now.table classes.now (row errors.now.table.rows r)) }
+{
+    'rows: for r in 0..errors.len() {
+        let numbers = errors.row(r);
+        let parts = parts_of(alloc, kept, classes, numbers)?;
+        if !are_parts(alloc, kept, classes, numbers, parts.as_slice())? {
+            return Ok(false);
+        }
+    }
+    Ok(true)
+}
+
+/// Whether these errors flip together the observables among these numbers and the detectors that are not ignored, and have different classes.
+fn are_parts(
+    alloc: Global,
+    kept: &Errors,
+    classes: &[usize],
+    numbers: &[u32],
+    parts: &[usize],
+) -> Result<bool, AllocError>
+    requires ascending { IsAscending numbers.now }
+    ensures yes { IfOk result (λ b. b ≡ true → AreParts kept.now.table classes.now numbers.now parts.now) }
+{
+    let flipped = match flipped_by(alloc, kept.rows(), parts)? {
+        None => return Ok(false),
+        Some(flipped) => flipped,
+    };
+    let mut rest = Vec::new(alloc);
+    merge_into(&mut rest, flipped.as_slice(), numbers)?;
+    Ok(
+        none_counts(rest.as_slice(), classes, kept.detectors())
+            && are_distinct(kept, classes, parts),
+    )
+}
+
+/// Whether each of these numbers is a detector that is ignored.
+fn none_counts(numbers: &[u32], classes: &[usize], detectors: usize) -> bool
+    ensures yes { result ≡ true → (i : ℕ) → Counts classes.now detectors i → odd i numbers.now ≡ false }
+{
+    'each: for d in numbers {
+        if !is_ignored(*d, classes, detectors) {
+            return false;
+        }
+    }
+    true
+}
+
+/// Whether a number is a detector of class 0.
+fn is_ignored(d: u32, classes: &[usize], detectors: usize) -> bool
+    ensures yes { result ≡ true → (d < detectors) × (slice_index classes.now d ≡ 0) }
+{
+    (d as usize) < detectors && class_at(classes, d) == 0
+}
+
+/// Whether the classes of these errors ascend.
+fn are_distinct(kept: &Errors, classes: &[usize], parts: &[usize]) -> bool
+    ensures yes { result ≡ true → IsAscending (map (λ r. class_of classes.now (row kept.now.table.rows r)) parts.now) }
+{
+    let mut from = 0;
+    'parts: for r in parts {
+        if *r >= kept.len() {
+            return false;
+        }
+        let class = class_of(kept.row(*r), classes);
+        if class < from || class == usize::MAX {
+            return false;
+        }
+        from = class + 1;
+    }
+    true
+}

@@ -1,5 +1,0 @@
-use Rattle.stab_shots.proofs.Names.{◌≡◌, ◌++◌, drop, times}
-use Rattle.stab_shots.proofs.repeated_flips.append_times.Given as goal
-
-abbrev pub invariant-loop : goal.invariant-loop
-invariant-loop g l = l.items.items ≡ l.fn.items.items ++ times l.counter (drop l.from l.fn.items.items)

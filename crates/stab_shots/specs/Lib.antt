@@ -1,4 +1,0 @@
-pub mod Shots
-pub mod PartRecordings
-pub mod References
-pub mod LaneCheckpoints

@@ -1,3 +1,0 @@
-pub mod OldRests
-pub mod Prepared
-pub mod PropagatedRecordings
