@@ -12,8 +12,8 @@ Everything is computed by the program, which is found by the variable STABSIM, i
 package adds: what it makes of Stim's text, error models and their samples. docs/use/python.md of the repository begins with examples.
 
 Modules lie in folders by subject, and each folder begins with a page on what is in it. A module imports from its own folder and from those
-before it alone, except for types, in this order: `errors`, `checking`, `program` and `bars` beside this page, `formats`, `text`, `shots`, `questions`,
-`noise`, `collecting`, `session`, `diagrams`, `circuit`, `page`, and the commands beside this page. `codes` imports `checking` alone.
+before it alone, except for types, in this order: `errors`, `checking`, `program`, `bars` and `streams` beside this page, `formats`, `text`, `shots`,
+`questions`, `noise`, `collecting`, `session`, `diagrams`, `circuit`, `page`, and the commands beside this page. `codes` imports `checking` and `streams` alone.
 """
 
 import importlib
@@ -22,13 +22,13 @@ from typing import TYPE_CHECKING
 __version__ = "0.2.0"
 
 __all__ = [
-    "BadErrorModel", "BadPrediction", "BadShots", "Block", "Cause", "Changed", "Channel", "Circuit", "CircuitError", "CoinTable", "Collection", "DecidingCoin",
-    "Decoder", "Diagram", "Distance", "ErrorModel", "FaultTable", "Flow", "Instruction", "Item", "ItemSteps", "MissingProgram", "NoiseModel",
-    "NoisySession", "NotDecomposed", "Numbers", "OtherExperiment", "Parity", "Path", "Predict", "ProgramFailed", "RandomBit", "Rate", "Refused",
-    "Retargeted", "SameDistribution", "SameFlows", "Seeded", "Session", "SessionEnded", "SessionNumbers", "SparseMatrix", "StabsimError",
-    "StimCircuit", "Sums",
-    "Sure", "Turn", "UnsupportedNoise", "Way", "codes", "collect", "combine", "error_model", "find_program", "fit_rate", "from_stim", "m2d", "plot",
-    "rate_per_round", "read_shots", "retargeted", "with_chances", "without_noise", "write_shots",
+    "BadErrorModel", "BadPrediction", "BadShots", "Block", "Cause", "Changed", "Channel", "Circuit", "CircuitError", "CoinTable", "Collection",
+    "DecidingCoin", "Decoder", "Diagram", "Distance", "Effect", "ErrorModel", "FaultTable", "Flow", "Instruction", "Item", "ItemSteps",
+    "MissingProgram", "NoiseModel", "NoisySession", "NotDecomposed", "Numbers", "OtherExperiment", "Parity", "Path", "Predict", "ProgramFailed",
+    "RandomBit", "Rate", "Refused", "Retargeted", "SameDistribution", "SameFlows", "Seeded", "Session", "SessionEnded", "SessionNumbers",
+    "SparseMatrix", "StabsimError", "StimCircuit", "Sums", "Sure", "Turn", "UnsupportedNoise", "Way", "codes", "collect", "combine", "error_model",
+    "find_program", "fit_rate", "from_stim", "m2d", "plot", "rate_per_round", "read_shots", "retargeted", "with_chances", "without_noise",
+    "write_shots",
 ]
 
 # A module is read when one of its names is asked for first, so that `stabsim.codes` needs no numpy.
@@ -63,7 +63,7 @@ if TYPE_CHECKING:
     from stabsim.questions.parities import Parity, SameDistribution
     from stabsim.questions.random_bits import DecidingCoin, RandomBit
     from stabsim.questions.sure import Sure
-    from stabsim.questions.ways import Turn, Way
+    from stabsim.questions.ways import Effect, Turn, Way
     from stabsim.session.retargeting import Retargeted, retargeted
     from stabsim.session.script import Path
     from stabsim.session.session import NoisySession, Session
@@ -101,7 +101,7 @@ else:
         "questions.parities": ("Parity", "SameDistribution"),
         "questions.random_bits": ("DecidingCoin", "RandomBit"),
         "questions.sure": ("Sure",),
-        "questions.ways": ("Turn", "Way"),
+        "questions.ways": ("Effect", "Turn", "Way"),
         "session.retargeting": ("Retargeted", "retargeted"),
         "session.script": ("Path",),
         "session.session": ("NoisySession", "Session"),

@@ -16,6 +16,7 @@ import argparse
 import contextlib
 import csv
 import importlib
+import io
 import json
 import os
 import pathlib
@@ -23,9 +24,9 @@ import signal
 import sys
 from collections.abc import Iterable, Iterator
 from concurrent.futures import ProcessPoolExecutor
-from typing import IO, Any
+from typing import Any
 
-from stabsim import program
+from stabsim import program, streams
 from stabsim.collecting.collecting import collect
 from stabsim.collecting.counting import Decoder
 from stabsim.collecting.sums import Sums
@@ -114,8 +115,9 @@ def decoder_of(words: str) -> tuple[str, Decoder]:
     return f"{module}.{name}", decoder
 
 
-def write(counted: Iterable[Sums], output: IO[str]) -> None:
+def table_of(counted: Iterable[Sums]) -> str:
     """The table of sums."""
+    output = io.StringIO()
     table = csv.writer(output, lineterminator="\n")
     table.writerow(COLUMNS)
     for it in counted:
@@ -123,6 +125,7 @@ def write(counted: Iterable[Sums], output: IO[str]) -> None:
         metadata = json.dumps(it.metadata, sort_keys=True) if it.metadata else ""
         rates = (f"{rate:.6g}" for rate in (best, low, high))
         table.writerow((it.name, it.decoder, it.shots, it.discards, it.errors, *rates, f"{it.seconds:.3f}", metadata))
+    return output.getvalue()
 
 
 def count(given: argparse.Namespace) -> list[Sums]:
@@ -164,7 +167,8 @@ def main() -> int:
         return 130
     # A closed pipe ends the command without a word, as it ends others.
     signal.signal(signal.SIGPIPE, signal.SIG_DFL)
-    write(counted, sys.stdout)
+    with telling():
+        streams.write_out(table_of(counted).encode())
     return 0
 
 

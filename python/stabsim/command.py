@@ -1,6 +1,5 @@
 """The commands of an installed package: `stabsim`, and `stabsim-page [FILE]`."""
 
-import errno
 import os
 import pathlib
 import signal
@@ -8,20 +7,12 @@ import stat
 import subprocess
 import sys
 from collections.abc import Sequence
-from typing import BinaryIO
 
 PACKAGE = pathlib.Path(__file__).resolve().parent
 HELPING = {"--help", "-h", "help"}
 
 # How many bytes are passed on at once, at most.
 MOST_BYTES = 1 << 20
-
-
-def standard_output() -> BinaryIO:
-    """Standard output, unless the caller closed it: Python has none then."""
-    if sys.stdout is None:
-        raise OSError(errno.EBADF, "standard output is closed")
-    return sys.stdout.buffer
 
 
 def run_program(given: Sequence[str] | None = None) -> int:

@@ -4,8 +4,7 @@ run out. If a part is missing, torn, there twice or of another search, a line on
 import pathlib
 import sys
 
-from stabsim import program
-from stabsim.command import standard_output
+from stabsim import program, streams
 from stabsim.questions.distance_parts import merged
 
 
@@ -15,10 +14,7 @@ def main() -> int:
         print(__doc__, file=sys.stdout if names else sys.stderr)
         return 0 if names else 2
     try:
-        out = standard_output()
-        answer = merged((name, program.text_of(pathlib.Path(name).read_bytes())) for name in names)
-        out.write(answer.encode())
-        out.flush()
+        streams.write_out(merged((name, program.text_of(pathlib.Path(name).read_bytes())) for name in names).encode())
     except (OSError, ValueError) as fault:
         print(f"merge: {fault}", file=sys.stderr)
         return 1

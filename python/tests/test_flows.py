@@ -240,3 +240,33 @@ def test_many_qubits_have_flows():
     circuit = stabsim.Circuit("H " + " ".join(map(str, range(512))))
     assert circuit.has_flow("X511 -> Z511") and not circuit.has_flow("Y511 -> Y511") and circuit.has_flow("Y511 -> -Y511")
     assert [str(flow) for flow in circuit.flow_generators()[:3]] == ["X0 -> Z0", "Z0 -> X0", "X1 -> Z1"]
+
+
+def test_paulis_of_an_observable_count_as_if_they_were_measured_where_they_stand():
+    circuit = stabsim.Circuit("X_ERROR(0.1) 0\nOBSERVABLE_INCLUDE(3) Z0\nH 0\nM(0.1) 1\nOBSERVABLE_INCLUDE(3) rec[-1] X0\nOBSERVABLE_INCLUDE(4) X0\nDETECTOR rec[-1]")
+    # Z in front of H is X after it, so the two Paulis of observable 3 are 1 together.
+    held = ["Z1 -> obs[3]", "Z0 -> obs[4]", "1 -> X0 xor obs[4]", "Z0*Z1 -> X0 xor obs[3]", "Z0*Z1 -> obs[3] xor obs[4]", "Z0 -> X0 xor obs[7]"]
+    not_held = ["1 -> obs[3]", "Z0 -> -1 xor obs[4]", "Z0 -> obs[3]", "X0 -> obs[4]", "Z0 -> X0 xor obs[4]"]
+    assert [circuit.has_flow(flow) for flow in held + not_held] == [True] * len(held) + [False] * len(not_held)
+    assert circuit.has_flow("Z0 -> -1 xor obs[4]", unsigned=True)
+
+
+def test_paulis_that_anticommute_with_an_output_have_a_flow_without_a_sign():
+    circuit = stabsim.Circuit("OBSERVABLE_INCLUDE(0) X0")
+    # X times Z is Y up to a phase, which no sign is.
+    assert [circuit.has_flow(f"Y0 -> {sign}Z0 xor obs[0]", unsigned=it) for sign in ("", "-") for it in (False, True)] == [False, True, False, True]
+    assert circuit.has_flow("X0 -> obs[0]") and circuit.has_flow("Z0 -> Z0") and not circuit.has_flow("Z0 -> Z0 xor obs[0]", unsigned=True)
+
+
+@pytest.mark.parametrize("seed", range(3))
+def test_a_measurement_that_disturbs_nothing_has_the_flows_of_a_pauli(seed):
+    # Where a product is deterministic, to measure it is to declare it: its record then is what its Paulis are.
+    numbers = random.Random(seed)
+    prepared = "R 0 1\n" + "".join(f"{numbers.choice('HSXYZ')} {numbers.randrange(2)}\n" for _ in range(4)) + "CX 0 1\nS 1\n"
+    [row, other] = stabsim.Circuit(prepared).stabilisers()
+    letters = [f"{letter}{qubit}" for qubit, letter in enumerate(row[1:]) if letter != "_"]
+    after = "".join(f"{numbers.choice(['H', 'S', 'Y'])} {numbers.randrange(2)}\n" for _ in range(3)) + "CX 1 0\n"
+    paulis = stabsim.Circuit(f"{prepared}OBSERVABLE_INCLUDE(0) {' '.join(letters)}\n{after}")
+    measured = stabsim.Circuit(f"{prepared}MPP {'*'.join(letters)}\nOBSERVABLE_INCLUDE(0) rec[-1]\n{after}")
+    flows = [f"1 -> {one}{two} xor obs[0]" for one in "_XYZ" for two in "_XYZ"]
+    assert [paulis.has_flow(flow) for flow in flows] == [measured.has_flow(flow) for flow in flows]

@@ -11,7 +11,7 @@ import stabsim
 TOP = pathlib.Path(stabsim.__file__).parent
 FOLDERS = sorted(it.parent.name for it in TOP.glob("*/__init__.py"))
 # The order is that of the package's page. Of what is beside that page, some is for all to use, and all else, the commands, comes last.
-FIRST = ("errors", "checking", "program", "bars")
+FIRST = ("errors", "checking", "program", "bars", "streams")
 ORDER = [it for it in re.findall(r"`(\w+)`", stabsim.__doc__.split("in this order: ")[1].split("`codes`")[0]) if it not in FIRST]
 RANKS = {**dict.fromkeys(FIRST, 0), "codes": 1, **{folder: rank for rank, folder in enumerate(ORDER, start=1)}}
 

@@ -129,7 +129,7 @@ def test_the_distance_of_noise_is_shown_with_its_set_and_falls_away_with_the_noi
     page = open_page(NOISY)
     ask_distance(page)
     page.wait(lambda: page.texts("#about-distance h3") == ["Distance 3 of its own noise"])
-    assert page.texts("#about-distance p") == ["XX0 of X_ERROR at tick 1 XX1 of X_ERROR at tick 1 XX2 of X_ERROR at tick 1 "]
+    assert page.texts("#about-distance p") == ["X0 of X_ERROR at tick 1 X1 of X_ERROR at tick 1 X2 of X_ERROR at tick 1 "]
     page.go_to(1)
     assert shown_set(page) == ["X0", "X1", "X2"]
     page.go_to(0)

@@ -94,7 +94,7 @@ def test_marks_are_drawn_with_their_layer_and_cleared(page):
     # The layer's number is by the mark, above on the right of its qubit, and by the letter that it has come to, below on its left. The
     # latter comes once the program has propagated the mark.
     numbers = "page.views.layout.elements().filter(({ words, weight }) => words === '7' && weight === 700).map(({ x, y }) => [x > words[0], y > words[1]])"
-    page.wait(lambda: page.ask(numbers, *page.spot(10)) == [[False, True], [True, False]])
+    page.wait(lambda: page.ask(numbers, *page.spot(10)) == [[True, False], [False, True]])
     # At another moment its ring is broken.
     broken = "page.views.layout.elements().filter(({ stroke, dash }) => stroke === 'ink' && dash).length"
     assert page.ask(broken) == 0

@@ -111,7 +111,7 @@ def test_the_distance_by_marked_errors_is_shown_with_its_set(open_page):
     page = open_page(MARKED)
     ask_distance(page)
     page.wait(lambda: page.texts("#about-distance h3") == ["Distance 3 of errors where I marks them"])
-    assert page.texts("#about-distance p") == ["XX0 at tick 1 XX1 at tick 1 XX2 at tick 1 "]
+    assert page.texts("#about-distance p") == ["X0 at tick 1 X1 at tick 1 X2 at tick 1 "]
     page.go_to(1)
     assert shown_set(page) == ["X0", "X1", "X2"]
     page.go_to(0)

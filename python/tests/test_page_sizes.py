@@ -94,6 +94,31 @@ def test_words_are_large_enough_to_be_read_and_buttons_to_be_hit(open_page):
     assert sizes and min(sizes) >= 12.5
 
 
+# Of all words on the picture and on the timeline their sizes, those on glyphs too.
+WORD_SIZES = """import('/static/glyphs.js').then(({elementsOf}) => [page.views.layout, page.views.timeline]
+  .flatMap((view) => view.elements()).flatMap((it) => (it.glyph ? elementsOf(it) : [it])).filter((it) => it.words).map((it) => [it.words, it.size]))"""
+LETTERED = "C_XYZ 1\nSQRT_X_DAG 3\nMRX 5\nS_DAG 10\nMX 12\nMR 8\nMPP X15*!Z17*Y19 X17*Z16\nCX rec[-1] 14\nX_ERROR(0.1) 25\n"
+
+
+def test_letters_are_as_large_at_any_zoom_or_left_out(open_page):
+    page = open_page(codes.surface_code(3, 3) + "TICK\n" + LETTERED)
+    page.wait(lambda: page.ask("page.shown.state.deterministic !== null"))
+    page.go_to(22)
+    page.choose_qubit(10)
+    seen = set()
+    for _ in range(9):
+        said = page.ask(WORD_SIZES)
+        assert min(size for _, size in said) >= 12.5
+        seen.add(len(said))
+        page.press("-")
+        page.settle()
+    assert len(seen) > 2
+    page.press("0", "+", "+")
+    page.settle()
+    said = page.ask(WORD_SIZES)
+    assert min(size for _, size in said) >= 12.5 and {"C", "√X†", "MX", "S†", "M", "X", "!Z"} <= {words for words, _ in said}
+
+
 @pytest.mark.parametrize("splitter, pane, by, side", [("split-left", "#circuit", (60, 0), 2), ("split-right", "#inspector", (-60, 0), 2), ("split-time", "#time", (0, -60), 3)])
 def test_splitters_make_panes_larger_by_a_drag_and_by_keys(open_page, splitter, pane, by, side):
     page = open_page(CODE)
@@ -247,6 +272,12 @@ def test_the_ring_of_what_is_chosen_is_tight_and_numbers_at_the_edges_lie_on_not
     side = page.ask("page.views.layout.elements().find(({glyph}) => glyph === 'R0' || glyph === 'reset' || glyph).side")
     [radius] = page.ask(rings)
     assert side / 2 < radius <= side * 0.75
+    # Where nothing acts, the ring is as tight at the qubit's own.
+    page.go_to(3)
+    page.choose_qubit(17)
+    [radius] = page.ask(rings)
+    [own] = page.ask("page.views.layout.elements().filter(({glyph, x, y}) => glyph === 'data' && Math.hypot(x - words[0], y - words[1]) < 1).map(({side}) => side * 0.74 / 2)", *page.spot(17))
+    assert own + 2 < radius <= own * 1.6
     spots = page.ask("page.views.layout.elements().filter(({words, size, align}) => words && size === 12.5 && align !== 'left').map(({x, y}) => [x, y])")
     assert spots and all(x < 32 or y < 22 for x, y in spots)
 

@@ -152,7 +152,7 @@ def test_a_mark_is_drawn_at_each_tick_and_along_the_wires(open_page):
     # A line for each chosen qubit, with its gates, joined where two act, and letters at the end of each moment.
     page.choose_qubit(0, 1)
     page.settle()
-    glyphs = page.ask("page.views.wires.elements().filter((it) => it.glyph && [24.1, 18].includes(it.side)).map(({ glyph, label, x, y }) => [glyph, label ?? '', x, y])")
+    glyphs = page.ask("page.views.wires.elements().filter((it) => it.glyph && it.glyph !== it.label && it.side >= 18).map(({ glyph, label, x, y }) => [glyph, label ?? '', x, y])")
     spots = [page.ask("page.views.wires.spot(words[0], words[1])", moment, line) for moment, line in ((0, 0), (0, 1), (1, 0), (1, 1), (2, 1), (3, 1), (4, 0), (4, 1))]
     assert [[name, label] for name, label, *_ in glyphs] == [
         ["reset", "0"], ["reset", "0"], ["control", ""], ["xtarget", ""], ["xtarget", ""], ["gate", "H"], ["measure", "M"], ["measure", "M"]]

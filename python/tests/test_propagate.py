@@ -106,3 +106,39 @@ def test_ticks_of_rounds_are_written_and_a_block_without_steps_counts_once():
     circuit = stabsim.Circuit("REPEAT 2 {\n    SWAP 0 1\n    TICK\n}\nREPEAT 1000000000000 {\n    TICK\n}")
     ticks = circuit.propagate("X0", at="0", every=True).turns
     assert [(turn.steps, turn.path, turn.pauli) for turn in ticks] == [(1, "0/0", "X1"), (2, "0/0", "X0"), (2, "0/0", "X0")]
+
+
+@pytest.mark.parametrize("seed", range(20))
+@pytest.mark.parametrize("everywhere", [False, True])
+def test_each_error_of_faults_has_what_propagate_says_of_it(seed, everywhere):
+    rnd = random.Random(seed)
+    lines = random_lines(rnd, 3)
+    lines = [line for written in lines for line in (written, *[f"I {rnd.randrange(3)}"] * (rnd.random() < 0.2))]
+    records = sum(line.startswith("M") for line in lines)
+    if records:
+        lines.append(f"DETECTOR rec[-{rnd.randint(1, records)}]")
+    circuit = stabsim.Circuit("\n".join(["REPEAT 2 {", *lines, "}"]))
+    errors = circuit.propagate_each(everywhere=everywhere)
+    table = circuit.faults(everywhere=everywhere, sure_only=True)
+    assert [(error.steps, error.path, error.pauli) for error in errors] == [
+        (steps, path, f"{pauli}{qubit}") for steps, path, pauli, qubit in zip(table.steps, table.paths, table.paulis, table.qubits)]
+    for error in errors:
+        way = circuit.propagate(error.pauli, after=error.steps)
+        assert (error.records, error.detectors, error.observables, error.left) == (way.records, way.detectors, way.observables, way.left)
+
+
+def test_a_session_has_the_ways_of_its_circuit_as_it_is_now():
+    with stabsim.Circuit("R 0 1\nX_ERROR(0.25) 0\nCX 0 1\nREPEAT 2 {\n    MR 1\n    CX 0 1\n}\nM 0 1").edit() as session:
+        for place, line in (2, "H 0"), (2, "DEPOLARIZE1(0.1) 0 1"), (7, "DETECTOR rec[-1]"):
+            session.insert(place, line)
+            now = stabsim.Circuit(session.circuit())
+            for string in ("X0", "-Z1", "Y0*X1"):
+                assert session.way(string, at=2) == now.propagate(string, at="2")
+                assert session.way(string, after=4) == now.propagate(string, after=4)
+        for given in ({}, {"at": 0, "after": 0}):
+            with pytest.raises(ValueError, match="one of both is wanted"):
+                session.way("X0", **given)
+        with pytest.raises(stabsim.Refused, match="QubitOutOfRange"):
+            session.way("X2", at=0)
+        with pytest.raises(ValueError, match="without spacing"):
+            session.way("X0 X1", at=0)

@@ -88,7 +88,7 @@ def test_the_program_gives_the_same_lines(name):
 
 
 def test_the_program_rewrites_no_others():
-    source = pathlib.Path(__file__).parents[2] / "crates" / "stab_diagnostics" / "src" / "names.rt"
+    source = pathlib.Path(__file__).parents[2] / "crates" / "stab_circuit" / "src" / "unread_names.rt"
     rewritings = source.read_text().split("const REWRITINGS", 1)[1].split(";", 1)[0]
     assert sorted(re.findall(r'"(\w+) [^"]*: ', rewritings)) == NAMES
 

@@ -189,3 +189,11 @@ def test_what_a_decoder_raises_is_shown_as_its_own(code, kind, tmp_path):
     assert "Traceback" in done.stderr and "failing.py" in done.stderr and re.search(f"{kind}: .*mine", done.stderr)
     # Only what is raised in a decoder is one model's.
     assert ("raised by the decoder of d=3" in done.stderr) == ("decoder" in code)
+
+
+@pytest.mark.parametrize("output, why", [(">&-", "standard output is closed"), (">/dev/full", "No space left on device")])
+def test_an_output_that_is_closed_or_full_has_a_line(tmp_path, output, why):
+    count(tmp_path / "counts.csv", shots=1024, seed=1)
+    done = subprocess.run(["sh", "-c", f'exec "$0" -m stabsim.collect_command --combine counts.csv {output}', sys.executable], cwd=tmp_path, capture_output=True, text=True,
+                          check=False)
+    assert (done.returncode, done.stderr.count("\n")) == (1, 1) and done.stderr.endswith(f"{why}\n")

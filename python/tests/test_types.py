@@ -1,4 +1,4 @@
-"""The package, and a user's program over it, are typed: mypy --strict finds nothing."""
+"""The package, a user's program over it, the tools and the examples are typed: mypy --strict finds nothing."""
 
 import pathlib
 import subprocess
@@ -7,6 +7,7 @@ import sys
 import pytest
 
 HERE = pathlib.Path(__file__).resolve().parent
+TOP = HERE.parents[1]
 WRONG = """
 import stabsim
 
@@ -17,17 +18,18 @@ stabsim.Circuit("M 0").text = "M 1"
 
 
 def said_of(*files):
-    """The lines of mypy on files, which asks for what the page imports. A cache would be left in the repository."""
+    """The lines of mypy on files, which asks for what the page imports. Some that examples and tools import have no types. A cache would be left
+    in the repository."""
     pytest.importorskip("mypy")
     pytest.importorskip("aiohttp")
-    words = [sys.executable, "-m", "mypy", "--strict", "--cache-dir", "/dev/null", *files]
+    words = [sys.executable, "-m", "mypy", "--strict", "--ignore-missing-imports", "--cache-dir", "/dev/null", *files]
     done = subprocess.run(words, capture_output=True, text=True, cwd=HERE.parent)
     return (done.stdout + done.stderr).splitlines()
 
 
-def test_the_package_and_its_user_are_typed(tmp_path):
+def test_the_package_its_user_tools_and_examples_are_typed(tmp_path):
     wrong = tmp_path / "wrong.py"
     wrong.write_text(WRONG)
-    lines = said_of("stabsim", HERE / "typed_user.py", wrong)
+    lines = said_of("stabsim", HERE / "typed_user.py", wrong, *sorted(TOP.glob("tools/*.py")), *sorted(TOP.glob("examples/*.py")))
     # What is wrong in a program is found, and nothing else. For a call with overloads there are notes besides.
     assert list(dict.fromkeys(line.split("wrong.py:")[-1].split(":")[0] for line in lines[:-1])) == ["4", "5", "6"], lines

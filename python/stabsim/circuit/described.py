@@ -1,7 +1,7 @@
 """What is asked of circuits by algebra, or of circuits with more in them; and circuits and coordinates that are made of their text."""
 
 from collections.abc import Iterable, Sequence
-from dataclasses import dataclass
+from dataclasses import dataclass, replace
 from typing import TYPE_CHECKING, Self
 
 import numpy as np
@@ -9,6 +9,8 @@ from numpy.typing import NDArray
 
 from stabsim import checking
 from stabsim.circuit import flattening, inverting
+from stabsim.circuit.flows_of_observables import flows_with_paulis
+from stabsim.noise.pauli_observables import pauli_observables
 from stabsim.questions import flow_group, missing, parities
 from stabsim.questions.asked import Asked
 from stabsim.questions.flows import Flow, SameFlows, asking_text
@@ -142,9 +144,9 @@ class Described(Written, Asked):
     def has_flow(self, flow: str | Flow, *, unsigned: bool = False) -> bool:
         """Whether the circuit turns a Pauli in front of it into one after it, up to records, signs included. docs/use/flows.md says more.
 
-        flow: as "X0*Z1 -> -Y2 xor rec[-1] xor obs[0]"; 1 is no Pauli, and obs[0] all records of that observable. The circuit and the flow
-        name up to 512 qubits, and those that the circuit does not name stay as they are. unsigned: whatever the sign. ValueError or
-        IndexError at a misspelt flow.
+        flow: as "X0*Z1 -> -Y2 xor rec[-1] xor obs[0]"; 1 is no Pauli, and obs[0] all records of that observable, and its Paulis, as if they
+        were measured where they stand. The circuit and the flow name up to 512 qubits, and those that the circuit does not name stay as they
+        are. unsigned: whatever the sign. ValueError or IndexError at a misspelt flow.
 
         >>> import stabsim
         >>> c = stabsim.Circuit("MPP X0*X1\\nOBSERVABLE_INCLUDE(2) rec[-1]")
@@ -161,10 +163,23 @@ class Described(Written, Asked):
     def flows_that_hold(self, flows: Sequence[Flow], unsigned: bool = False) -> NDArray[np.bool_]:
         """Which flows the circuit has, bool (flows,): one, or several of which all that one circuit could have."""
         before = self.numbers()
+        numbers = replace(before, qubits=max([before.qubits, *(flow.qubits for flow in flows)]))
+        paulis: list[tuple[int, ...]] = [()] * len(flows)
         if any(flow.observables for flow in flows):
-            of_observables = observable_records(items_of(self.asked))
+            of_observables, with_paulis = observable_records(items_of(self.asked)), set(pauli_observables(self.text))
+            paulis = [tuple(sorted(with_paulis.intersection(flow.observables))) for flow in flows]
             flows = [flow.with_records(of_observables, before.records) for flow in flows]
-        qubits = max([before.qubits, *(flow.qubits for flow in flows)])
+        found = np.zeros(len(flows), dtype=np.bool_)
+        for its in set(paulis):
+            places = [place for place, named in enumerate(paulis) if named == its]
+            some = [flows[place] for place in places]
+            found[places] = (flows_with_paulis(judging.judged(self.text), some, its, numbers, unsigned) if its
+                             else self.flows_of_records(some, numbers.qubits, unsigned))
+        return found
+
+    def flows_of_records(self, flows: Sequence[Flow], qubits: int, unsigned: bool) -> NDArray[np.bool_]:
+        """The same of flows that name no observables, on this many qubits."""
+        before = self.numbers()
         asked = Asked(asking_text(self.asked, flows, qubits, before.records))
         is_deterministic = asked.deterministic().detectors[before.detectors :]
         is_negative = asked.detect(1, seed=0)[0, before.detectors :]

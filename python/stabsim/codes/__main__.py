@@ -27,7 +27,7 @@ import signal
 import sys
 from collections.abc import Callable
 
-from stabsim import codes
+from stabsim import codes, streams
 
 FACTOR = re.compile(r"1|([xy])(?:\^?(\d+))?", re.ASCII)
 
@@ -110,16 +110,20 @@ def text_of(given: argparse.Namespace) -> str:
     return memory.text(memory.deepest() if given.deepest else given.rounds, given.written_out)
 
 
-def main() -> None:
+def main() -> int:
     parser = command_line()
     given = parser.parse_args()
     # A closed pipe ends the command without a word, as it ends others.
     signal.signal(signal.SIGPIPE, signal.SIG_DFL)
     try:
-        sys.stdout.write(text_of(given))
+        streams.write_out(text_of(given).encode())
     except ValueError as fault:
         parser.error(str(fault))
+    except OSError as fault:
+        print(f"codes: {fault}", file=sys.stderr)
+        return 1
+    return 0
 
 
 if __name__ == "__main__":
-    main()
+    sys.exit(main())

@@ -67,7 +67,10 @@ class Matching:
         self.between = {node: nearest(graph, node, self.to_boundary[node][0] + furthest) for node in graph}
 
     def decode_batch(self, detectors: NDArray[np.bool_]) -> NDArray[np.bool_]:
-        """What is flipped of the observables in each shot, bool (shots, observables). Shots that see the same are decoded once."""
+        """What is flipped of the observables in each shot, bool (shots, observables). Shots that see the same are decoded once. ValueError if
+        detectors are parities, some 1 without noise."""
+        if not getattr(detectors, "are_flips", True):
+            raise ValueError("these are parities, of which some are 1 without noise: give what detect(.., flips=True) draws")
         different, of_shot = np.unique(detectors, axis=0, return_inverse=True)
         masks = [self.decode(np.flatnonzero(shot).tolist()) for shot in different]
         bits = [[mask >> it & 1 for it in range(self.observables)] for mask in masks]

@@ -41,9 +41,9 @@ def families() -> dict[str, str]:
 
 def elements_of(glyph: Glyph) -> list[Path | Words]:
     """The paths and words of a glyph: less of it if it is small, as glyphs.js does on the page."""
-    level = level_of(glyph.side)
+    level = level_of(glyph)
     solid, soft, edge, on = table()["roles"][glyph.role]
-    if level == 0:
+    if level == "dot":
         return [Path(circle((glyph.x, glyph.y), 1.4), fill=solid)]
     width = max(1.0, min(1.6, glyph.side / 14))
     paints = {
@@ -51,7 +51,8 @@ def elements_of(glyph: Glyph) -> list[Path | Words]:
         "ink": Paint(edge, width * 1.25),
     }
     found: list[Path | Words] = []
-    for kind, *numbers, paint in parts_of(table()["shapes"][glyph.shape], level):
+    shape = table()["shapes"][glyph.shape]
+    for kind, *numbers, paint in shape.get(level, shape["full"]):
         found += DRAWN[kind](glyph, numbers, paints[paint])
     return found
 
@@ -64,18 +65,26 @@ class Paint:
     width: float = 0.0
 
 
-def parts_of(shape: dict[str, Any], level: int) -> list[Any]:
-    """The parts of a shape at a level: those of a larger one if it has none of its own."""
-    parts: list[Any] = shape["full"]
-    for name in ("letter", "far")[: 3 - level]:
-        parts = shape.get(name, parts)
-    return parts
-
-
-def level_of(side: float) -> int:
-    """How much is drawn of a glyph of this side: 3 all, 2 a letter alone, 1 its far shape, 0 a dot."""
+def level_of(glyph: Glyph) -> str:
+    """How much is drawn of a glyph: `full`, its `far` shape, or a `dot`."""
     levels = table()["levels"]
-    return sum(side >= levels[name] for name in ("full", "letter", "mark"))
+    if glyph.side < levels["mark"]:
+        return "dot"
+    sizes = [part[3] for part in table()["shapes"][glyph.shape]["full"] if part[0] == "label"]
+    has_room = not glyph.label or all(words_on(glyph.label, glyph.side * size) for size in sizes)
+    return "full" if glyph.side >= levels["full"] and has_room else "far"
+
+
+def words_on(label: str, side: float) -> tuple[str, float] | None:
+    """The words for a label on a glyph of this side, and their size: shorter ones if there is no room for its own, and none if there is none for
+    those. The more letters they have, the smaller they are."""
+    letters = table()["letters"]
+    for words in filter(None, (label, table()["brief"].get(label))):
+        more = min(len(words), len(letters["part"])) - 1
+        size = side * letters["part"][more]
+        if size >= letters["room"][more]:
+            return words, max(letters["least"], min(letters["most"], size))
+    return None
 
 
 def at(glyph: Glyph, x: float, y: float) -> Point:
@@ -107,14 +116,9 @@ def draw_polygon(glyph: Glyph, numbers: list[float], paint: Paint) -> list[Path 
 
 
 def draw_label(glyph: Glyph, numbers: list[float], paint: Paint) -> list[Path | Words]:
-    """The label, shortened if there is no room for it; the more letters it has, the smaller they are."""
-    x, y, size = numbers
-    brief, letters = table()["brief"], table()["letters"]
-    said = brief.get(glyph.label, glyph.label) if glyph.side < brief["below"] else glyph.label
-    if not said:
-        return []
-    part = letters["part"][min(len(said), len(letters["part"])) - 1]
-    return [Words(said, *at(glyph, x, y), min(letters["most"], glyph.side * size * part), paint.colour, weight=600)]
+    x, y, part = numbers
+    said = words_on(glyph.label, glyph.side * part)
+    return [Words(said[0], *at(glyph, x, y), said[1], paint.colour, weight=600)] if said else []
 
 
 # How each kind of part is drawn.

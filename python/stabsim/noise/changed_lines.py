@@ -6,6 +6,9 @@ from collections.abc import Sequence
 from dataclasses import dataclass, replace
 from typing import NamedTuple
 
+import numpy as np
+
+from stabsim.formats.combining import Numbers
 from stabsim.text.profile import made_of
 from stabsim.text.reading import Item, Line, content_of, items_of, parts_of
 from stabsim.text.sizes import records_of, sizes_of
@@ -141,17 +144,56 @@ def list_end(lines: Sequence[str], place: int) -> int:
     return end if depth else place
 
 
-def blocks_around(lines: Sequence[str]) -> list[int]:
-    """How many rounds each block has that is open after some lines, the outermost first."""
-    opened: list[int] = []
-    for line in [line for line in lines if line.endswith(("{", "}"))]:
-        if line.endswith("}"):
-            opened.pop()
-        else:
+def cut_with(lines: Sequence[str], end: int, records: int, at: int) -> int:
+    """The place of a cut in the outermost list, in front of a line or further back, from which on this many records are made before another
+    line of that list, rounds after the first of a block not counted."""
+    cut, depth = end, 0
+    while cut and (depth or cut > at or records > 0):
+        cut -= 1
+        line = lines[cut]
+        depth += line.endswith("}") - line.endswith("{")
+        records -= sum(map(records_of_line, quiet(line)))
+    return cut
+
+
+def is_detector(line: str) -> bool:
+    """Whether a line declares a detector."""
+    return line.lstrip().startswith("DETECTOR")
+
+
+def tally(lines: Sequence[str], opened: list[list[int]]) -> None:
+    """Goes on over lines from some open lists, the outermost first: how many rounds each has, and how many detectors so far."""
+    for line in lines:
+        if line.endswith("{"):
             parts = parts_of(content_of(line))
             assert parts, "a block has a count"
-            opened.append(int(parts.targets[0]))
-    return opened
+            opened.append([int(parts.targets[0]), 0])
+        elif line.endswith("}"):
+            rounds, detectors = opened.pop()
+            opened[-1][1] += rounds * detectors
+        elif is_detector(line):
+            opened[-1][1] += 1
+
+
+def blocks_around(lines: Sequence[str]) -> list[int]:
+    """How many rounds each block has that is open after some lines, the outermost first."""
+    opened = [[1, 0]]
+    tally([line for line in lines if line.endswith(("{", "}"))], opened)
+    return [rounds for rounds, _ in opened[1:]]
+
+
+def detector_numbers(opened: Sequence[Sequence[int]], lines: Sequence[str], below: Sequence[str]) -> Numbers:
+    """The numbers of the detectors that lines of one list declare, after lists that are open and before lines: a row for each round, int64
+    (rounds, detectors)."""
+    going = [[*its] for its in opened]
+    count, around = sum(map(is_detector, lines)), going[1:]
+    numbers = sum(detectors for _, detectors in going) + np.arange(count, dtype=np.int64)[None]
+    going[-1][1] += count
+    if around:
+        tally(below, going)
+    for rounds, each in reversed(around):
+        numbers = (each * np.arange(rounds)[:, None, None] + numbers).reshape(rounds * len(numbers), count)
+    return numbers
 
 
 def counts_of(lines: Sequence[str]) -> Counts:

@@ -55,28 +55,35 @@ def flipping_of(rows: NDArray[np.int64], columns: NDArray[np.int64], bits: int) 
     return np.split(rows[np.argsort(columns, kind="stable")], bounds) if bits else []
 
 
+def flipping_of_model(model: "ErrorModel", is_of_parts: bool = False) -> tuple[NDArray[np.int64], list[NDArray[np.int64]]]:
+    """The mechanisms that have a chance, or one that has it for each of their different parts; and for each bit the places of those that flip it."""
+    numbers = np.flatnonzero(model.chances > 0)
+    if is_of_parts:
+        numbers, indptr, columns = edges_of(model, numbers)
+        rows = np.repeat(np.arange(len(numbers)), np.diff(indptr))
+    else:
+        rows, columns = rows_of(numbers, model.indptr, model.indices)
+    return numbers, flipping_of(rows, columns, model.num_detectors + model.num_observables)
+
+
+def mechanisms_of(found: Distance, numbers: NDArray[np.int64]) -> tuple[int, ...]:
+    """The mechanisms, by their numbers, whose marks in `circuit_text` are the errors of an answer."""
+    places = [(error.steps - STEPS_BEFORE) // STEPS_OF_EACH for error in found.errors]
+    return tuple(sorted(numbers[places].tolist())) if places else ()
+
+
 def sat_problem_of_model(model: "ErrorModel") -> str:
     """The problem of the least number of mechanisms that have a chance and flip an observable and no detector."""
-    numbers = np.flatnonzero(model.chances > 0)
-    flipping = flipping_of(*rows_of(numbers, model.indptr, model.indices), model.num_detectors + model.num_observables)
+    numbers, flipping = flipping_of_model(model)
     return sat_problem([its.tolist() for its in flipping], len(numbers), model.num_detectors)
 
 
 def distance_of_model(model: "ErrorModel", most: int | None, graphlike: bool, count: bool, workers: int) -> Distance:
     """The distance over the mechanisms that have a chance, or over their parts if the model is decomposed and graph-like errors are asked
     for: with the numbers of the mechanisms. Its errors are left to be placed."""
-    numbers = np.flatnonzero(model.chances > 0)
-    is_chanceless = not len(numbers)
     is_of_parts = graphlike and model.parts is not None
-    if is_of_parts:
-        numbers, indptr, columns = edges_of(model, numbers)
-        rows = np.repeat(np.arange(len(numbers)), np.diff(indptr))
-    else:
-        rows, columns = rows_of(numbers, model.indptr, model.indices)
-    flipping = flipping_of(rows, columns, model.num_detectors + model.num_observables)
+    numbers, flipping = flipping_of_model(model, is_of_parts)
     text = circuit_text(flipping, model.num_detectors, len(numbers))
     found = distance_of(distance_text(text, option_words(graphlike, count, workers), most, workers))
-    places = sorted((error.steps - STEPS_BEFORE) // STEPS_OF_EACH for error in found.errors)
     searched = PARTS if is_of_parts else "graph-like errors" if graphlike else "all errors"
-    mechanisms = tuple(sorted(numbers[places].tolist())) if places else ()
-    return replace(found, errors=(), mechanisms=mechanisms, searched=CHANCELESS if is_chanceless else searched)
+    return replace(found, errors=(), mechanisms=mechanisms_of(found, numbers), searched=searched if model.chances.any() else CHANCELESS)

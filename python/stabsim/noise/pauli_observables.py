@@ -6,7 +6,7 @@ disturb other bits: detectors and other observables are asked of a text without 
 """
 
 import re
-from collections.abc import Callable, Iterable, Iterator, Sequence
+from collections.abc import Callable, Collection, Iterable, Iterator, Sequence
 
 import numpy as np
 
@@ -50,25 +50,26 @@ def lines_without(items: Sequence[Item], observables: Sequence[int]) -> list[str
     return list(lines_with(items, lambda it: [] if it.name == OBSERVABLE and observable_of(it) in observables else [str(it)]))
 
 
-def lines_of_observable(items: Sequence[Item], observable: int, reset: str, qubit: int) -> list[str]:
-    """The lines of items with one observable alone, whose Paulis a qubit controls."""
+def controlled_lines(items: Iterable[Item], observables: Collection[int], reset: str, qubit: int) -> list[str]:
+    """The lines of items with some observables alone, whose Paulis a qubit controls that begins by a reset."""
 
     def declare(item: Instruction) -> Iterator[str]:
-        if item.name != OBSERVABLE or observable_of(item) != observable:
+        if item.name != OBSERVABLE or observable_of(item) not in observables:
             return
         records = [target for target in item.targets if not PAULI.fullmatch(target)]
         if records:
-            yield " ".join([f"{OBSERVABLE}({observable})", *records])
+            yield " ".join([f"{OBSERVABLE}({observable_of(item)})", *records])
         yield from (f"C{target[0].upper()} {qubit} {target[1:]}" for target in item.targets if PAULI.fullmatch(target))
 
-    return [f"{reset} {qubit}", *lines_with(items, declare), f"MX {qubit}", f"{OBSERVABLE}({observable}) rec[-1]"]
+    return [f"{reset} {qubit}", *lines_with(items, declare)]
 
 
 def column_of(items: Sequence[Item], observable: int, qubit: int, sure_only: bool) -> Numbers:
     """Which rows of marks flip an observable that has Paulis. Of one that coins decide there are none with sure_only, and else it is refused."""
     for reset in RESETS:
         try:
-            flipped = Flipped.of(lines_of_observable(items, observable, reset, qubit), 0, observable + 1)
+            lines = [*controlled_lines(items, [observable], reset, qubit), f"MX {qubit}", f"{OBSERVABLE}({observable}) rec[-1]"]
+            flipped = Flipped.of(lines, 0, observable + 1)
             return np.flatnonzero(np.diff(flipped.indptr))
         except Refused as refused:
             if refused.name != "NotDeterministic":

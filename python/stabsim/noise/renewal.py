@@ -9,6 +9,7 @@ import numpy as np
 
 from stabsim.formats.combining import Numbers, odd_chances, rows_of, starts_of
 from stabsim.noise.causes import Causes
+from stabsim.noise.flipped import Bits
 from stabsim.noise.marking import Source
 
 if TYPE_CHECKING:
@@ -78,6 +79,29 @@ class Renewal:
         _, indices = rows_of(order, indptr, np.append(model.indices, self.indices))
         return replace(model, chances=chances[order], causes=replace(causes, mechanisms=rank[mechanisms]),
                        indptr=starts_of(indptr[order + 1] - indptr[order]), indices=indices)
+
+
+def renumbered(model: "ErrorModel", mechanisms: Numbers, columns: Numbers, detectors: int) -> tuple["ErrorModel", Numbers]:
+    """A model in which what is flipped has other numbers, without mechanisms that flip something which is no more; and the mechanism of each
+    error then, -1 of one that flips nothing, or flipped that. columns: the number of each detector and observable now, ascending, -1 of one
+    that is no more; detectors: how many there are now."""
+    lost = mechanisms_with(model, columns < 0)
+    if not len(lost):
+        return replace(model, indices=columns[model.indices], num_detectors=detectors), mechanisms
+    is_kept = np.ones(len(model), dtype=np.bool_)
+    is_kept[lost] = False
+    kept = np.flatnonzero(is_kept)
+    rank = np.full(len(model) + 1, -1, dtype=np.int64)
+    rank[kept] = np.arange(len(kept))
+    _, indices = rows_of(kept, model.indptr, model.indices)
+    found = replace(model, chances=model.chances[kept], indptr=starts_of(np.diff(model.indptr)[kept]), indices=columns[indices],
+                    num_detectors=detectors)
+    return found, rank[mechanisms]
+
+
+def mechanisms_with(model: "ErrorModel", is_meant: Bits) -> Numbers:
+    """The mechanisms that flip something that is meant, each as often as it does."""
+    return np.searchsorted(model.indptr, np.flatnonzero(is_meant[model.indices]), side="right") - 1
 
 
 def moved_by(sources: Sequence[Source], lines: int) -> Sequence[Source]:

@@ -24,6 +24,7 @@ from stabsim.noise.marked_faults import undetermined
 from stabsim.noise.marking import Marker, Source
 from stabsim.noise.renewal import NONE, Renewal, moved_by
 from stabsim.noise.renewing_circuit import renewed_circuit
+from stabsim.noise.renewing_detectors import renewed_detectors
 from stabsim.noise.renewing_rounds import in_blocks, renewed_in_rounds
 from stabsim.noise.sourced import rows_of_errors
 from stabsim.text.judging import judged
@@ -44,8 +45,11 @@ def renewed(model: "ErrorModel", text: str, sure_only: bool, qubits: int | None 
         if is_of_no_region(change):
             return after_change(model, causes, change, text, sure_only)
         # Which detectors coins decided before is not known of a model that leaves them out.
-        if not qubits or sure_only or causes.is_fed_back or is_fed_back("\n".join(change.new)):
+        if not qubits or sure_only:
             return None
+        declared = renewed_detectors(model, causes, change, text, qubits)
+        if declared is not None or causes.is_fed_back or is_fed_back("\n".join(change.new)):
+            return declared
         found = renewed_in_rounds(model, causes, change, text, qubits)
         return renewed_circuit(model, causes, change, text, qubits) if found is None else found
     except Refused as refused:

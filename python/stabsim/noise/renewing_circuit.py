@@ -14,14 +14,15 @@ from typing import TYPE_CHECKING
 
 import numpy as np
 
-from stabsim.formats.combining import Numbers, rows_of, starts_of
+from stabsim.formats.combining import Numbers, rows_of
 from stabsim.noise.causes import Causes
 from stabsim.noise.changed_lines import (
-    DECLARING, Change, Counts, counts_of, counts_of_line, list_begin, noisy_items, observables_in, quiet_lines, reach_of, with_blocks,
+    DECLARING, Change, Counts, counts_of, counts_of_line, cut_with, list_begin, noisy_items, observables_in, quiet_lines, reach_of,
+    with_blocks,
 )
 from stabsim.noise.flipped import Bits, Flipped
 from stabsim.noise.marking import Marker, Source
-from stabsim.noise.renewal import Renewal, moved_by
+from stabsim.noise.renewal import Renewal, mechanisms_with, moved_by, renumbered
 from stabsim.noise.sourced import by_source, rows_of_errors
 from stabsim.text.coordinates import detector_coordinates
 
@@ -107,13 +108,6 @@ class Edit:
         """What the new lines declare, and what observables they add to, by its numbers."""
         first = self.detectors_above
         return [*range(first, first + self.counts[1].detectors), *(self.detectors_after + it for it in observables_in(self.quiet[1]))]
-
-    def cut_with(self, records: int, at: int) -> int:
-        """The place of a cut, in front of a line or further back, after which this many records are made before the edit."""
-        at = list_begin(self.change.before, at)
-        while at and counts_of(quiet_lines(self.change.before[at : self.change.first])).records < records:
-            at = list_begin(self.change.before, max(at - LINES_BEFORE, 0))
-        return at
 
 
 @dataclass(frozen=True)
@@ -214,7 +208,7 @@ class Renewing:
     def flip(self, is_meant: Bits) -> Bits:
         """Which mechanisms flip something that is meant, by the numbers of the model."""
         found = np.zeros(len(self.model), dtype=np.bool_)
-        found[np.searchsorted(self.model.indptr, np.flatnonzero(is_meant[self.model.indices]), side="right") - 1] = True
+        found[mechanisms_with(self.model, is_meant)] = True
         return found
 
     def with_rows(self, asked: Asked, text: str) -> "ErrorModel | None":
@@ -242,7 +236,7 @@ class Renewing:
     def renewed(self, asked: Asked, errors: Numbers, rows: tuple[Numbers, Numbers], text: str) -> "ErrorModel | None":
         """The model in which these errors and the new ones flip these rows."""
         first, change = int(self.firsts[self.begin]), self.edit.change
-        model, mechanisms = self.with_columns()
+        model, mechanisms = self.renumbered()
         renewal = Renewal.of_rows(model, *rows)
         if renewal is None:
             return None
@@ -256,20 +250,13 @@ class Renewing:
             return found
         return replace(found, coordinates=detector_coordinates("\n".join(quiet_lines(self.edit.change.after))))
 
-    def with_columns(self) -> tuple["ErrorModel", Numbers]:
-        """The model with detectors numbered as after the edit, without mechanisms that flip one which is no more; and of each error the
-        mechanism, -1 of one that flips nothing, or flipped those."""
+    def renumbered(self) -> tuple["ErrorModel", Numbers]:
+        """`renumbered` of the model, with detectors numbered as after the edit."""
         mechanisms = self.causes.mechanisms.astype(np.int64)
         if self.edit.counts[0].detectors == self.edit.counts[1].detectors:
             return self.model, mechanisms
         columns = self.edit.columns(np.arange(self.edit.detectors + self.edit.observables))
-        kept = np.flatnonzero(~self.flip(columns < 0))
-        rank = np.full(len(self.model) + 1, -1, dtype=np.int64)
-        rank[kept] = np.arange(len(kept))
-        _, indices = rows_of(kept, self.model.indptr, self.model.indices)
-        model = replace(self.model, chances=self.model.chances[kept], indptr=starts_of(np.diff(self.model.indptr)[kept]),
-                        indices=columns[indices], num_detectors=self.edit.detectors_after)
-        return model, rank[mechanisms]
+        return renumbered(self.model, mechanisms, columns, self.edit.detectors_after)
 
 
 def renewed_circuit(model: "ErrorModel", causes: Causes, change: Change, text: str, qubits: int) -> "ErrorModel | None":
@@ -279,7 +266,7 @@ def renewed_circuit(model: "ErrorModel", causes: Causes, change: Change, text: s
         return None
     renewing = Renewing(model, causes, edit)
     # A region begins further back than the records that its detector names, by about as much.
-    cut = edit.cut_with(2 * edit.looks[1], renewing.first_cut())
+    cut = cut_with(edit.change.before, edit.change.first, 2 * edit.looks[1], renewing.first_cut())
     for _ in range(MOST_CUTS):
         # If most errors are asked for again, it is as well to make the model anew.
         if renewing.errors_from(cut) > max(MOST_ASKED, len(causes.mechanisms) // 2):

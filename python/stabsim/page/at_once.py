@@ -50,7 +50,7 @@ def apply(nodes: list[Node], edit: Edit) -> str:
         return ""
     old = text_of([nodes[place]])
     if edit.kind == "split":
-        nodes[place:place + 1] = map(node_of, parts_of_block(old, int(edit.item)))
+        nodes[place:place + 1] = [node_of(part.text) for part in parts_of_block(old, int(edit.item))]
     else:
         nodes[place:place + 1] = [node_of(edit.item)] if edit.kind == "replace" else []
     return old

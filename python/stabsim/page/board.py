@@ -2,7 +2,6 @@
 
 import dataclasses
 import pathlib
-import time
 from collections.abc import Iterator, Sequence
 from typing import Any
 
@@ -29,21 +28,20 @@ MOST_LINES = 5000
 
 @dataclasses.dataclass
 class Entry:
-    """What a person did in one go: its name, its edits, those that take them back, what they flipped (`D3`, `L0`), how many
-    seconds they took, and whether bits may have come, gone or moved."""
+    """What a person did in one go: its name, its edits, those that take them back, what they flipped (`D3`, `L0`), and whether bits may
+    have come, gone or moved."""
 
     name: str
     forth: list[Edit]
     back: list[Edit]
     changed: list[str]
-    seconds: float
     moves_bits: bool
     # The texts whose lines are kept before it and after it, and what the session did for it, if that is in its history.
     texts: tuple[Opened, Opened] | None = None
     changes: list[Change] = dataclasses.field(default_factory=list)
 
     def message(self) -> Message:
-        return {"text": self.name, "changed": self.changed, "seconds": self.seconds}
+        return {"text": self.name, "changed": self.changed}
 
     def opens(self) -> bool:
         """Whether it opened another circuit."""
@@ -230,7 +228,6 @@ class Board:
         self.lost, self.split_off = (), ()
         self._make_room(edits)
         self.session.mark()
-        begun = time.perf_counter()
         made = Made()
         session, done = self.session, len(self.session.history.done)
         try:
@@ -240,10 +237,9 @@ class Board:
             for edit in made.back:
                 self._apply(edit)
             raise
-        seconds = time.perf_counter() - begun
         changed = names_of(self.session.changed()) if made.changed is None else made.changed
         changes = session.history.done[done:] if session is self.session else []
-        return Entry(name, made.forth, made.back, changed, seconds, made.moves_bits, changes=changes)
+        return Entry(name, made.forth, made.back, changed, made.moves_bits, changes=changes)
 
     def _retrace(self, passed: Sequence[Entry], forward: bool) -> Entry:
         """Undoes or redoes entries: by the session's history, if what it did last, or took back last, was made for these, and else by their edits."""
@@ -265,7 +261,7 @@ class Board:
             for _ in range(made):
                 step_back()
             raise
-        return Entry("", edits, [], names_of(self.session.changed()), 0.0, False)
+        return Entry("", edits, [], names_of(self.session.changed()), False)
 
     def _make_all(self, edits: Sequence[Edit], made: Made) -> None:
         """Makes edits one by one, or if they are many all at once."""

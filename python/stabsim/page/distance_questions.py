@@ -4,11 +4,8 @@ from collections.abc import Callable, Iterable
 from dataclasses import replace
 from typing import NamedTuple
 
-import numpy as np
-
 import stabsim
-from stabsim.formats.combining import rows_of
-from stabsim.noise.model_distance import STEPS_BEFORE, STEPS_OF_EACH, circuit_text, flipping_of
+from stabsim.noise.model_distance import circuit_text, flipping_of_model, mechanisms_of
 from stabsim.page.noise import OWN
 from stabsim.questions.distances import Distance, distance_of
 from stabsim.text.reading import Block, Item
@@ -37,14 +34,12 @@ def question_of(kind: str, text: str) -> Question:
 def question_of_noise(model: stabsim.ErrorModel) -> Question:
     """The question for the distance of a circuit's error model, by its mechanisms that have a chance: an error of the answer is the first
     that makes its mechanism."""
-    numbers = np.flatnonzero(model.chances > 0)
-    flipping = flipping_of(*rows_of(numbers, model.indptr, model.indices), model.num_detectors + model.num_observables)
+    numbers, flipping = flipping_of_model(model)
 
     def read(written: str) -> Distance:
         found = distance_of(written)
         assert model.causes is not None, "it was made of a circuit"
-        mechanisms = [int(numbers[(error.steps - STEPS_BEFORE) // STEPS_OF_EACH]) for error in found.errors]
-        errors = sorted((model.error_of(it, model.causes) for it in mechanisms), key=lambda error: (error.steps, str(error)))
+        errors = sorted((model.error_of(it, model.causes) for it in mechanisms_of(found, numbers)), key=lambda error: (error.steps, str(error)))
         return replace(found, errors=tuple(errors), searched="all errors of its own noise")
 
     return Question(circuit_text(flipping, model.num_detectors, len(numbers)), [], read)

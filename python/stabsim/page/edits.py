@@ -116,5 +116,5 @@ def splitting(place: str, block: str, number: int) -> list[Edit]:
     The later parts are put in first, and the first part takes the place of the block last: so there are never fewer records
     than before, and no lookback is refused on the way.
     """
-    first, *others = parts_of_block(block, number)
+    first, *others = (part.text for part in parts_of_block(block, number))
     return [Edit("insert", place_behind(place), part) for part in reversed(others)] + [Edit("replace", place, first)]

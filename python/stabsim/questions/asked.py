@@ -18,7 +18,7 @@ from stabsim.questions.distances import Distance, Letters, distance_of, of_marks
 from stabsim.questions.faults import FaultTable
 from stabsim.questions.random_bits import RandomBit, bit_of
 from stabsim.questions.sure import Sure, deterministic_of
-from stabsim.questions.ways import Way, way_of
+from stabsim.questions.ways import Effect, Way, effect_of, place_word, string_word, way_of
 from stabsim.shots import chunks, shot_parts
 from stabsim.shots.seeds import SeededBits, SeededBytes, drawn_seed, seeded
 from stabsim.text.coordinates import detector_coordinates
@@ -306,13 +306,22 @@ class Asked:
         >>> print(*way.turns, way.records, way.left)
         Turn(steps=1, path='0', pauli='X0') Turn(steps=2, path='1', pauli='X0*X1') (0, 1) X0*X1
         """
-        if (at is None) == (after is None):
-            raise ValueError("a string is put in at a path or after some steps: one of both is wanted.")
-        place = at if at is not None else f"@{checking.whole('after', after)}"
+        place, string = place_word(at, after), string_word(pauli)
         self.numbers()
-        # A sign changes nothing, and would be taken for an option.
-        string = checking.of_kind("pauli", pauli, str, "give a product as X3*Z4").removeprefix("-")
         return way_of(program.run(["propagate", "--at", place, *["--every"] * every, string], self.asked).decode())
+
+    def propagate_each(self, *, everywhere: bool = False) -> list[Effect]:
+        """What each error flips and leaves: X and Z at the targets of `I` alone, or everywhere, as `faults` takes them and in that order.
+
+        Each is what `propagate` says of that Pauli there, so a detector may be random.
+
+        >>> import stabsim
+        >>> [(error.pauli, error.left) for error in stabsim.Circuit("I 0\\nCX 0 1\\nM 1").propagate_each()]
+        [('X0', 'X0*X1'), ('Z0', 'Z0')]
+        """
+        self.numbers()
+        written = program.run(["propagate_each", *["--everywhere"] * everywhere], self.asked).decode()
+        return [effect_of(line) for line in written.splitlines()]
 
     def distance(self, *, everywhere: bool = False, letters: Letters = "all", most: int | None = None, graphlike: bool = False,
                  sure_only: bool = False, count: bool = False, workers: int = 1) -> Distance:

@@ -15,6 +15,7 @@ from stabsim.formats import bits
 from stabsim.questions.distances import Distance, distance_of, of_marks
 from stabsim.questions.random_bits import DecidingCoin, coins_of
 from stabsim.questions.sure import Sure, deterministic_of
+from stabsim.questions.ways import Way, place_word, way_of
 from stabsim.session.framed import FramedProcess, OfOneProcess
 from stabsim.session.history import Change, History, Request
 from stabsim.session.script import Path, path_text
@@ -127,6 +128,18 @@ class PlainSession(OfOneProcess):
         """
         return coins_of(text_of_lines(self.process.ask(f"show why {bit_name(bit)}\n".encode())))
 
+    def way(self, pauli: str, *, at: Path | None = None, after: int | None = None) -> Way:
+        """What a Pauli string becomes that is put into the circuit as it is now, and what it flips: `Circuit.propagate` of it.
+
+        >>> import stabsim
+        >>> with stabsim.Circuit("CX 0 1").edit() as session:
+        ...     session.insert(0, "H 0")
+        ...     session.way("Z0", at=0).left
+        'X0*X1'
+        """
+        place = place_word(None if at is None else path_text(at), after)
+        return way_of(text_of_lines(self.process.ask(f"show way {place} {pauli_word(pauli)}\n".encode())))
+
     def distance(self, most: int, *, everywhere: bool = False) -> Distance:
         """The distance of the circuit as it is now, by the errors that it marks, or by errors everywhere, up to this many of them:
         `Circuit.distance` of it.
@@ -152,9 +165,7 @@ class PlainSession(OfOneProcess):
         ...     [session.sign(it) for it in ("Z0", "+_X", "-ZX", "X0*X1")]
         [-1, 1, 1, 0]
         """
-        if len(checking.of_kind("pauli", pauli, str, PAULIS).split()) != 1:
-            raise ValueError(f"pauli is {checking.shown(pauli)}: give {PAULIS}")
-        return {b"+": 1, b"-": -1, b"0": 0}[self.line(f"show sign {pauli.strip()}")]
+        return {b"+": 1, b"-": -1, b"0": 0}[self.line(f"show sign {pauli_word(pauli)}")]
 
     def mark(self) -> None:
         """From here on `changed` counts; the opening is the first mark."""
@@ -215,6 +226,13 @@ class PlainSession(OfOneProcess):
         if len(lines) != 1:
             raise self.process.broken(f"{request} was answered by {len(lines)} lines")
         return lines[0]
+
+
+def pauli_word(pauli: str) -> str:
+    """The word of a string of Paulis."""
+    if len(checking.of_kind("pauli", pauli, str, PAULIS).split()) != 1:
+        raise ValueError(f"pauli is {checking.shown(pauli)}: give {PAULIS}")
+    return pauli.strip()
 
 
 def bit_name(text: str) -> str:

@@ -1,15 +1,27 @@
 """Rounds of a block that are blocks by themselves."""
 
+import re
+from typing import NamedTuple
+
 from stabsim import program
 from stabsim.session.history import Request
 from stabsim.session.script import delete_line
-from stabsim.text.reading import block_of, headed, lines_of
+from stabsim.text.reading import block_of, headed, lines_like
+
+LINE = re.compile(r"^.*$", re.MULTILINE)
+
+
+class Part(NamedTuple):
+    """A block of some rounds of another."""
+
+    rounds: int
+    text: str
 
 
 def head_of(text: str) -> tuple[int, int, str]:
     """Of a block, the number of the line that opens it, its rounds, and its tag; ValueError if a text is none. No more than that line is
     looked at, since the block may be long."""
-    for line in lines_of(text):
+    for line in lines_like(text, LINE):
         if line.opens:
             head = block_of(line, "")
             return line.number, head.repeat, head.tag
@@ -18,20 +30,20 @@ def head_of(text: str) -> tuple[int, int, str]:
     raise ValueError("this is no block")
 
 
-def parts_of_block(text: str, round_number: int) -> list[str]:
+def parts_of_block(text: str, round_number: int) -> list[Part]:
     """The blocks that a block becomes if one of its rounds, counted from 0, is split off: the rounds before it, that round,
     and the rounds after it, without those that have none. ValueError if the text is no block or has no such round."""
     opening, repeat, tag = head_of(text)
     if not 0 <= round_number < repeat:
         raise ValueError("there is no such round")
-    body = "\n".join(text.rstrip().split("\n")[opening:])
+    body = text.rstrip().split("\n", opening)[opening]
     rounds = (round_number, 1, repeat - round_number - 1)
-    return [f"{headed('REPEAT', tag)} {count} {{\n{body}" for count in rounds if count]
+    return [Part(count, f"{headed('REPEAT', tag)} {count} {{\n{body}") for count in rounds if count]
 
 
-def longest_part(parts: list[str]) -> int:
+def longest_part(parts: list[Part]) -> int:
     """Which of these blocks has the most rounds: the first that does, counted from 0."""
-    rounds = [head_of(part)[1] for part in parts]
+    rounds = [part.rounds for part in parts]
     return rounds.index(max(rounds))
 
 
@@ -52,8 +64,8 @@ def joining(path: str, block: str, round_number: int) -> tuple[Request, ...]:
     longest = longest_part(parts)
     places = [place_behind(path, number) for number in range(len(parts))]
     replaced = f"replace {places[longest]}"
-    whole = Request(lines_of_block(replaced, block), lines_of_block(replaced, parts[longest]))
-    others = [(place, part) for place, part in zip(places, parts, strict=True) if place != places[longest]]
+    whole = Request(lines_of_block(replaced, block), lines_of_block(replaced, parts[longest].text))
+    others = [(place, part.text) for place, part in zip(places, parts, strict=True) if place != places[longest]]
     return (whole, *(Request(delete_line(place), lines_of_block(f"insert {place}", part)) for place, part in reversed(others)))
 
 

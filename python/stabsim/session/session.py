@@ -13,6 +13,7 @@ from stabsim.noise.renewing import renewed
 from stabsim.questions.circuit_errors import CircuitError
 from stabsim.questions.distances import Distance
 from stabsim.questions.random_bits import DecidingCoin
+from stabsim.questions.ways import Way
 from stabsim.session.explaining import explaining
 from stabsim.session.history import Change, Request
 from stabsim.session.inserting import put_in
@@ -270,6 +271,12 @@ class Session(PlainSession):
         found = super().why(bit)
         made = self.made() if found else frozenset[str]()
         return tuple(coin._replace(path=cut_path(coin.path, made)) for coin in found)
+
+    def way(self, pauli: str, *, at: Path | None = None, after: int | None = None) -> Way:
+        """What a Pauli string becomes that is put into the circuit as it is now, and what it flips: `Circuit.propagate` of it."""
+        found = super().way(pauli, at=at, after=after)
+        made = self.made() if found.turns else frozenset[str]()
+        return dataclasses.replace(found, turns=tuple(dataclasses.replace(turn, path=cut_path(turn.path, made)) for turn in found.turns))
 
     # Noise.
 

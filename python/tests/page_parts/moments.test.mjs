@@ -8,6 +8,7 @@ import { before } from "../../stabsim/page/static/counts.js";
 import { endOf, momentAt, momentOf, momentsOf, momentsOfDetectors, nameOf } from "../../stabsim/page/static/moments.js";
 
 const BLOCK = "R 0\nREPEAT 3 {\n    TICK\n    H 0\n    TICK\n    M 0\n    DETECTOR rec[-1]\n}\nM 0\n";
+const countOf = (items) => JSON.stringify(items.map(({ once, cut, items: inner, ...its }) => [once, cut, its.records, its.bounds, inner?.map((it) => [it.cut, it.bounds])]));
 const names = (items, moment) => momentAt(items, moment).map(({ item, rounds }) => `${item.name}${rounds.map((round) => ` ${round}`).join("")}`);
 
 test("a moment has what is between two ticks, in its rounds", () => {
@@ -62,6 +63,23 @@ test("after edits items, cuts and counts are those of the text that they make", 
     assert.deepEqual(momentsOfDetectors(items), momentsOfDetectors(fresh), JSON.stringify(edit));
     for (let moment = 0; moment < momentsOf(fresh); moment += 1) assert.deepEqual(names(items, moment), names(fresh, moment), JSON.stringify(edit));
     assert.deepEqual([...momentsOfDetectors(items)], [...momentsOfDetectors(fresh)]);
+  }
+});
+
+test("what is put in a round that is split off makes what the text makes", () => {
+  const bodies = ["TICK\nH 0\nTICK\nM 0\nDETECTOR rec[-1]", "M 1\nH 1\nREPEAT 2 {\nX 1\nTICK\n}", "H 0\nX 0", "S 2"];
+  for (const body of bodies) for (const count of [1, 2, 3, 5]) for (let round = 0; round < count; round += 1) for (const item of ["X 0", "M 1", "TICK"]) {
+    const items = parseCircuit(`R 0 1\nREPEAT ${count} {\n${body}\n}\nM 0 1\n`);
+    momentsOf(items);
+    before(items);
+    const part = round ? 2 : 1;
+    const edits = [{ kind: "split", place: "1", item: String(round) }, { kind: "insert", place: `${part}/1`, item }];
+    applyEdits(items, edits, () => {});
+    const fresh = parseCircuit(items.map((it) => textOf(it)).join("\n"));
+    assert.deepEqual(before(items), before(fresh));
+    assert.equal(momentsOf(items), momentsOf(fresh));
+    for (let moment = 0; moment < momentsOf(fresh); moment += 1) assert.deepEqual(names(items, moment), names(fresh, moment));
+    assert.equal(countOf(items), countOf(fresh));
   }
 });
 

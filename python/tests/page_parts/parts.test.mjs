@@ -18,6 +18,7 @@ import { svgOf } from "../../stabsim/page/static/svg_pen.js";
 import { areApart } from "../../stabsim/page/static/faces.js";
 import { pathAfter, pathThere, whereAfter } from "../../stabsim/page/static/keeping.js";
 import { layerOf, letterWithAlt } from "../../stabsim/page/static/keys.js";
+import { HEAD, wiresOf } from "../../stabsim/page/static/wires.js";
 import { UNWRAPPED, Wrap } from "../../stabsim/page/static/wrapping.js";
 import { sumOf } from "../../stabsim/page/static/layers.js";
 import { writtenOf } from "../../stabsim/page/static/row_parts.js";
@@ -52,9 +53,25 @@ test("an error on a gate is beside it, above on the right", () => {
   assert.ok(x > 1 && y < 0);
 });
 
+test("on a wire too an error on a gate is beside it", () => {
+  const items = parseCircuit("CX 0 1\nX 0\n");
+  const shown = { items, moments: 1, moment: 0, qubits: [0], marksAt: () => [], waysAt: () => [] };
+  const [, , glyphs, letters] = wiresOf(shown, { width: 200, first: 0, count: 1 });
+  assert.deepEqual(glyphs.map(({ glyph }) => glyph), ["control"]);
+  const error = letters.find(({ glyph }) => glyph === "X");
+  assert.ok(error.x - glyphs[0].x > 5 && glyphs[0].y - error.y > 5 && error.y > HEAD);
+});
+
 test("the letters of a region are shapes of their own on its qubits", () => {
   const found = glyphs(drawn("TICK\n", { region: new Map([[0, "X"], [3, "Z"]]) })).filter(([glyph]) => "XZ".includes(glyph));
   assert.deepEqual(found, [["X", "X", 0, 0], ["Z", "Z", 0, 1]]);
+});
+
+test("the letter that a mark has come to lies over the ring of the mark", () => {
+  const mark = { qubit: 0, letter: "X", layer: 4 };
+  const elements = drawn("H 0\n", { marks: [{ ...mark, isHere: false }], ways: [mark] });
+  const plates = elements.map(({ glyph }, at) => (glyph === "X" ? at : -1)).filter((at) => at >= 0);
+  assert.ok(plates.length === 2 && plates[1] > elements.findLastIndex(({ stroke, dash }) => stroke === "ink" && dash));
 });
 
 test("a glyph loses its words and then its shape as it gets smaller", () => {

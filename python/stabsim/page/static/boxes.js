@@ -34,13 +34,15 @@ export function link(words, act) {
 }
 
 const icons = new Map();
+// How far a glyph with a letter reaches from its middle, in sides.
+const REACH = 0.52;
 
 // A glyph as an icon; one that looks the same is copied, since that is quicker than to read it anew.
 export function icon(glyph, side, role, label = "") {
   const key = [glyph, side, role, label].join();
   if (!icons.has(key)) {
     icons.set(key, element("span", "icon"));
-    icons.get(key).innerHTML = iconOf(glyph, side, role, label);
+    icons.get(key).innerHTML = label ? iconOf(glyph, side, role, label, REACH) : iconOf(glyph, side, role);
   }
   return icons.get(key).cloneNode(true);
 }

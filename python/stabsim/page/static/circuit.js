@@ -5,7 +5,7 @@
 // those of all its rounds, and in `once` those of one; an item that acts may have a `cut` in front of it (cuts.js). A path is the list
 // of an item's place in the outermost list, then in the block there, and so on, as the editing session counts them.
 
-import { before, firstReaching, recount, recountPart } from "./counts.js";
+import { before, firstReaching, recount, recountPart, share } from "./counts.js";
 import { cutList } from "./cuts.js";
 import { isRecorded, printed, qubitsOf, resets, stepsOf } from "./instructions.js";
 
@@ -110,7 +110,8 @@ export const pathOf = (text) => text.split("/").map(Number);
 // more, the round of a split, and the items that were and are there; `noted(move)` is called once each is made.
 /** @param {import("./types.js").Item[]} items @param {import("./types.js").Edit[]} edits @param {(move: import("./types.js").Move) => void} noted */
 export function applyEdits(items, edits, noted) {
-  if (edits.length > MOST_SINGLE) return applyAtOnce(items, edits, noted);
+  // What is made in a round that is split off would have that counted twice.
+  if (edits.length > MOST_SINGLE || (edits.length > 1 && edits[0].kind === "split")) return applyAtOnce(items, edits, noted);
   return edits.map((edit) => {
     const move = applyEdit(items, edit);
     noted(move);
@@ -168,6 +169,7 @@ function partsOf(block, round) {
   const longest = counts.indexOf(Math.max(...counts));
   return counts.map((count, part) => {
     const items = part === longest ? block.items : block.items.map(copyOf);
+    share(block.items, items);
     return { ...block, text: block.text.replace(/\d+$/, String(count)), count, items };
   });
 }

@@ -2,6 +2,8 @@
 // How many ticks, moments, records, detectors, steps and coins items have, their rounds written out. Each target that is measured or
 // reset has a coin, whether or not that decides anything.
 
+// What is kept of a list whose items are those of several rounds (cuts.js).
+export const ROUNDS = "body of rounds";
 const NAMES = ["ticks", "bounds", "records", "detectors", "steps", "coins"];
 
 // The places at which an item ends moments: a TICK is one, and a cut in front of an item.
@@ -48,6 +50,12 @@ export function derived(list, name, make) {
   const found = make(list);
   kept.set(list, { ...kept.get(list), [name]: found });
   return found;
+}
+
+// Keeps what counts a list for a copy of it too.
+export function share(list, copy) {
+  const { sums, [ROUNDS]: body } = kept.get(list) ?? {};
+  if (sums && body) kept.set(copy, { ...kept.get(copy), sums, [ROUNDS]: body });
 }
 
 export function forget(list) {

@@ -2,7 +2,7 @@
 // Where items are cut into moments: at each TICK, and in front of an item (its `cut`) that acts on a qubit on which the moment has
 // acted before. moments.py cuts by the same rules, so that the program's table of faults counts the same moments.
 
-import { derived, multiply, recount } from "./counts.js";
+import { ROUNDS, derived, multiply, recount } from "./counts.js";
 import { qubitsOf } from "./instructions.js";
 
 const PAULIS = new Set(["X", "Y", "Z"]);
@@ -52,7 +52,7 @@ function cutBlock(block, on) {
 
 // What the items of a block come to, cut and counted. It is worked out once, until they change.
 function bodyOf(block) {
-  const name = block.count > 1 ? "body of rounds" : "body of a round";
+  const name = block.count > 1 ? ROUNDS : "body of a round";
   return derived(block.items, name, () => {
     cutList(block.items);
     const { first, last, hasSeveral, begins } = summaryOf(block.items);

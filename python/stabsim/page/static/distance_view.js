@@ -76,7 +76,7 @@ export class DistanceView {
 
   #error(error) {
     const [letter] = error.letters.values();
-    const mark = letter === WRONG ? icon("measure", 12, "m", "!") : icon(letter, 12, letter.toLowerCase(), letter);
+    const mark = letter === WRONG ? icon("measure", 12, "m", "!") : icon(letter, 12, letter.toLowerCase());
     const made = link("", () => {
       this.#act.show(this.#set);
       this.#act.goTo(error);

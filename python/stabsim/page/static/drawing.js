@@ -13,8 +13,9 @@ import { coinElements, errorElements, faceElements, letterElements, markElements
 
 // How far out of sight, in sides of a glyph, something is still drawn, since its wire may be seen.
 const MARGIN = 2;
-// How large the ring of what is chosen is, in sides of a glyph: its corners touch it.
+// How large the ring of what is chosen is, in sides of a glyph: the corners of a gate touch it; and that of a qubit on which nothing acts.
 const RING = 0.74;
+const IDLE_RING = 0.44;
 // From which side of a glyph on noise is drawn.
 const NOISE_FROM = 12;
 // How wide the ring's line is on both sides, with some room, in pixels.
@@ -65,15 +66,15 @@ export function layersOf(scene, view, kept) {
     idleElements(sheet, operations.busy),
     numberElements(sheet, operations.busy),
     operations.over,
-    choiceElements(sheet),
+    choiceElements(sheet, operations.busy),
     noiseElements(sheet),
     oftenElements(sheet),
     coinElements(sheet),
     letterElements(sheet, operations.busy),
     operations.errors,
     errorElements(sheet),
-    wayElements(sheet),
     markElements(sheet),
+    wayElements(sheet),
     kept.of("gutter", () => gutterElements(sheet)),
   ];
 }
@@ -151,11 +152,13 @@ function numberElements(sheet, busy) {
   const { scene: { places, chosen }, at, side, pitch } = sheet;
   if (pitch < table.levels.numbers) return [];
   // The number of a chosen qubit is beside its ring.
-  const away = (radiusOf(side) + RIM) * Math.SQRT1_2;
-  const beside = ([x, y]) => (words) => ({ ...words, x: x + away, y: y + away + words.size / 2 });
+  const beside = (qubit, [x, y]) => (words) => {
+    const away = (radiusOf(side, busy.has(qubit)) + RIM) * Math.SQRT1_2;
+    return { ...words, x: x + away, y: y + away + words.size / 2 };
+  };
   return [...places.keys()].filter((qubit) => isSeen(sheet, at(qubit))).flatMap((qubit) => {
     const { over } = marksOf(busy.has(qubit) ? "number beside" : "number", { number: String(qubit) }, [at(qubit)], side);
-    return chosen.includes(qubit) ? over.map(beside(at(qubit))) : over;
+    return chosen.includes(qubit) ? over.map(beside(qubit, at(qubit))) : over;
   });
 }
 
@@ -179,16 +182,15 @@ function noiseElements(sheet) {
     .map((qubit) => ({ glyph: "noise", x: at(qubit)[0], y: at(qubit)[1] + side * 0.86, side: side * 0.6, role: "quiet" }));
 }
 
-const radiusOf = (side) => Math.max(8, side * RING);
+const radiusOf = (side, isBusy) => Math.max(8, side * (isBusy ? RING : IDLE_RING));
 
 // A ring tight at the glyph of what is chosen; and what the next click would do.
-function choiceElements({ at, side, scene: { chosen, pending = [], spots = [], frame } }) {
-  const radius = radiusOf(side);
+function choiceElements({ at, side, scene: { chosen, pending = [], spots = [], frame } }, busy) {
   const elements = [];
   for (const qubit of chosen) {
     const place = at(qubit);
     if (!place) continue;
-    const path = circle(...place, radius);
+    const path = circle(...place, radiusOf(side, busy.has(qubit)));
     elements.push({ path, stroke: "sheet", width: 4 }, { path, stroke: "accent", width: 2.5 });
   }
   for (const [from, to] of pending) elements.push({ path: [["M", ...from], ["L", ...to]], stroke: "accent", width: 2, dash: [5, 4] });

@@ -14,32 +14,29 @@ export const PITCH = table.glyph_of_pitch;
 
 const WHOLE = 2 * Math.PI;
 
-// How much is drawn of a glyph of this side: 3 all, 2 a letter alone, 1 its far shape, 0 a dot.
-export function levelOf(side) {
-  const { full, letter, mark } = table.levels;
-  if (side >= full) return 3;
-  if (side >= letter) return 2;
-  return side >= mark ? 1 : 0;
+// How much is drawn of a glyph: "full", its "far" shape, or a "dot".
+/** @param {import("./types.js").Element} glyph */
+function levelOf({ glyph, side, label = "" }) {
+  const { full, mark } = table.levels;
+  if (side < mark) return "dot";
+  const size = table.shapes[glyph].full.find(([kind]) => kind === "label")?.[3];
+  return side >= full && (!label || !size || wordsOn(label, side * size)) ? "full" : "far";
 }
 
 // The paths and words of a glyph.
 /** @param {import("./types.js").Element} glyph @returns {import("./types.js").Element[]} */
 export function elementsOf(glyph) {
   const { x, y, side } = glyph;
-  const level = levelOf(side);
+  const level = levelOf(glyph);
   const [solid, soft, edge, on] = table.roles[glyph.role];
-  if (level === 0) return [{ path: circle(x, y, 1.4), fill: solid }];
+  if (level === "dot") return [{ path: circle(x, y, 1.4), fill: solid }];
   const stroke = Math.max(1, Math.min(1.6, side / 14));
   const paints = {
     solid: { fill: solid }, fill: { fill: soft }, paper: { fill: "sheet" }, on: { fill: on },
     edge: { stroke: edge, width: stroke, fill: edge }, ink: { stroke: edge, width: stroke * 1.25 },
   };
-  return partsOf(table.shapes[glyph.glyph], level).map((part) => DRAWN[part[0]](part, glyph, paints[part.at(-1)])).filter(Boolean);
-}
-
-// The parts of a shape at a level: those of a larger one if it has none of its own.
-function partsOf({ full, letter = full, far = letter }, level) {
-  return level === 3 ? full : level === 2 ? letter : far;
+  const { full, far = full } = table.shapes[glyph.glyph];
+  return (level === "full" ? full : far).map((part) => DRAWN[part[0]](part, glyph, paints[part.at(-1)])).filter(Boolean);
 }
 
 const filled = (path, { stroke, width, fill }) => (stroke ? { path, stroke, width } : { path, fill });
@@ -55,21 +52,24 @@ export const DRAWN = {
     for (let i = 1; i + 1 < part.length; i += 2) path.push([path.length ? "L" : "M", ...placed(glyph, part[i], part[i + 1])]);
     return filled([...path, ["Z"]], paint);
   },
-  label([, x, y, size], glyph, { fill }) {
-    const said = briefOf(glyph.label ?? "", glyph.side);
-    const { part, most } = table.letters;
-    return wordsAt(said, x, y, Math.min(most, glyph.side * size * part[Math.min(said.length, part.length) - 1]), glyph, fill);
+  label([, across, down, size], glyph, { fill }) {
+    const [x, y] = placed(glyph, across, down);
+    const said = wordsOn(glyph.label ?? "", glyph.side * size);
+    return said && { ...said, x, y, fill, weight: 600 };
   },
 };
 
-function wordsAt(said, across, down, size, glyph, fill) {
-  const [x, y] = placed(glyph, across, down);
-  return said ? { words: said, x, y, size, fill, weight: 600 } : null;
-}
-
-// If there is no room for two letters, one says the kind; the colour and the inspector say the rest.
-export function briefOf(label, side) {
-  return side < table.brief.below ? (table.brief[label] ?? label) : label;
+// The words for a label on a glyph of this side, and their size: shorter ones if there is no room for its own, and none if there is none for those.
+// The colour and the inspector say the rest.
+function wordsOn(label, side) {
+  const { part, room, least, most } = table.letters;
+  for (const words of [label, table.brief[label]]) {
+    if (!words) continue;
+    const more = Math.min(words.length, part.length) - 1;
+    const size = side * part[more];
+    if (size >= room[more]) return { words, size: Math.max(least, Math.min(most, size)) };
+  }
+  return null;
 }
 
 export function circle(x, y, radius) {

@@ -44,7 +44,7 @@ export class Inspector {
       const row = document.createElement("p");
       row.className = "error";
       row.dataset.letter = letter;
-      row.append(icon(letter, 15, letter.toLowerCase(), letter), ...this.#names(flips?.[letter], why));
+      row.append(icon(letter, 20, letter.toLowerCase(), letter), ...this.#names(flips?.[letter], why));
       return row;
     })]);
   }

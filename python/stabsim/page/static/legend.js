@@ -12,7 +12,7 @@ const MARKS = [
 export function showLegend(place) {
   place.replaceChildren(...MARKS.map(([glyph, side, role, words]) => {
     const mark = document.createElement("span");
-    mark.innerHTML = iconOf(glyph, side, role, "XYZ".includes(glyph) ? glyph : "");
+    mark.innerHTML = iconOf(glyph, side, role);
     mark.append(words);
     return mark;
   }));

@@ -7,6 +7,9 @@ import { circle, outline } from "./glyphs.js";
 import { marksOf } from "./marks.js";
 
 const PATTERN_FROM = 18;
+// From which side of a glyph on the plates of letters beside it have room for them, and the least size of such a plate, in pixels.
+const LETTERS_FROM = 16;
+const LEAST_PLATE = 18;
 const HATCH_OF_FACE = 0.3;
 const roleOf = (letter) => letter.toLowerCase();
 
@@ -82,7 +85,7 @@ export function regionElements({ at, side, pitch, scene: { region } }) {
 // The letter of the region at each qubit: on an idle qubit, or beside what acts on it.
 export function letterElements({ at, side, scene: { region } }, busy) {
   if (!region) return [];
-  const size = Math.max(7, Math.min(22, side * 0.66));
+  const size = plateSize(side, 0.66, 7, 22);
   return [...region].flatMap(([qubit, letter]) => {
     const place = at(qubit);
     if (!place) return [];
@@ -109,7 +112,7 @@ export function markElements({ at, side, scene: { marks = [] } }) {
 
 // What the marks have come to at the end of the moment: the letters below on the left, with the number of the layer.
 export function wayElements({ at, side, scene: { ways = [] } }) {
-  const size = Math.max(8, Math.min(20, side * 0.6));
+  const size = plateSize(side, 0.6, 8, 20);
   const away = side >= 12 ? side * 0.66 : 0;
   const before = new Map();
   return ways.filter(({ qubit }) => at(qubit)).flatMap(({ qubit, letter, layer }) => {
@@ -124,7 +127,7 @@ export function wayElements({ at, side, scene: { ways = [] } }) {
 
 function errorAt(letter, [x, y], side, isHere) {
   const path = circle(x, y, Math.max(7, side * 0.86));
-  const size = Math.max(9, Math.min(26, side * (isHere ? 0.8 : 0.6)));
+  const size = plateSize(side, isHere ? 0.8 : 0.6, 9, 26);
   const away = side >= 12 ? side * 0.6 : 0;
   const rim = [{ path, stroke: "sheet", width: 4 }, { path, stroke: "ink", width: 1.75, dash: isHere ? undefined : [3, 4] }];
   return [...rim, ...plateAt(letter, x + away, y - away, size)];
@@ -145,6 +148,8 @@ export function coinElements({ at, side, scene: { coins } }) {
     ];
   });
 }
+
+const plateSize = (side, part, least, most) => Math.max(side < LETTERS_FROM ? least : LEAST_PLATE, Math.min(most, side * part));
 
 // A letter as its shape, or a wrong record, with a rim that sets it off from what is under it.
 export function plateAt(letter, x, y, size) {

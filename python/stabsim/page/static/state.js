@@ -19,7 +19,7 @@ export class State {
   numbers = { qubits: 0, steps: 0, records: 0, detectors: 0, observables: 0 };
   /** @type {Uint8Array | null} */
   deterministic = null;
-  /** @type {{text: string, changed: string[], seconds: number}[]} */
+  /** @type {{text: string, changed: string[]}[]} */
   entries = [];
   position = 0;
   markedAt = 0;

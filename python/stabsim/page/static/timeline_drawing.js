@@ -20,6 +20,7 @@ const MARKS_FROM = 10;
 export const OPERATIONS = 49;
 // The greatest glyph, so that its letter has 12.5 pixels.
 const OPERATION = 19;
+const ERROR_SIDE = 18;
 const ERROR = 68;
 
 export function timelineOf(sheet) {
@@ -93,7 +94,7 @@ function tickMarks({ shown: { items }, first, last, x, step }) {
 
 // A set of errors: at each moment the letter, or a grey mark for several, and on how many qubits it is.
 function errorElements({ shown: { set }, first, last, x, step }) {
-  const side = Math.max(5, Math.min(16, step * 0.84));
+  const side = Math.max(5, Math.min(ERROR_SIDE, step * 0.84));
   return Object.entries(set).map(([moment, letters]) => [Number(moment), Object.values(letters)])
     .filter(([moment]) => moment >= first && moment <= last)
     .map(([moment, letters]) => ({ ...errorMark(letters, side), x: x(moment), y: ERROR, side }));

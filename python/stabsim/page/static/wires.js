@@ -2,21 +2,23 @@
 // What acts on some qubits in moments that follow each other, and the drawing of it: a line a qubit, time to the right, as elements (glyphs.js).
 
 import { circle, gates } from "./glyphs.js";
-import { actionsOf, qubitsOf } from "./instructions.js";
+import { PAULIS, actionsOf, qubitsOf } from "./instructions.js";
 import { actingAt, momentAt, nameOf } from "./moments.js";
 import { noiseOf } from "./noise.js";
 import { plateAt } from "./region_drawing.js";
 
 // How high a line is, how wide a moment, where lines begin, and how high the head with the ticks is.
 export const ROW = 34;
-export const STEP = 42;
+export const STEP = 46;
 export const LEFT = 46;
 export const HEAD = 22;
 // So that two letters have 12.5 pixels; and of what has none.
 const SIDE = 24.1;
 const PAIR = 18;
-const LETTER = 13;
+const LETTER = 18;
 const NOISE = 10;
+// How far from the middle of a gate an error beside it is: it leaves room for the letters at the end of the moment.
+const ERROR = [8, -10];
 
 // What acts on the qubits at a moment, each {places, glyphs, partners}: on which of the lines, what is drawn there, and the qubits of the same
 // gate that have none.
@@ -62,7 +64,8 @@ export function wiresOf({ items, moment, qubits, marksAt, waysAt }, { width, fir
   });
   for (let at = first; at < first + count; at += 1) {
     layers.ground.push({ words: nameOf(items, at).name, x: x(at), y: HEAD / 2, size: 12.5, fill: at === moment ? "ink" : "quiet", weight: at === moment ? 700 : 400 });
-    for (const act of actsOn(items, at, qubits)) drawAct(layers, act, x(at), y);
+    const busy = new Map();
+    for (const act of actsOn(items, at, qubits)) drawAct(layers, act, x(at), y, busy);
     const noise = noiseOf(momentAt(items, at));
     qubits.forEach((qubit, line) => noise.has(qubit) && layers.letters.push({ glyph: "noise", x: x(at), y: y(line) - ROW / 2 + 2, side: NOISE, role: "quiet" }));
     drawLetters(layers, qubits, { letters: waysAt(at), marks: marksAt(at) }, [x(at) + STEP / 2, y]);
@@ -70,12 +73,21 @@ export function wiresOf({ items, moment, qubits, marksAt, waysAt }, { width, fir
   return [layers.ground, layers.joints, layers.glyphs, layers.letters];
 }
 
-// A gate on several lines is joined; the number of a qubit that has none stands beside it.
-function drawAct(layers, { places, glyphs, partners }, x, y) {
+// A gate on several lines is joined; the number of a qubit that has none stands beside it. An error that comes after something else on its line,
+// of which `busy` has how many are there, is beside that.
+function drawAct(layers, { places, glyphs, partners }, x, y, busy) {
+  const before = busy.get(places[0]) ?? 0;
+  for (const line of places) busy.set(line, (busy.get(line) ?? 0) + 1);
+  if (before && PAULIS.includes(glyphs[0].label) && glyphs[0].glyph === "gate") {
+    layers.letters.push(...plateAt(glyphs[0].label, x + ERROR[0] + (before - 1) * LETTER, y(places[0]) + ERROR[1], LETTER));
+    return;
+  }
   const [top, bottom] = [Math.min(...places), Math.max(...places)];
   if (top < bottom) layers.joints.push({ path: [["M", x, y(top)], ["L", x, y(bottom)]], stroke: "wire", width: 1.5 });
   places.forEach((line, i) => layers.glyphs.push({ ...glyphs[i], x, y: y(line), side: glyphs[i].label ? SIDE : PAIR }));
-  if (partners.length) layers.letters.push({ words: partners.length > 1 ? `${partners[0]} …` : String(partners[0]), x: x + 3, y: y(bottom) + ROW / 2 - 4, size: 12.5, fill: "quiet", align: "left", halo: "sheet" });
+  if (!partners.length) return;
+  const words = partners.length > 1 ? `${partners[0]} …` : String(partners[0]);
+  layers.letters.push({ words, x: x + 3, y: y(bottom) + ROW / 2 - 4, size: 12.5, fill: "quiet", align: "left", halo: "sheet" });
 }
 
 // At the end of a moment the letters that marks have come to, those of several layers over each other, and a ring round what was put in there.
@@ -85,7 +97,7 @@ function drawLetters(layers, qubits, { letters, marks }, [x, y]) {
     here.forEach(({ letter, layer }, i) => {
       const top = y(line) + (i - (here.length - 1) / 2) * LETTER;
       layers.letters.push(...plateAt(letter, x, top, LETTER));
-      if (marks.some((mark) => mark.qubit === qubit && mark.layer === layer)) layers.letters.push({ path: circle(x, top, 10), stroke: "ink", width: 1.75 });
+      if (marks.some((mark) => mark.qubit === qubit && mark.layer === layer)) layers.letters.push({ path: circle(x, top, 12), stroke: "ink", width: 1.75 });
     });
   });
 }

@@ -1,0 +1,213 @@
+"""An error model after an edit of detectors alone, in a block too: all errors flip of the others what they did, by shifted numbers.
+
+A detector is the records that it names, counted from where the edit begins. Of those that are new, the program is asked what errors flip them
+from a cut on, a place in the outermost list so far back that no region of theirs begins in front of it, as marks on all qubits there show:
+then no error further back flips them. The program reads the text from there on alone, so no lookback in it goes further back.
+"""
+
+from collections.abc import Sequence
+from dataclasses import dataclass, replace
+from difflib import SequenceMatcher
+from functools import cached_property
+from typing import TYPE_CHECKING
+
+import numpy as np
+from numpy.typing import NDArray
+
+from stabsim.errors import Refused
+from stabsim.formats.combining import Chances, Numbers, odd, rows_of, starts_of
+from stabsim.noise.causes import Causes
+from stabsim.noise.changed_lines import (
+    DECLARING, LOOKBACK, Change, counts_of_line, cut_with, detector_numbers, is_detector, list_begin, list_end, noisy_items, quiet_lines,
+    tally,
+)
+from stabsim.noise.flipped import Flipped
+from stabsim.noise.marking import Marker, Source
+from stabsim.noise.renewal import NONE, Renewal, mechanisms_with, renumbered
+from stabsim.noise.sourced import by_source, flips_of
+from stabsim.text.coordinates import detector_coordinates
+
+if TYPE_CHECKING:
+    from stabsim.noise.models import ErrorModel
+
+# How many times as many records as the new detectors may name are made from a cut on, before all of the text is looked at.
+FURTHER = (2, 8)
+
+
+@dataclass(frozen=True)
+class Declared:
+    """An edit of detectors: which of those that its old lines declared are no more, and which of those that its new lines declare are new;
+    reach: how many records before the edit these may name."""
+
+    change: Change
+    gone: Sequence[int]
+    new: Sequence[int]
+    reach: int
+
+    @classmethod
+    def of(cls, change: Change) -> "Declared | None":
+        """The edit; None if it is of something else too, or of blocks."""
+        if any("{" in line or "}" in line for line in (*change.old, *change.new)) or others(change.old) != others(change.new):
+            return None
+        before, after = records_named(change.old), records_named(change.new)
+        same = SequenceMatcher(None, before, after, autojunk=False).get_matching_blocks()
+        gone = set(range(len(before))).difference(*(range(it.a, it.a + it.size) for it in same))
+        new = set(range(len(after))).difference(*(range(it.b, it.b + it.size) for it in same))
+        return cls(change, sorted(gone), sorted(new), -min((min(after[it], default=0) for it in new), default=0))
+
+    @cached_property
+    def opened(self) -> list[list[int]]:
+        """The lists that are open in front of the edit, the outermost first: how many rounds each has, and how many detectors so far."""
+        opened = [[1, 0]]
+        tally(self.change.above, opened)
+        return opened
+
+    @cached_property
+    def numbers_before(self) -> Numbers:
+        """The numbers of all detectors that the old lines declared, a row for each round, int64 (rounds, detectors)."""
+        return detector_numbers(self.opened, self.change.old, self.change.below)
+
+    @cached_property
+    def numbers(self) -> Numbers:
+        """The same of the new lines."""
+        return detector_numbers(self.opened, self.change.new, self.change.below)
+
+    @property
+    def new_numbers(self) -> Numbers:
+        """The numbers of those that are new, ascending."""
+        return self.numbers[:, self.new].ravel()
+
+    def columns(self, detectors: int, observables: int) -> tuple[Numbers, int]:
+        """The number of each detector and observable after the edit, -1 of one that is no more; and how many detectors there are."""
+        after = detectors + self.numbers.size - self.numbers_before.size
+        is_kept, is_known = np.ones(detectors + observables, dtype=np.bool_), np.ones(after + observables, dtype=np.bool_)
+        is_kept[self.numbers_before[:, self.gone]] = False
+        is_known[self.new_numbers] = False
+        columns = np.full(len(is_kept), -1, dtype=np.int64)
+        columns[is_kept] = np.flatnonzero(is_known)
+        return columns, after
+
+    def coordinates(self, before: Chances, columns: Numbers, detectors: int) -> Chances:
+        """The coordinates of all detectors, from those before the edit."""
+        own = detector_coordinates("\n".join([*others(self.change.above), *self.change.new, *others(self.change.below)]))
+        found = np.full((detectors, max(before.shape[1], own.shape[1])), np.nan)
+        kept = np.flatnonzero(columns[: len(before)] >= 0)
+        found[columns[kept], : before.shape[1]] = before[kept]
+        found[self.numbers.ravel()] = np.nan
+        found[self.numbers.ravel(), : own.shape[1]] = own
+        return found[:, : int(np.flatnonzero(~np.isnan(found).all(axis=0)).max(initial=-1)) + 1]
+
+    def moved(self, sources: Sequence[Source]) -> tuple[Source, ...]:
+        """Sources of the text before the edit by their lines after it."""
+        first, last = self.change.first, self.change.first + len(self.change.old)
+        before, after = ([first + 1 + at for at, line in enumerate(its) if not is_detector(line)] for its in (self.change.old, self.change.new))
+        line_after = dict(zip(before, after))
+        by = len(self.change.new) - len(self.change.old)
+        return tuple(it if it.line <= first else it._replace(line=it.line + by if it.line > last else line_after[it.line]) for it in sources)
+
+
+def others(lines: Sequence[str]) -> list[str]:
+    """Lines that declare no detector."""
+    return [line for line in lines if not is_detector(line)]
+
+
+def records_named(lines: Sequence[str]) -> list[tuple[int, ...]]:
+    """The records that each detector names an odd number of times, ascending, counted from the first line on."""
+    found, records = [], 0
+    for line in quiet_lines(lines):
+        if is_detector(line):
+            named: set[int] = set()
+            for lookback in LOOKBACK.findall(line):
+                named ^= {records - int(lookback)}
+            found.append(tuple(sorted(named)))
+        records += counts_of_line(line).records
+    return found
+
+
+def renewed_detectors(model: "ErrorModel", causes: Causes, change: Change, text: str, qubits: int) -> "ErrorModel | None":
+    """The model of a text, from that of the text before an edit of detectors; None if more was edited, or the program refuses a new one."""
+    edit = Declared.of(change)
+    if edit is None:
+        return None
+    asked = Flips.of(edit, causes, qubits)
+    if asked is None:
+        return None
+    columns, detectors = edit.columns(model.num_detectors, model.num_observables)
+    errors, rows = asked.rows(model, causes.mechanisms, columns, detectors)
+    model, mechanisms = renumbered(model, causes.mechanisms.astype(np.int64), columns, detectors)
+    renewal = Renewal.of_rows(model, *rows)
+    if renewal is None:
+        return None
+    gone = mechanisms[errors]
+    mechanisms[errors] = renewal.mechanisms
+    found = renewal.model_of(mechanisms, gone, edit.moved(causes.sources), text)
+    return replace(found, coordinates=edit.coordinates(model.coordinates, columns, detectors))
+
+
+@dataclass(frozen=True)
+class Flips:
+    """What errors flip of the detectors that are new. errors: which errors flip any, ascending; places, columns: pairs of the place of one of
+    these and what it flips."""
+
+    errors: Numbers
+    places: Numbers
+    columns: Numbers
+
+    @classmethod
+    def of(cls, edit: Declared, causes: Causes, qubits: int) -> "Flips | None":
+        """Asks the program; None if it refuses one of them."""
+        if not edit.new:
+            return cls(NONE, NONE, NONE)
+        begin = list_begin(edit.change.before, edit.change.first)
+        for times in FURTHER:
+            cut = cut_with(edit.change.before, begin, times * edit.reach, begin)
+            found = cls.asked(edit, causes, cut, qubits)
+            if found is not None or not cut:
+                return found
+        return cls.asked(edit, causes, 0, qubits)
+
+    @classmethod
+    def asked(cls, edit: Declared, causes: Causes, cut: int, qubits: int) -> "Flips | None":
+        """The same of the text from a cut on; None if a region of theirs may begin in front of it."""
+        sources, table = table_from(edit, cut, qubits)
+        if table is None or cut and len(table.pairs(0, qubits)[0]):
+            return None
+        start = int(np.searchsorted([source.line for source in causes.sources], cut + 1))
+        known = causes.sources[start : start + len(sources)]
+        if [(its.letters, its.times()) for its in known] != [(its.letters, its.times()) for its in sources]:
+            return None
+        firsts = causes.firsts[start : start + len(sources) + 1] - causes.firsts[start]
+        is_flipping = table.marks_that_flip(np.ones(table.num_detectors, dtype=np.bool_))
+        errors = np.flatnonzero(np.concatenate([NONE, *(is_flipping[source.all_marks()].any(axis=1) for source in sources)]))
+        places, columns = flips_of(by_source(sources, errors, firsts), table)
+        return cls(errors + causes.firsts[start], places, edit.new_numbers[columns])
+
+    def rows(self, model: "ErrorModel", mechanisms: NDArray[np.int32], columns: Numbers, detectors: int) -> tuple[Numbers, tuple[Numbers, Numbers]]:
+        """Which errors flip something else, and the rows of what they flip as a CSR matrix. model, mechanisms: from before the edit."""
+        is_other = np.zeros(len(model) + 1, dtype=np.bool_)
+        is_other[mechanisms_with(model, columns < 0)] = True
+        errors = np.union1d(np.flatnonzero(is_other[mechanisms]), self.errors)
+        some = np.flatnonzero(mechanisms[errors] >= 0)
+        of_row, before = rows_of(mechanisms[errors[some]].astype(np.int64), model.indptr, model.indices)
+        stays = columns[before] >= 0
+        places = np.concatenate([some[of_row[stays]], np.searchsorted(errors, self.errors)[self.places]])
+        places, flips = odd(places, np.concatenate([columns[before[stays]], self.columns]), detectors + model.num_observables)
+        return errors, (starts_of(np.bincount(places, minlength=len(errors))), flips)
+
+
+def table_from(edit: Declared, cut: int, qubits: int) -> tuple[list[Source], Flipped | None]:
+    """The errors from a cut to the end of the edit or of the blocks around it, and what marks of all qubits at the cut, and those of these
+    errors, flip of the detectors that are new; None if the program refuses that text."""
+    change = edit.change
+    end = list_end(change.after, change.first + len(change.new))
+    lines = ["" if it.lstrip().startswith(DECLARING) else it for it in change.after[cut:end]]
+    places = [change.first + at for at, line in enumerate(change.new) if is_detector(line)]
+    for place in (places[it] for it in edit.new):
+        lines[place - cut] = change.after[place]
+    marker = Marker(False)
+    sources, _ = marker.items(noisy_items(lines, cut + 1), qubits)
+    try:
+        table = Flipped.of([" ".join(["I", *map(str, range(qubits))]), *marker.lines], len(edit.new_numbers), 0)
+    except Refused:
+        return [], None
+    return sources, table
