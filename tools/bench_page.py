@@ -1,8 +1,8 @@
 """Measures in Chromium how long the page takes from a key on a qubit until what it flips is drawn, for docs/build/benchmarks.md.
 
-On a surface code that is written out it puts a Pauli on a qubit in the middle, at moments that lie evenly over all, and takes it back each
-time. A line has the milliseconds of a step of the way, by the browser's clock: the middle one of the edits, the best and the worst. It
-needs what the page's tests do: Chromium, its driver, selenium, aiohttp and pytest."""
+On a surface code, written out and in a block, it puts a Pauli on a qubit in the middle, at moments that lie evenly over all, and takes it
+back each time; in a block its round is split off first. A line has the milliseconds of a step of the way, by the browser's clock: the middle
+one of the edits, the best and the worst. It needs what the page's tests do: Chromium, its driver, selenium, aiohttp and pytest."""
 
 import contextlib
 import os
@@ -85,12 +85,13 @@ def open_page(page: Any) -> float:
     return time.perf_counter() - begun
 
 
-def measure_size(driver: Any, file: Path, distance: int, rounds: int) -> None:
-    file.write_text(codes.surface_code(distance, rounds, written_out=True))
+def measure_size(driver: Any, file: Path, distance: int, rounds: int, written_out: bool) -> None:
+    file.write_text(codes.surface_code(distance, rounds, written_out=written_out))
     begun = time.perf_counter()
     with contextlib.closing(Page(driver, file.parent, None, str(file))) as page:
         started = time.perf_counter() - begun
-        print(f"distance {distance}, {rounds} rounds: served after {started:.2f} s, first picture {open_page(page):.2f} s later")
+        form = "written out" if written_out else "in a block"
+        print(f"distance {distance}, {rounds} rounds, {form}: served after {started:.2f} s, first picture {open_page(page):.2f} s later")
         time.sleep(3)
         last = page.ask("page.moments() - 1")
         # The data qubit in the middle of the code: its coordinates are the distance, which is odd as those of all data qubits.
@@ -115,4 +116,5 @@ def measure(file: Path) -> None:
         driver.set_script_timeout(600)
         driver.execute_cdp_cmd("Emulation.setDeviceMetricsOverride", {"width": 1920, "height": 1080, "deviceScaleFactor": 1, "mobile": False})
         for distance, rounds in SIZES:
-            measure_size(driver, file, distance, rounds)
+            for written_out in (True, False):
+                measure_size(driver, file, distance, rounds, written_out)

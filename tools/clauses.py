@@ -50,10 +50,13 @@ def clauses_of(file: Path) -> dict[str, str]:
 
 
 def named_by(call: str) -> set[str]:
-    """What the clauses of a public function name, as `stab_session::apply` of a crate, or of all its public functions, as `stab_session::*`."""
-    crate, _, function = call.partition("::")
+    """What the clauses of public functions name: of one of a crate, as `stab_session::apply`, or of all of a crate or of one of its modules,
+    as `stab_io::*` and `stab_session::session::*`."""
+    crate, *module, function = call.split("::")
+    source = TOP / "crates" / crate / "src"
+    files = [file for it in module for file in (source / f"{it}.rt", *(source / it).rglob("*.rt"))] or source.rglob("*.rt")
     found: set[Place] = set()
-    for file in sorted((TOP / "crates" / crate / "src").rglob("*.rt")):
+    for file in sorted(files):
         known = imported(file.read_text(encoding="utf-8").split("\n"))
         for name, text in clauses_of(file).items():
             if function in ("*", name):

@@ -18,28 +18,30 @@ from program import TOP
 THEOREMS = {
     "sample and detect": ["stab_commands.Outputs.EndsRun", "stab_commands.Outputs.sample_of", "stab_commands.Outputs.detect_of"],
     "stabilisers": ["stab_commands.Stabilisers.EndsStabilisers"],
-    "deterministic": ["stab_texts.Deterministic.EndsDeterministic"],
+    "deterministic": ["stab_report.Deterministic.EndsDeterministic"],
     "faults, coins and deterministic --explain": [
-        "stab_texts.FaultTables.EndsFaults", "stab_texts.CoinTables.EndsCoins", "stab_texts.Reasons.EndsExplain"],
-    "distance": ["stab_texts.Questions.EndsQuestion"],
+        "stab_report.FaultTables.EndsFaults", "stab_report.CoinTables.EndsCoins", "stab_report.Reasons.EndsExplain"],
+    "distance": ["stab_report.Questions.EndsQuestion"],
     "errors everywhere": [
-        "stab_errors.EverywhereLaws.WrongRecordsAreInverted", "stab_errors.EverywhereLaws.LettersAreErrors", "stab_errors.EverywhereLaws.StringsAreErrors"],
-    "edit": ["stab_editor.ScriptEndings.EndsPlainEdit"],
-    "edit --framed": ["stab_editor.ScriptEndings.EndsEdit"],
-    "propagate": ["stab_propagation.Endings.EndsPropagate"],
+        "stab_error_model.EverywhereLaws.WrongRecordsAreInverted", "stab_error_model.EverywhereLaws.LettersAreErrors", "stab_error_model.EverywhereLaws.StringsAreErrors"],
+    "edit": ["stab_script.ScriptEndings.EndsPlainEdit"],
+    "propagate": ["stab_script.Endings.EndsPropagate", "stab_script.Endings.EndsPropagateEach"],
+    "edit --framed": ["stab_script.ScriptEndings.EndsEdit"],
     "a job and its status": ["stab_cli.Jobs.EndsJob"],
     "what a session is": ["stab_session.Headline.IsRunOfItems", "stab_session.Sessions.IsSignIn", "stab_tableau.Reduced.AreReduced"],
     "an edit of a session": ["stab_session.SessionEdits.IsEditedBy", "stab_session.SessionEdits.IsAsBefore"],
     "what an edit costs": ["stab_session::apply"],
     "laws": [
         "stab_tableau::gates_keep_sound", "stab_tableau::outcomes_keep_sound", "stab_tableau::members_are_a_group",
-        "stab_tableau::free_where_anticommuting", "stab_run::same_future", "stab_tableau::traces_have_one_list", "stab_distance::parts_are_whole",
+        "stab_tableau::free_where_anticommuting", "stab_run::same_future", "stab_tableau::traces_have_one_list", "stab_search::parts_are_whole",
         "stab_circuit::printed_items_are_read_back"],
     "what the program calls": [
-        "stab_args::parse_words", "stab_args::read_coins", "stab_cli::run_job_watched", "stab_cli::write_usage", "stab_texts::write_fault"],
+        "stab_args::parse_words", "stab_args::read_coins", "stab_cli::run_job_watched", "stab_cli::write_usage", "stab_report::write_fault"],
     "calls of the library": [
-        *(f"{crate}::*" for crate in ("stab_io", "stab_pauli", "stab_tableau", "stab_edits", "stab_circuit", "stab_session", "stab_results")),
-        "stab_recording::run_once", "stab_recording::shot", "stab_run::coin", "stab_errors::errors", "stab_errors::distance",
+        *(f"{part}::*" for part in (
+            "stab_io", "stab_pauli", "stab_tableau", "stab_items::circuit", "stab_items::cursor", "stab_items::edit", "stab_items::path",
+            "stab_circuit::input", "stab_circuit::reading", "stab_circuit::laws", "stab_session::session", "stab_results")),
+        "stab_recording::run_once", "stab_recording::shot", "stab_run::coin", "stab_error_model::errors", "stab_error_model::distance",
         "stab_regions::deterministic", "stab_regions::faults"],
 }
 ROW = re.compile(r"\| `(\w+/specs/[\w/]+\.antt)` \|")

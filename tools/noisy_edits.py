@@ -19,7 +19,7 @@ EACH = 20
 def models_of(seed: int) -> int:
     """Some cases of models; how many of them have a model."""
     sys.path.insert(0, str(TESTS))
-    from random_edits import models_agree  # type: ignore[import-not-found]
+    from random_edits import models_agree
 
     seen: list[str] = []
     models_agree(seed, EACH, seen)
@@ -29,7 +29,7 @@ def models_of(seed: int) -> int:
 def texts_of(seed: int) -> int:
     """Some cases of texts."""
     sys.path.insert(0, str(TESTS))
-    from random_texts import texts_agree  # type: ignore[import-not-found]
+    from random_texts import texts_agree
 
     texts_agree(seed, EACH)
     return EACH

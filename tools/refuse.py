@@ -80,6 +80,7 @@ distance --observable 0 --in marked.stim
 distance --each --in marked.stim
 propagate --at 1 X0 --in bell.stim
 propagate --every --at 1 X0 --in bell.stim
+propagate_each --in marked.stim
 distance --table --in marked.stim
 distance --wcnf --in marked.stim
 distance --count --in marked.stim

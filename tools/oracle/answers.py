@@ -80,7 +80,7 @@ OPTIONS = {
     "faults": ("out_format", "everywhere", "deterministic_only"),
     "coins": ("out_format",),
     "distance": ("letters", "most", "graphlike", "observable", "each", "table", "count"),
-    "check": (),
+    "check": (), "propagate_each": ("everywhere",),
 }
 
 
@@ -159,13 +159,17 @@ def propagated(items: Items, case: Case) -> Ended:
     return 0, ways.text_of(items, place, factors, case.setting("every", False)), b""
 
 
+def propagated_each(items: Items, case: Case) -> Ended:
+    return 0, ways.each_text(items, case.setting("everywhere", False)), b""
+
+
 ANSWERS: dict[str, Callable[[Items, Case], Ended]] = {
     "stabilisers": lambda items, case: (0, states.rows_text(states.run_of(items, numbers.qubits(items), coins_of(case, 0)).state), b""),
     "coins": lambda items, case: (0, sums.coins_text(items, case.setting("out_format")), b""),
     "deterministic": lambda items, case: (
         0, sums.explained(items) if case.setting("explain") else sums.deterministic(items, case.setting("out_format", "01")), b""),
     "sample": shots, "detect": shots, "edit": edit, "faults": faults, "check": counted,
-    "propagate": propagated,
+    "propagate": propagated, "propagate_each": propagated_each,
 }
 
 

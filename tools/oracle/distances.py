@@ -129,7 +129,7 @@ class Distance:
         self.rows = {error: rows[error] for error in self.table if not graphlike or self.is_graphlike(rows[error])}
         flipping = sorted(set(self.rows.values()) - {0})
         of_sizes = ([it for it in combinations(flipping, size) if self.is_unseen(reduce(xor, it))] for size in range(1, MOST_ERRORS + 1))
-        least = next((sets for sets in of_sizes if sets), [])
+        least: list[tuple[int, ...]] = next((sets for sets in of_sizes if sets), [])
         self.least = len(least[0]) if least else None
         # A least set has no two errors that flip the same, and each of them may be any of those that do.
         alike = Counter(rows[error] for error in self.table)

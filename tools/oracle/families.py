@@ -214,7 +214,8 @@ def strings_put_in(dice: Random) -> list[Case]:
     except (Refused, TooLarge):
         return []
     written = "*".join(f"{letter}{qubit}" for letter, qubit in string)
-    return [Case("propagate", text, (("at", f"@{place}"), ("string", written), ("every", dice.random() < 0.4)))]
+    asked = Case("propagate", text, (("at", f"@{place}"), ("string", written), ("every", dice.random() < 0.4)))
+    return [asked, random_case(dice, "propagate_each", text)]
 
 
 FAMILIES: dict[str, Callable[[Random], list[Case]]] = {

@@ -2,6 +2,7 @@
 
 from random import Random
 
+from . import numbers
 from .making import Maker
 from .reading import Block, Items
 from .scripts import Session
@@ -10,7 +11,7 @@ SHOWN = ("measurements", "free", "detectors", "observables", "stabilisers", "cir
 # A script that shows all of these.
 SHOWS = "".join(f"show {what}\n" for what in SHOWN).encode()
 FRAMED = ("mark", "show numbers", "show changed", "show changed", "show changed records", "show sign", "show item",
-          "show place", "show deterministic", "split", "split", "split")
+          "show place", "show way", "show deterministic", "split", "split", "split")
 
 
 def path_to(random: Random, items: Items, past_end: bool) -> str:
@@ -76,11 +77,18 @@ def split_words(random: Random, session: Session) -> str:
     return f"{'/'.join(map(str, path))} {random.choice((0, 1, count - 1, count, random.randrange(count)))}"
 
 
+def place_word(random: Random, session: Session) -> str:
+    """A place at which a string is put in: a path, or a number of steps, which may be past the end."""
+    return path_to(random, session.items, True) if random.random() < 0.6 else f"@{random.randint(0, 1 + len(numbers.unroll(session.items)))}"
+
+
 def framed_line(random: Random, session: Session) -> str:
     """A line that only a counted script has."""
     line = random.choice(FRAMED)
     if line == "show sign":
         return f"{line} {string_word(random, session.qubits)}"
+    if line == "show way":
+        return f"{line} {place_word(random, session)} {string_word(random, session.qubits)}"
     if line == "split":
         return f"{line} {split_words(random, session)}"
     return f"{line} {path_to(random, session.items, False)}" if line in ("show item", "show place") else line

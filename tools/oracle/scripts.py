@@ -4,7 +4,7 @@ import re
 from collections.abc import Callable, Iterator, Sequence
 from dataclasses import replace
 
-from . import formats, numbers, printing, states, sums
+from . import formats, numbers, printing, states, sums, ways
 from .numbers import Step
 from .reading import (
     MOST_BYTES, MOST_DEPTH, REFUSALS, Block, Items, Path, Refused, block_at, content_of, item_at, item_of, product_of)
@@ -29,6 +29,15 @@ def number_of(word: bytes) -> int:
     """A number, or 13."""
     if not word.isdigit() or len(word) > MOST_PLACE_DIGITS:
         raise Refused(13)
+    return int(word)
+
+
+def number_within(word: bytes, most: int) -> int:
+    """A number of steps, of which there are at most this many; or 2 or 12."""
+    if not word.isdigit() or len(word) > MOST_PLACE_DIGITS:
+        raise Refused(2)
+    if int(word) > most:
+        raise Refused(12)
     return int(word)
 
 
@@ -183,6 +192,8 @@ class Session:
             negative, factors = string_of_word(operand, self.qubits)
             sign = self.run().state.sign(factors)
             return b"0\n" if sign is None else b"-\n" if sign ^ negative else b"+\n"
+        if word == b"way" and more:
+            return self.way(operand, *first_word(more))
         if word not in (b"item", b"place"):
             raise Refused(13)
         path = place_of(operand)
@@ -190,6 +201,28 @@ class Session:
             raise Refused(13)
         item = item_at(self.items, path)
         return printing.printed([item]) if word == b"item" else self.numbers_at(path)
+
+    def way(self, at: bytes, string: bytes, more: bytes) -> bytes:
+        """The way of a string that is put in at a place."""
+        if more:
+            raise Refused(13)
+        place = self.steps_at(at)
+        _, factors = string_of_word(string, self.qubits)
+        return ways.text_of(self.items, place, factors, False)
+
+    def steps_at(self, at: bytes) -> int:
+        """How many steps are in front of a place."""
+        steps = numbers.unroll(self.items)
+        if at[:1] == b"@":
+            return number_within(at[1:], len(steps))
+        try:
+            path = place_of(at)
+        except Refused:
+            raise Refused(2) from None
+        if path == [len(self.items)]:
+            return len(steps)
+        item_at(self.items, path)
+        return len(steps_before(self.items, path))
 
     def numbers(self) -> bytes:
         run = self.run()

@@ -127,10 +127,15 @@ def sites(step: Step, everywhere: bool) -> list[tuple[int, bool]]:
     return [(qubit, after) for qubit in numbers.qubits_of(step) for after in ((False, True) if numbers.records_of(step) else (True,))]
 
 
+def errors(items: Items, everywhere: bool) -> list[tuple[str, Placed]]:
+    """Each fault: the path of its item, how many steps are in front of it, its letter and its qubit."""
+    return [(path, (number + after, letter, qubit)) for number, (path, step) in enumerate(numbers.placed_steps(items))
+            for qubit, after in sites(step, everywhere) for letter in "XZ"]
+
+
 def faults(items: Items, form: str | None, everywhere: bool, deterministic_only: bool) -> bytes:
     """What the command of this name writes; or `NotDeterministic`, with the line that is printed."""
-    found = [(path, (number + after, letter, qubit)) for number, (path, step) in enumerate(numbers.placed_steps(items))
-             for qubit, after in sites(step, everywhere) for letter in "XZ"]
+    found = errors(items, everywhere)
     sums = Sums(items, [letter for _, letter in found])
     if not deterministic_only:
         sums.need_deterministic()

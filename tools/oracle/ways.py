@@ -1,12 +1,15 @@
 """What a Pauli string becomes that is put in between two steps, and what it flips, step by step."""
 
-from collections.abc import Iterator
+from collections.abc import Iterator, Sequence
 from random import Random
 
-from . import numbers, states
+from . import numbers, states, sums
 from .numbers import Step
 from .reading import Block, Items, Operation
 from .states import Factors, String, images, sent, string_of
+
+# Errors of a circuit go over no more steps than these.
+MOST_STEPS = 400000
 
 
 class Way:
@@ -22,6 +25,11 @@ class Way:
         x, z = self.string.x, self.string.z
         found = [f"{'IXZY'[(x >> qubit & 1) + 2 * (z >> qubit & 1)]}{qubit}" for qubit in range((x | z).bit_length()) if (x | z) >> qubit & 1]
         return "*".join(found) or "1"
+
+    def flipped(self) -> str:
+        """What it flips, as M3 D24 L0, each after a space."""
+        kinds = ("M", enumerate(self.flips)), ("D", enumerate(self.detectors)), ("L", sorted(self.observables.items()))
+        return "".join(f" {kind}{number}" for kind, bits in kinds for number, bit in bits if bit)
 
     def parity(self, lookbacks: list[int]) -> int:
         return sum(self.flips[-back] for back in lookbacks) % 2
@@ -86,9 +94,27 @@ def text_of(items: Items, place: int, factors: Factors, every: bool) -> bytes:
             out.append(f"{done} {path} {way.letters()}\n")
     if done == place:
         way.string = way.string.times(string_of(factors))
-    flipped = [f" M{number}" for number, bit in enumerate(way.flips) if bit] + [f" D{number}" for number, bit in enumerate(way.detectors) if bit]
-    flipped += [f" L{number}" for number, bit in sorted(way.observables.items()) if bit]
-    return ("".join(out) + f"flips{''.join(flipped)}\nleft {way.letters()}\n").encode()
+    return ("".join(out) + f"flips{way.flipped()}\nleft {way.letters()}\n").encode()
+
+
+def each_text(items: Items, everywhere: bool) -> bytes:
+    """What is written of each error: it goes over the steps after it, by itself."""
+    states.refuse_if_large(items, numbers.qubits(items))
+    steps, errors = numbers.unroll(items), sums.errors(items, everywhere)
+    if len(steps) * len(errors) > MOST_STEPS:
+        raise states.TooLarge
+    return "".join(error_line(steps, path, *placed) for path, placed in errors).encode()
+
+
+def error_line(steps: Sequence[Step], path: str, before: int, letter: str, qubit: int) -> str:
+    way = Way()
+    for number, step in enumerate(steps):
+        if number == before:
+            way.string = string_of([(letter, qubit)])
+        way.over(step)
+    if before == len(steps):
+        way.string = string_of([(letter, qubit)])
+    return f"{before} {path} {letter}{qubit}{way.flipped()} left {way.letters()}\n"
 
 
 def asked(dice: Random, items: Items) -> tuple[int, list[tuple[str, int]]]:

@@ -20,9 +20,9 @@ STANDING = {
     ("framed", "crates/stab_jobs/"),
     ("framed", "crates/tests_program/src/"),
     ("framed", "crates/stab_frames/specs/PropagatedTableaus.antt"),
-    ("apart", "crates/stab_edits/src/walk.rt"),
+    ("apart", "crates/stab_items/src/walk.rt"),
     ("apart", "crates/stab_ways/proofs/FrontLemmas.antt"),
-    ("turned", "crates/stab_edits/proofs/StepPathLemmas.antt"),
+    ("turned", "crates/stab_items/proofs/StepPathLemmas.antt"),
     ("copies of the state", "crates/stab_circuit/specs/Limits.antt"),
     ("copy of the state", "crates/stab_frames/src/run_laws.rt"),
     # The columns of a row say what is reported by this word.

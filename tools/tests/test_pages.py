@@ -125,6 +125,22 @@ def test_the_tour_names_each_crate() -> None:
     expect_none({line.partition(":")[0] for line in text_of(TOP / "crates.txt").splitlines()} - set(tour))
 
 
+def walks() -> dict[str, list[set[str]]]:
+    """The files of each walk of the tour, by its lists: "- `crate`: `file.rt`, `file.rt`. What happens."."""
+    parts = text_of(DOCS / "build" / "architecture.md").split("\n## ")[2:]
+    lines = {part.split("\n")[0]: [re.findall(r"^- `(\w+)`: (.*?)\.(?: |$)", it, re.MULTILINE) for it in part.split("\n\n")] for part in parts}
+    return {head: [{f"{crate}/src/{file}" for crate, names in part for file in quoted(names)} for part in parts if part]
+            for head, parts in lines.items()}
+
+
+def test_walks_of_the_tour_name_files_and_not_too_many() -> None:
+    [shot], [opened, *ways], [distance] = walks().values()
+    assert len(ways) == 2
+    expect_none(it for it in shot.union(opened, *ways, distance) if not (TOP / "crates" / it).is_file())
+    assert 20 < len(shot) <= 40
+    assert all(20 < len(opened | way) <= 30 for way in ways)
+
+
 def test_the_index_leads_to_each_page() -> None:
     index = DOCS / "README.md"
     linked = set(re.findall(r"\]\(([\w/-]+\.md)\)", text_of(index)))

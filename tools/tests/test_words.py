@@ -1,5 +1,5 @@
 """Help ends with an example, which can be run at the top of the repository; commands, options and named values of completions/ and man/
-are those of --help; and the names of instructions on the page, in the package and among the nearest ones are those of the tables of stab_lines."""
+are those of --help; and the names of instructions on the page, in the package and among the nearest ones are those of the tables of stab_instructions."""
 
 import re
 import subprocess
@@ -37,7 +37,7 @@ MANUAL = text_of(TOP / "man/stabsim.1").replace("\\-", "-")
 ZSH = text_of(TOP / "completions/_stabsim")
 PAGE = text_of(TOP / "docs/use/circuit-text.md")
 ROWS = [re.findall(r'"(\w+)"', row)
-        for row in re.findall(r'^ *\[.*\] (b"\w+"(?: or b"\w+")*);$', text_of(TOP / "crates/stab_lines/src/table.rt"), re.MULTILINE)]
+        for row in re.findall(r'^ *\[.*\] (b"\w+"(?: or b"\w+")*);$', text_of(TOP / "crates/stab_instructions/src/table.rt"), re.MULTILINE)]
 
 
 def help_of(*words: str) -> str:
@@ -127,5 +127,5 @@ def test_the_package_and_the_page_have_the_instructions_and_their_other_names() 
 
 
 def test_the_nearest_name_is_one_that_is_read() -> None:
-    nearest = text_of(TOP / "crates/stab_diagnostics/src/nearest.rt").split("const READ", 1)[1].split('"')[1]
+    nearest = text_of(TOP / "crates/stab_circuit/src/nearest.rt").split("const READ", 1)[1].split('"')[1]
     assert set(re.findall(r"\w+", nearest)) == {"REPEAT"}.union(*ROWS)
