@@ -1,7 +1,7 @@
 # Completes the words of stabsim in bash. The README says where to put it; to try it: . completions/stabsim.bash
 _stabsim() {
     local word=${COMP_WORDS[COMP_CWORD]} before=${COMP_WORDS[COMP_CWORD-1]} command=${COMP_WORDS[1]} choices=
-    local commands="sample detect stabilisers edit check deterministic faults coins distance propagate"
+    local commands="sample detect stabilisers edit check deterministic faults coins distance propagate propagate_each"
     COMPREPLY=()
     # bash takes the = of --out_format=dets for a word by itself.
     if [ "$word" = "=" ]; then
@@ -30,6 +30,7 @@ _stabsim() {
         coins) choices="--out_format --in --out --help" ;;
         distance) choices="--everywhere --letters --most --graphlike --observable --each --table --wcnf --count --part --deterministic_only --progress --in --out --help" ;;
         propagate) choices="--at --every --in --out --help" ;;
+        propagate_each) choices="--everywhere --in --out --help" ;;
         help) [ "$COMP_CWORD" -eq 2 ] && choices=$commands ;;
         esac
         [ "$COMP_CWORD" -eq 1 ] && choices="$commands help --help --version"

@@ -26,39 +26,41 @@ class Refused(Exception):
 class Session:
     """An editing session: the reply to each line is read before another one is sent."""
 
-    def __init__(self, circuit):
+    def __init__(self, circuit: str | pathlib.Path) -> None:
         words = [os.environ.get("STABSIM", TOP / "stabsim"), "edit", "--in", circuit]
         self.program = subprocess.Popen(words, stdin=subprocess.PIPE, stdout=subprocess.PIPE, text=True, bufsize=1)
+        assert self.program.stdin and self.program.stdout
+        self.input, self.output = self.program.stdin, self.program.stdout
 
-    def send(self, *lines):
+    def send(self, *lines: str) -> None:
         for line in lines:
-            self.program.stdin.write(line + "\n")
-        self.program.stdin.flush()
+            self.input.write(line + "\n")
+        self.input.flush()
 
-    def read(self, line):
-        reply = self.program.stdout.readline()
+    def read(self, line: str) -> str:
+        reply = self.output.readline()
         if not reply.endswith("\n"):
             raise Refused(f"{line}: no whole reply, status {self.close()}")
         return reply[:-1]
 
-    def ask(self, line):
+    def ask(self, line: str) -> str:
         """The reply of one line to a line."""
         self.send(line)
         return self.read(line)
 
-    def edit(self, line):
+    def edit(self, line: str) -> None:
         reply = self.ask(line)
         if reply != "ok":
             raise Refused(f"{line}: {reply}")
 
-    def bits(self, what):
+    def bits(self, what: str) -> list[int]:
         """The places of the ones in what `show` says of measurements, free, detectors or observables."""
         reply = self.ask(f"show {what}")
         if reply.strip("01"):
             raise Refused(f"show {what}: {reply}")
         return [place for place, bit in enumerate(reply) if bit == "1"]
 
-    def lines(self, what):
+    def lines(self, what: str) -> list[str]:
         """What `show` says of the circuit or its stabilisers, perhaps no line at all: what comes before the bits that are asked next."""
         line = f"show {what}"
         self.send(line, "show observables")
@@ -69,12 +71,12 @@ class Session:
             raise Refused(f"{line}: {shown[0]}")
         return shown[:-1]
 
-    def close(self):
-        self.program.stdin.close()
+    def close(self) -> int:
+        self.input.close()
         return self.program.wait()
 
 
-def main():
+def main() -> None:
     session = Session(CIRCUIT)
     for qubit in range(QUBITS):
         session.edit(f"replace {ERROR} X {qubit}")

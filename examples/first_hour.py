@@ -2,7 +2,7 @@
 
     PYTHONPATH=python python3 examples/first_hour.py threshold.png
 
-It needs Debian's python3-numpy, python3-networkx and python3-matplotlib, and takes the decoder of examples/threshold.py.
+It needs Debian's python3-numpy, python3-networkx and python3-matplotlib.
 """
 
 import pathlib
@@ -11,7 +11,7 @@ import sys
 import matplotlib
 import stabsim
 from stabsim import codes
-from threshold import decoder
+from stabsim.collecting.matching import decoder
 
 # A noisy file, read.
 circuit = stabsim.Circuit.from_file(pathlib.Path(__file__).with_name("noisy_surface_code.stim"))
@@ -40,7 +40,8 @@ with circuit.edit() as session:
 
 # A threshold: rates of logical errors by matching, for two distances.
 metadata = {f"d={d},p={p}": {"d": d, "p": p} for d in (3, 5) for p in (0.004, 0.008, 0.012)}
-models = {name: stabsim.error_model(codes.surface_code(its["d"], 3, noise=codes.Noise.uniform(its["p"]))) for name, its in metadata.items()}
+models = {name: stabsim.error_model(codes.surface_code(int(its["d"]), 3, noise=codes.Noise.uniform(its["p"])), decompose=True)
+          for name, its in metadata.items()}
 sums = {it.name: it for it in stabsim.collect(models, ("matching", decoder), shots=1024, seed=1, metadata=metadata)}
 print(*(f"{name}: {its.errors} of {its.shots}" for name, its in sums.items()), sep="\n")
 matplotlib.use("Agg")
