@@ -56,6 +56,14 @@ def test_bits_are_said_anew_if_some_come_or_go(board):
     assert BITS <= set(board.edit([Edit("delete", str(BLOCK))]))
 
 
+def test_a_block_is_read_once_if_one_of_its_rounds_is_edited(board, monkeypatch):
+    process, asked = board.session.process, []
+    ask = process.ask
+    monkeypatch.setattr(process, "ask", lambda request: asked.append(request) or ask(request))
+    board.edit_in_round([Edit("insert", f"{BLOCK + 1}/0", "X 1")], str(BLOCK), 2)
+    assert [request for request in asked if request.startswith(b"show item")] == [f"show item {BLOCK}\n".encode()]
+
+
 def test_an_edit_that_names_a_new_qubit_says_where_all_are(board):
     told = board.edit([Edit("insert", "0", "X 40")])
     assert len(told["qubit_coordinates"]) == told["numbers"]["qubits"] > 40 and told["qubit_coordinates"][40] == []

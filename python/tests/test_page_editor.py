@@ -93,6 +93,18 @@ def test_a_repetition_code_is_drawn_from_nothing(open_page):
     page.wait(lambda: page.ask("page.shown.state.deterministic ? [...page.shown.state.deterministic] : []") == [1] * 6)
 
 
+def test_what_is_cut_at_one_tick_is_put_in_at_another(page):
+    page.go_to(1)
+    page.choose_qubit(2, 0)
+    do(page, "x", held=[Keys.CONTROL])
+    assert body(page) == ["R 0 1 2 3", "TICK", "TICK", "M 0 1"]
+    page.go_to(2)
+    do(page, "v", held=[Keys.CONTROL])
+    assert body(page) == ["R 0 1 2 3", "TICK", "TICK", "M 0 1", "CX 0 1 2 3"] and len(page.history()) == 3
+    page.press("z", "z", held=[Keys.CONTROL])
+    page.wait(lambda: page.circuit() == FOUR)
+
+
 TOOLS = {"R": "r", "H": "h", "CX": "c", "MR": "n", "M": "m"}
 
 

@@ -177,16 +177,35 @@ def test_the_number_of_an_observable_is_asked_for(page):
 PLACED = "QUBIT_COORDS(0, 0) 0\nQUBIT_COORDS(1, 0) 1\nQUBIT_COORDS(2, 0, 5) 2\nQUBIT_COORDS(0, 1) 3 4\nR 0 1 2 3 4\n"
 
 
-def test_qubits_are_moved_turned_and_mirrored_with_their_coordinates(open_page):
+def offer_for_chosen(page, words):
+    """Chooses what the menu of the chosen qubits offers."""
+    page.press(Keys.ENTER)
+    page.wait(lambda: page.find("choice").is_displayed())
+    page.browser.execute_script("[...document.querySelectorAll('#choice button')].find((it) => it.textContent.startsWith(arguments[0])).click()", words)
+
+
+def test_qubits_are_moved_and_turned_with_their_coordinates(open_page):
     page = open_page(PLACED)
     page.choose_qubit(1, 2)
     do(page, Keys.ARROW_DOWN, held=[Keys.ALT])
     assert lines(page)[1:3] == ["QUBIT_COORDS(1, 1) 1", "QUBIT_COORDS(2, 1, 5) 2"] and page.history()[-1] == "move 2 qubits"
-    page.press(Keys.ENTER)
-    page.wait(lambda: page.find("choice").is_displayed())
-    page.browser.execute_script("[...document.querySelectorAll('#choice button')].find((it) => it.textContent.startsWith('turn')).click()")
+    offer_for_chosen(page, "turn")
     page.wait(lambda: lines(page)[1:3] == ["QUBIT_COORDS(1, 1) 1", "QUBIT_COORDS(1, 2, 5) 2"])
     page.drag(page.spot(3), page.spot_of_place(3, 1), held=Keys.ALT)
     page.wait(lambda: lines(page)[3:5] == ["QUBIT_COORDS(3, 1) 3", "QUBIT_COORDS(0, 1) 4"])
     page.press("z", held=[Keys.CONTROL])
     page.wait(lambda: lines(page)[3] == "QUBIT_COORDS(0, 1) 3 4")
+
+
+CORNER = "QUBIT_COORDS(0, 0) 0\nQUBIT_COORDS(3, 0, 5) 1\nQUBIT_COORDS(0, 1) 2\nQUBIT_COORDS(1, 2) 3\nR 0 1 2 3\n"
+
+
+def test_a_chosen_group_is_mirrored_within_its_own_bounds(open_page):
+    page = open_page(CORNER)
+    page.choose_qubit(0, 1, 2)
+    offer_for_chosen(page, "mirror them left to right")
+    page.wait(lambda: lines(page)[:4] == ["QUBIT_COORDS(3, 0) 0", "QUBIT_COORDS(0, 0, 5) 1", "QUBIT_COORDS(3, 1) 2", "QUBIT_COORDS(1, 2) 3"])
+    page.settle()
+    offer_for_chosen(page, "mirror them upside down")
+    page.wait(lambda: lines(page)[:4] == ["QUBIT_COORDS(3, 1) 0", "QUBIT_COORDS(0, 1, 5) 1", "QUBIT_COORDS(3, 0) 2", "QUBIT_COORDS(1, 2) 3"])
+    assert page.history() == ["opened"] + ["move 3 qubits"] * 2 and page.chosen() == [0, 1, 2]

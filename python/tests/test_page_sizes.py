@@ -3,6 +3,7 @@
 import pytest
 from browsing import Keys, needs_browser
 from random_hands import settled_emulation
+from selenium.webdriver.common.action_chains import ActionChains
 from stabsim import codes
 from test_codes import SEVENTY_TWO
 
@@ -62,6 +63,45 @@ def test_in_a_small_window_the_picture_has_half_of_it_and_all_is_reached(open_pa
         page.press(Keys.F6)
         page.wait(lambda: page.focused() == "text" and page.find("text").is_displayed())
     assert [it["message"] for it in page.browser.get_log("browser")] == []
+
+
+# What is seen of the chosen ticks on the timeline: from where to where a frame reaches, and the columns of the first and the last of them.
+FRAMES = """(() => {
+  const { timeline } = page.views;
+  const frames = timeline.elements().filter(({ stroke, width }) => stroke === 'accent' && width === 1.5);
+  return [frames.map(({ path: [[, left], [, right]] }) => [left, right]), words.map((moment) => timeline.columnOf(moment)[0])];
+})()"""
+
+
+@pytest.mark.parametrize("size", [(800, 600), (390, 844)])
+def test_in_a_small_window_the_chosen_ticks_are_seen_and_keys_are_for_them(open_page, size):
+    page = open_page("R 0 1\nTICK\nCX 0 1\nTICK\nH 0\nTICK\nM 1\n")
+    with settled_emulation(page.browser):
+        show(page, *size, 1)
+        page.click("#tabs [data-pane=time]")
+        page.go_to(1)
+        chain = ActionChains(page.browser, duration=0).key_down(Keys.SHIFT)
+        page.point_at("#timeline", *page.seen("timeline.columnOf(words[0])", 2), chain=chain).click().key_up(Keys.SHIFT).perform()
+        page.wait(lambda: page.ask("page.views.timeline.range") == [1, 2])
+        frames, (first, last) = page.ask(FRAMES, 1, 2)
+        [left, right], now = frames
+        assert left < first < last < right and right - left == pytest.approx(2 * (last - first)) and now == pytest.approx([left, (first + last) / 2])
+        assert page.find("message").text == "ticks 1 to 2: 4 lines are chosen" and page.focused() == "timeline"
+        page.press(Keys.DELETE)
+        page.wait(lambda: page.circuit() == "R 0 1\nTICK\nM 1\n")
+        page.settle()
+        assert page.ask("page.views.timeline.range") is None
+
+
+@pytest.mark.parametrize("width", [1180, 1280, 1600])
+def test_all_marks_of_the_legend_are_in_sight(open_page, width):
+    page = open_page(codes.surface_code(11, 2))
+    with settled_emulation(page.browser):
+        show(page, width, 800, 1)
+        left, top, across, down = page.box("#legend")
+        boxes = page.ask("[...document.querySelectorAll('#legend span')].map((it) => it.getBoundingClientRect()).map((it) => [it.left, it.top, it.right, it.bottom])")
+        assert len(boxes) == 9
+        assert all(left <= x and top <= y and right <= left + across and bottom <= top + down for x, y, right, bottom in boxes)
 
 
 # The tools that are not in sight, as their palette is first seen.

@@ -7,7 +7,7 @@ import pytest
 import stabsim
 from random_edits import told
 from stabsim import codes
-from stabsim.noise import renewing
+from stabsim.noise import renewing, renewing_detectors
 
 NESTED = """R 0 1 2 3
 X_ERROR(0.25) 0 1 2
@@ -31,7 +31,28 @@ M(0.5) 0 2
 DETECTOR rec[-1]
 OBSERVABLE_INCLUDE(0) rec[-2]
 """
-TEXTS = (NESTED, codes.surface_code(3, 4, noise=codes.Noise.uniform(0.01)), str(stabsim.Circuit(codes.surface_code(2, 5, noise=codes.Noise.uniform(0.02))).flattened()))
+# Many rounds, without gates that records control: a check that is reset in each, and a qubit that is never reset.
+ROUNDS = """R 0 1 2 3
+M 2 3 3
+REPEAT 9 {
+    DEPOLARIZE1(0.03) 0 1 2
+    REPEAT 2 {
+        CX 0 3
+        DEPOLARIZE2(0.125) 0 3
+        CX 1 3
+        MR(0.25) 3
+        DETECTOR(1) rec[-1]
+    }
+    X_ERROR(0.0625) 2
+    M(0.125) 2
+    DETECTOR(2, 3) rec[-1] rec[-4]
+    SHIFT_COORDS(1)
+}
+M(0.5) 0 2
+DETECTOR rec[-1]
+OBSERVABLE_INCLUDE(0) rec[-2]
+"""
+TEXTS = (NESTED, ROUNDS, codes.surface_code(3, 8, noise=codes.Noise.uniform(0.01)), str(stabsim.Circuit(codes.surface_code(2, 5, noise=codes.Noise.uniform(0.02))).flattened()))
 
 
 def edit(session, numbers):
@@ -57,7 +78,7 @@ def edit(session, numbers):
             session.move(it.path, "/".join([*around, str(max(int(last) + numbers.randint(-4, 4), 0))]), keep_records=numbers.random() < 0.5)
 
 
-@pytest.mark.parametrize("seed", range(9))
+@pytest.mark.parametrize("seed", range(12))
 def test_a_model_is_the_one_made_anew(seed, monkeypatch):
     numbers, found_by, seen = random.Random(seed), [], 0
     own = renewing.renewed_detectors
@@ -90,3 +111,22 @@ def test_a_detector_that_looks_far_back_has_its_errors_all_along():
         assert len(after) == len(before) + 1 and after == stabsim.error_model(session.circuit())
         # All forty flips of qubit 0 are one mechanism: an odd number of them happens.
         assert [after.chances[it] for it in range(len(after)) if after.flipped(it).tolist() == [40]] == [pytest.approx((1 - 0.75 ** 40) / 2)]
+
+
+@pytest.mark.parametrize("records, fewest", [
+    # A check beside the same one of the round before, and of four rounds before; a check alone, and a qubit that no round resets: their regions
+    # go all the way.
+    ("rec[-2] rec[-5]", True), ("rec[-2] rec[-14]", True), ("rec[-2]", False), ("rec[-1]", False),
+])
+def test_later_rounds_are_as_the_last_one_asked_for(records, fewest, monkeypatch):
+    asked = []
+    own = renewing_detectors.Part.table
+    monkeypatch.setattr(renewing_detectors.Part, "table", lambda part, *its: asked.append(part.rounds) or own(part, *its))
+    text = ROUNDS.replace("M 2 3 3\n", "M 2" + " 3" * 14 + "\n")
+    with stabsim.Circuit(text).edit() as session:
+        session.error_model()
+        session.insert("2/4", f"DETECTOR(5) {records}")
+        found, wanted = session.error_model(), stabsim.error_model(session.circuit())
+    assert found == wanted and found.chances.tolist() == wanted.chances.tolist()
+    assert found.causes.mechanisms.tolist() == wanted.causes.mechanisms.tolist()
+    assert (9 not in asked) == fewest and min(asked) < 9

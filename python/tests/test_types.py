@@ -27,9 +27,15 @@ def said_of(*files):
     return (done.stdout + done.stderr).splitlines()
 
 
-def test_the_package_its_user_tools_and_examples_are_typed(tmp_path):
+def test_the_package_and_its_user_are_typed(tmp_path):
     wrong = tmp_path / "wrong.py"
     wrong.write_text(WRONG)
-    lines = said_of("stabsim", HERE / "typed_user.py", wrong, *sorted(TOP.glob("tools/*.py")), *sorted(TOP.glob("examples/*.py")))
+    lines = said_of("stabsim", HERE / "typed_user.py", wrong)
     # What is wrong in a program is found, and nothing else. For a call with overloads there are notes besides.
     assert list(dict.fromkeys(line.split("wrong.py:")[-1].split(":")[0] for line in lines[:-1])) == ["4", "5", "6"], lines
+
+
+def test_tools_and_examples_are_typed():
+    # Not beside what stands in this folder: its modules, which some tools import, have no types.
+    [line] = said_of(*sorted(TOP.glob("tools/*.py")), *sorted(TOP.glob("examples/*.py")))
+    assert line.startswith("Success")

@@ -24,11 +24,17 @@ class Joined(NamedTuple):
 
 def rows_of(rows: Numbers, indptr: Numbers, indices: Numbers) -> tuple[Numbers, Numbers]:
     """The entries of some rows of a CSR matrix: for each entry the place of its row among those asked for, and its column."""
-    lengths = indptr[rows + 1] - indptr[rows]
-    of_row = np.repeat(np.arange(len(rows)), lengths)
-    # Each entry's number: where its row begins, and how many of the row's are in front of it.
-    inside = np.arange(len(of_row)) - np.repeat(np.cumsum(lengths) - lengths, lengths)
-    return of_row, indices[np.repeat(indptr[rows], lengths) + inside]
+    return np.repeat(np.arange(len(rows)), indptr[rows + 1] - indptr[rows]), columns_of(rows, indptr, indices)
+
+
+def columns_of(rows: Numbers, indptr: Numbers, indices: Numbers) -> Numbers:
+    """The columns of the entries of some rows of a CSR matrix."""
+    # Rows that follow each other there are taken together.
+    begins, ends = np.flatnonzero(np.diff(rows, prepend=-2) != 1), np.flatnonzero(np.diff(rows, append=-2) != 1)
+    firsts, lasts = indptr[rows[begins]], indptr[rows[ends] + 1]
+    starts = starts_of(lasts - firsts)
+    columns: Numbers = indices[np.arange(starts[-1]) + np.repeat(firsts - starts[:-1], lasts - firsts)]
+    return columns
 
 
 def starts_of(lengths: Numbers) -> Numbers:
@@ -63,9 +69,8 @@ def combined(chances: Chances, sets: Numbers, columns: Numbers) -> Joined:
     mechanisms = np.full(len(chances), -1, dtype=np.int64)
     mechanisms[ordered] = np.repeat(np.arange(len(begins)), np.diff(begins, append=len(ordered)))
     firsts = ordered[begins]
-    _, indices = rows_of(firsts, indptr, columns)
     joined = odd_chances(chances[ordered], begins)
-    return Joined(joined, starts_of(indptr[firsts + 1] - indptr[firsts]), indices, mechanisms)
+    return Joined(joined, starts_of(indptr[firsts + 1] - indptr[firsts]), columns_of(firsts, indptr, columns), mechanisms)
 
 
 def places_in_order(indptr: Numbers, columns: Numbers) -> Numbers:

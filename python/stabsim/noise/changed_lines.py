@@ -70,7 +70,7 @@ def quiet(written: str) -> tuple[str, ...]:
 def noisy(content: str) -> tuple[str, ...]:
     """The lines with noise that an instruction becomes. ValueError as of `quiet`."""
     line = Line(0, content, content)
-    return tuple(made_of(line, line.parts, "", no_qubit).noisy)
+    return tuple(map(content_of, made_of(line, line.parts, "", no_qubit).noisy))
 
 
 def noisy_items(lines: Sequence[str], first: int) -> tuple[Item, ...]:
@@ -78,11 +78,10 @@ def noisy_items(lines: Sequence[str], first: int) -> tuple[Item, ...]:
     found: list[Line] = []
     for number, line in enumerate(lines, start=first):
         content = content_of(line)
-        its = Line(number, content, content)
-        if its.opens or its.closes:
-            found.append(its)
-        elif its.parts:
-            found += [Line(number, made, content_of(made)) for made in noisy(content)]
+        if content.endswith(("{", "}")):
+            found.append(Line(number, content, content))
+        elif content:
+            found += [Line(number, made, made) for made in noisy(content)]
     return items_of(found)
 
 

@@ -8,7 +8,7 @@ from numpy.typing import NDArray
 
 from stabsim import checking
 from stabsim.errors import NotDecomposed
-from stabsim.formats.combining import rows_of, starts_of
+from stabsim.formats.combining import columns_of, rows_of, starts_of
 from stabsim.noise.edges import MOST_OBSERVABLES, Edges, Mechanisms, likeliest
 
 # For each mechanism the numbers of those that flip the same together: its own, if it is not taken apart.
@@ -38,14 +38,14 @@ class Parts:
     def of_mechanisms(cls, numbered: Numbered, indptr: NDArray[np.int64], indices: NDArray[np.int64]) -> "Parts":
         """Parts that are mechanisms, whose numbers are given, of a model with these."""
         parts = np.array([part for its in numbered for part in its], dtype=np.int64)
-        _, columns = rows_of(parts, indptr, indices)
+        columns = columns_of(parts, indptr, indices)
         return cls(starts_of(np.array([len(its) for its in numbered], dtype=np.int64)), starts_of(np.diff(indptr)[parts]), columns)
 
     def of(self, mechanisms: NDArray[np.int64]) -> "Parts":
         """The parts of some mechanisms."""
         counts = np.diff(self.starts)[mechanisms]
-        _, parts = rows_of(mechanisms, self.starts, np.arange(len(self.indptr) - 1))
-        _, columns = rows_of(parts, self.indptr, self.indices)
+        parts = columns_of(mechanisms, self.starts, np.arange(len(self.indptr) - 1))
+        columns = columns_of(parts, self.indptr, self.indices)
         return Parts(starts_of(counts), starts_of(np.diff(self.indptr)[parts]), columns)
 
     def __len__(self) -> int:

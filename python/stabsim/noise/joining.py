@@ -9,7 +9,7 @@ from collections.abc import Sequence
 import numpy as np
 from numpy.typing import NDArray
 
-from stabsim.formats.combining import Joined, Numbers, odd_chances, places_in_order, rows_of, starts_of
+from stabsim.formats.combining import Joined, Numbers, columns_of, odd_chances, places_in_order, rows_of, starts_of
 from stabsim.noise.marking import Source
 from stabsim.noise.sourced import Rows, by_source, rows_of_errors
 
@@ -30,7 +30,7 @@ def joined_errors(sources: Sequence[Source], table: Rows) -> Joined:
     mechanisms = np.full(len(errors), -1, dtype=np.int64)
     mechanisms[its] = group
     chances = np.repeat(np.array([source.chance for source in sources], dtype=np.float64), np.diff(firsts))
-    _, flips = rows_of(ordered, indptr, indices)
+    flips = columns_of(ordered, indptr, indices)
     begins = np.flatnonzero(np.diff(group, prepend=-1))
     return Joined(odd_chances(chances[its], begins), starts_of(np.diff(indptr)[ordered]), flips, mechanisms)
 

@@ -7,7 +7,7 @@ from typing import TYPE_CHECKING
 
 import numpy as np
 
-from stabsim.formats.combining import Numbers, odd_chances, rows_of, starts_of
+from stabsim.formats.combining import Numbers, columns_of, odd_chances, starts_of
 from stabsim.noise.causes import Causes
 from stabsim.noise.flipped import Bits
 from stabsim.noise.marking import Source
@@ -76,7 +76,7 @@ class Renewal:
         rank = np.full(count + 1, -1, dtype=np.int32)
         rank[order] = np.arange(len(order))
         indptr = np.append(model.indptr, model.indptr[-1] + self.indptr)
-        _, indices = rows_of(order, indptr, np.append(model.indices, self.indices))
+        indices = columns_of(order, indptr, np.append(model.indices, self.indices))
         return replace(model, chances=chances[order], causes=replace(causes, mechanisms=rank[mechanisms]),
                        indptr=starts_of(indptr[order + 1] - indptr[order]), indices=indices)
 
@@ -93,7 +93,7 @@ def renumbered(model: "ErrorModel", mechanisms: Numbers, columns: Numbers, detec
     kept = np.flatnonzero(is_kept)
     rank = np.full(len(model) + 1, -1, dtype=np.int64)
     rank[kept] = np.arange(len(kept))
-    _, indices = rows_of(kept, model.indptr, model.indices)
+    indices = columns_of(kept, model.indptr, model.indices)
     found = replace(model, chances=model.chances[kept], indptr=starts_of(np.diff(model.indptr)[kept]), indices=columns[indices],
                     num_detectors=detectors)
     return found, rank[mechanisms]

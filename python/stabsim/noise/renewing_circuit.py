@@ -14,7 +14,7 @@ from typing import TYPE_CHECKING
 
 import numpy as np
 
-from stabsim.formats.combining import Numbers, rows_of
+from stabsim.formats.combining import Numbers, columns_of
 from stabsim.noise.causes import Causes
 from stabsim.noise.changed_lines import (
     DECLARING, Change, Counts, counts_of, counts_of_line, cut_with, list_begin, noisy_items, observables_in, quiet_lines, reach_of,
@@ -23,7 +23,7 @@ from stabsim.noise.changed_lines import (
 from stabsim.noise.flipped import Bits, Flipped
 from stabsim.noise.marking import Marker, Source
 from stabsim.noise.renewal import Renewal, mechanisms_with, moved_by, renumbered
-from stabsim.noise.sourced import by_source, rows_of_errors
+from stabsim.noise.sourced import by_source, errors_at, rows_of_errors
 from stabsim.text.coordinates import detector_coordinates
 
 if TYPE_CHECKING:
@@ -179,7 +179,7 @@ class Renewing:
     def first_cut(self) -> int:
         """A place from which on is all that flipped a detector which errors beside the edit flipped."""
         near = self.causes.mechanisms[self.near()]
-        _, columns = rows_of(near[near >= 0].astype(np.int64), self.model.indptr, self.model.indices)
+        columns = columns_of(near[near >= 0].astype(np.int64), self.model.indptr, self.model.indices)
         is_meant = np.zeros(self.edit.detectors + self.edit.observables, dtype=np.bool_)
         is_meant[columns[columns < self.edit.detectors]] = True
         is_meant[self.edit.detectors_above : self.edit.detectors_above + self.edit.counts[0].detectors] = True
@@ -226,12 +226,11 @@ class Renewing:
 
     def errors_that_differ(self, asked: Asked, start: int, others: Bits) -> Numbers:
         """The errors between the cut and the edit that flip, or flipped, something of others, counted from the cut on."""
-        flipping = asked.new.marks_that_flip(others)
-        now = [flipping[source.all_marks()].any(axis=1) for source in asked.between]
+        now = errors_at(asked.between, asked.new.marks_that_flip(others))
         columns = self.edit.columns(np.arange(self.edit.detectors + self.edit.observables))
         before = self.flip((columns < 0) | others[columns])
         mechanisms = self.causes.mechanisms[self.firsts[start] : self.firsts[self.begin]]
-        return np.flatnonzero(np.concatenate([np.zeros(0, dtype=np.bool_), *now]) | np.append(before, False)[mechanisms])
+        return np.flatnonzero(now | np.append(before, False)[mechanisms])
 
     def renewed(self, asked: Asked, errors: Numbers, rows: tuple[Numbers, Numbers], text: str) -> "ErrorModel | None":
         """The model in which these errors and the new ones flip these rows."""

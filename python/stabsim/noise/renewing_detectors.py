@@ -3,8 +3,12 @@
 A detector is the records that it names, counted from where the edit begins. Of those that are new, the program is asked what errors flip them
 from a cut on, a place in the outermost list so far back that no region of theirs begins in front of it, as marks on all qubits there show:
 then no error further back flips them. The program reads the text from there on alone, so no lookback in it goes further back.
+
+Of a block around the edit a few rounds are asked for. If no region of the last of them begins in front of the block, and it names no record
+there, later rounds are as that one: what flips their detectors is what flips its own, as many rounds later.
 """
 
+import itertools
 from collections.abc import Sequence
 from dataclasses import dataclass, replace
 from difflib import SequenceMatcher
@@ -16,15 +20,15 @@ from numpy.typing import NDArray
 
 from stabsim.errors import Refused
 from stabsim.formats.combining import Chances, Numbers, odd, rows_of, starts_of
-from stabsim.noise.causes import Causes
+from stabsim.noise.causes import Causes, is_fed_back
 from stabsim.noise.changed_lines import (
-    DECLARING, LOOKBACK, Change, counts_of_line, cut_with, detector_numbers, is_detector, list_begin, list_end, noisy_items, quiet_lines,
-    tally,
+    ALWAYS_QUIET, LOOKBACK, Change, counts_of, counts_of_line, cut_with, detector_numbers, is_detector, list_begin, list_end, noisy_items,
+    quiet_lines, tally,
 )
 from stabsim.noise.flipped import Flipped
 from stabsim.noise.marking import Marker, Source
 from stabsim.noise.renewal import NONE, Renewal, mechanisms_with, renumbered
-from stabsim.noise.sourced import by_source, flips_of
+from stabsim.noise.sourced import by_source, errors_at, flips_of
 from stabsim.text.coordinates import detector_coordinates
 
 if TYPE_CHECKING:
@@ -32,6 +36,10 @@ if TYPE_CHECKING:
 
 # How many times as many records as the new detectors may name are made from a cut on, before all of the text is looked at.
 FURTHER = (2, 8)
+# Lines that have no part in what errors flip, beside those of the new detectors.
+QUIET = (*ALWAYS_QUIET, "QUBIT_COORDS")
+# How many rounds of a block are asked for at least.
+FEWEST_ROUNDS = 3
 
 
 @dataclass(frozen=True)
@@ -72,10 +80,38 @@ class Declared:
         """The same of the new lines."""
         return detector_numbers(self.opened, self.change.new, self.change.below)
 
-    @property
+    @cached_property
     def new_numbers(self) -> Numbers:
         """The numbers of those that are new, ascending."""
         return self.numbers[:, self.new].ravel()
+
+    @cached_property
+    def begin(self) -> int:
+        """Where the outermost block around the edit begins, or the edit itself."""
+        return list_begin(self.change.before, self.change.first)
+
+    @cached_property
+    def end(self) -> int:
+        """Where that block ends, or the edit itself."""
+        return list_end(self.change.after, self.change.first + len(self.change.new))
+
+    @property
+    def rounds(self) -> int:
+        """How many rounds that block has, 1 if there is none."""
+        return self.opened[1][0] if self.opened[1:] else 1
+
+    @property
+    def new_each_round(self) -> int:
+        """How many detectors of each of these rounds are new."""
+        return len(self.new_numbers) // self.rounds
+
+    def few_rounds(self) -> int:
+        """How many of these rounds it takes until new detectors name no record in front of the block; all, if records control gates."""
+        block = [line for line in self.change.after[self.begin + 1 : self.end - 1] if not line.lstrip().startswith(QUIET)]
+        if self.rounds <= FEWEST_ROUNDS or is_fed_back("\n".join(block)):
+            return self.rounds
+        records = counts_of(quiet_lines(block)).records
+        return min(self.rounds, max(FEWEST_ROUNDS, 1 - -self.reach // max(records, 1)))
 
     def columns(self, detectors: int, observables: int) -> tuple[Numbers, int]:
         """The number of each detector and observable after the edit, -1 of one that is no more; and how many detectors there are."""
@@ -89,7 +125,7 @@ class Declared:
 
     def coordinates(self, before: Chances, columns: Numbers, detectors: int) -> Chances:
         """The coordinates of all detectors, from those before the edit."""
-        own = detector_coordinates("\n".join([*others(self.change.above), *self.change.new, *others(self.change.below)]))
+        own = detector_coordinates("\n".join([*shifts(self.change.above), *self.change.new, *shifts(self.change.below)]))
         found = np.full((detectors, max(before.shape[1], own.shape[1])), np.nan)
         kept = np.flatnonzero(columns[: len(before)] >= 0)
         found[columns[kept], : before.shape[1]] = before[kept]
@@ -104,6 +140,11 @@ class Declared:
         line_after = dict(zip(before, after))
         by = len(self.change.new) - len(self.change.old)
         return tuple(it if it.line <= first else it._replace(line=it.line + by if it.line > last else line_after[it.line]) for it in sources)
+
+
+def shifts(lines: Sequence[str]) -> list[str]:
+    """Lines that shift coordinates, and those that begin and end blocks."""
+    return [line for line in lines if line.endswith(("{", "}")) or line.lstrip().startswith("SHIFT_COORDS")]
 
 
 def others(lines: Sequence[str]) -> list[str]:
@@ -146,41 +187,47 @@ def renewed_detectors(model: "ErrorModel", causes: Causes, change: Change, text:
 
 @dataclass(frozen=True)
 class Flips:
-    """What errors flip of the detectors that are new. errors: which errors flip any, ascending; places, columns: pairs of the place of one of
-    these and what it flips."""
+    """What errors flip of the detectors that are new: pairs of an error and what it flips."""
 
     errors: Numbers
-    places: Numbers
     columns: Numbers
 
     @classmethod
     def of(cls, edit: Declared, causes: Causes, qubits: int) -> "Flips | None":
         """Asks the program; None if it refuses one of them."""
         if not edit.new:
-            return cls(NONE, NONE, NONE)
-        begin = list_begin(edit.change.before, edit.change.first)
-        for times in FURTHER:
-            cut = cut_with(edit.change.before, begin, times * edit.reach, begin)
-            found = cls.asked(edit, causes, cut, qubits)
-            if found is not None or not cut:
+            return cls(NONE, NONE)
+        for rounds, times in itertools.product(sorted({edit.few_rounds(), edit.rounds}), FURTHER):
+            cut = cut_with(edit.change.before, edit.begin, times * edit.reach, edit.begin)
+            found = cls.asked(edit, causes, Part(cut, rounds), qubits)
+            if found is not None or not cut and rounds == edit.rounds:
                 return found
-        return cls.asked(edit, causes, 0, qubits)
+        return cls.asked(edit, causes, Part(0, edit.rounds), qubits)
 
     @classmethod
-    def asked(cls, edit: Declared, causes: Causes, cut: int, qubits: int) -> "Flips | None":
-        """The same of the text from a cut on; None if a region of theirs may begin in front of it."""
-        sources, table = table_from(edit, cut, qubits)
-        if table is None or cut and len(table.pairs(0, qubits)[0]):
+    def asked(cls, edit: Declared, causes: Causes, part: "Part", qubits: int) -> "Flips | None":
+        """The same of a part of the text; None if a region of theirs may begin in front of it, or one of its last round in front of the block."""
+        sources, block_mark, table = part.table(edit, qubits)
+        if table is None or part.cut and len(table.pairs(0, qubits)[0]):
             return None
-        start = int(np.searchsorted([source.line for source in causes.sources], cut + 1))
+        last_round = (part.rounds - 1) * edit.new_each_round
+        if part.rounds < edit.rounds and (table.pairs(block_mark, qubits)[1] >= last_round).any():
+            return None
+        start = int(np.searchsorted([source.line for source in causes.sources], part.cut + 1))
         known = causes.sources[start : start + len(sources)]
-        if [(its.letters, its.times()) for its in known] != [(its.letters, its.times()) for its in sources]:
+        if [(its.letters, its.times()) for its in known] != [(its.letters, part.times_in_all(its, edit)) for its in sources]:
             return None
-        firsts = causes.firsts[start : start + len(sources) + 1] - causes.firsts[start]
+        own = starts_of(np.array([source.times() for source in sources], dtype=np.int64))
         is_flipping = table.marks_that_flip(np.ones(table.num_detectors, dtype=np.bool_))
-        errors = np.flatnonzero(np.concatenate([NONE, *(is_flipping[source.all_marks()].any(axis=1) for source in sources)]))
-        places, columns = flips_of(by_source(sources, errors, firsts), table)
-        return cls(errors + causes.firsts[start], places, edit.new_numbers[columns])
+        errors = np.flatnonzero(errors_at(sources, is_flipping))
+        places, columns = flips_of(by_source(sources, errors, own), table)
+        number = np.searchsorted(own, errors[places], side="right") - 1
+        each = np.array([source.times() // part.rounds for source in sources], dtype=np.int64)[number]
+        found = errors[places] - own[number] + causes.firsts[start + number]
+        # What later rounds do, of the last one's.
+        last, later = np.flatnonzero(columns >= last_round), np.arange(1, edit.rounds - part.rounds + 1)[:, None]
+        found = np.concatenate([found, (found[last] + later * each[last]).ravel()])
+        return cls(found, edit.new_numbers[np.concatenate([columns, (columns[last] + later * edit.new_each_round).ravel()])])
 
     def rows(self, model: "ErrorModel", mechanisms: NDArray[np.int32], columns: Numbers, detectors: int) -> tuple[Numbers, tuple[Numbers, Numbers]]:
         """Which errors flip something else, and the rows of what they flip as a CSR matrix. model, mechanisms: from before the edit."""
@@ -190,24 +237,38 @@ class Flips:
         some = np.flatnonzero(mechanisms[errors] >= 0)
         of_row, before = rows_of(mechanisms[errors[some]].astype(np.int64), model.indptr, model.indices)
         stays = columns[before] >= 0
-        places = np.concatenate([some[of_row[stays]], np.searchsorted(errors, self.errors)[self.places]])
+        places = np.concatenate([some[of_row[stays]], np.searchsorted(errors, self.errors)])
         places, flips = odd(places, np.concatenate([columns[before[stays]], self.columns]), detectors + model.num_observables)
         return errors, (starts_of(np.bincount(places, minlength=len(errors))), flips)
 
 
-def table_from(edit: Declared, cut: int, qubits: int) -> tuple[list[Source], Flipped | None]:
-    """The errors from a cut to the end of the edit or of the blocks around it, and what marks of all qubits at the cut, and those of these
-    errors, flip of the detectors that are new; None if the program refuses that text."""
-    change = edit.change
-    end = list_end(change.after, change.first + len(change.new))
-    lines = ["" if it.lstrip().startswith(DECLARING) else it for it in change.after[cut:end]]
-    places = [change.first + at for at, line in enumerate(change.new) if is_detector(line)]
-    for place in (places[it] for it in edit.new):
-        lines[place - cut] = change.after[place]
-    marker = Marker(False)
-    sources, _ = marker.items(noisy_items(lines, cut + 1), qubits)
-    try:
-        table = Flipped.of([" ".join(["I", *map(str, range(qubits))]), *marker.lines], len(edit.new_numbers), 0)
-    except Refused:
-        return [], None
-    return sources, table
+@dataclass(frozen=True)
+class Part:
+    """A part of the text: from a cut to the end of the edit, or of the outermost block around it, which has this many rounds there."""
+
+    cut: int
+    rounds: int
+
+    def table(self, edit: Declared, qubits: int) -> tuple[list[Source], int, Flipped | None]:
+        """Its errors; the first mark of those of all qubits in front of the block; and what those marks, marks of all qubits at the cut, which
+        are the first, and those of its errors flip of the detectors that are new: None if the program refuses the text."""
+        change, begin = edit.change, edit.begin - self.cut
+        lines = ["" if it.lstrip().startswith(QUIET) else it for it in change.after[self.cut : edit.end]]
+        places = [change.first + at for at, line in enumerate(change.new) if is_detector(line)]
+        for place in (places[it] for it in edit.new):
+            lines[place - self.cut] = change.after[place]
+        if self.rounds < edit.rounds:
+            lines[begin] = f"REPEAT {self.rounds} {{"
+        marker, mark = Marker(False), " ".join(["I", *map(str, range(qubits))])
+        before, block_mark = marker.items(noisy_items(lines[:begin], self.cut + 1), qubits)
+        marker.lines.append(mark)
+        inside, _ = marker.items(noisy_items(lines[begin:], edit.begin + 1), block_mark + qubits)
+        try:
+            table = Flipped.of([mark, *marker.lines], self.rounds * edit.new_each_round, 0)
+        except Refused:
+            return [], 0, None
+        return [*before, *inside], block_mark, table
+
+    def times_in_all(self, source: Source, edit: Declared) -> int:
+        """How often an error of it is met in all rounds of the block."""
+        return source.times() // self.rounds * edit.rounds if source.line > edit.begin else source.times()

@@ -202,7 +202,7 @@ class Board:
         return str(self.save_to)
 
     def _splitting(self, place: str, number: int) -> Edit:
-        return Edit("split", place, str(number), self.session.item(place))
+        return Edit("split", place, str(number), self.session.printed_item(place))
 
     def _enter(self, name: str, edits: list[Edit], keep: bool = False, first: list[Edit] | None = None, text: Opened | None = None) -> Message:
         """Makes edits as one entry; those that are made first are of what is there, and leave each record as it is. text: whose lines are
@@ -292,7 +292,7 @@ class Board:
         made = following(self.session, edits, self.text)
         self.lost, self.split_off = made.lost, made.split_off
         for edit in made.edits:
-            yield dataclasses.replace(edit, block=self.session.item(edit.place)) if edit.kind == "split" else edit
+            yield dataclasses.replace(edit, block=self.session.printed_item(edit.place)) if edit.kind == "split" else edit
 
     def _make_room(self, edits: list[Edit]) -> None:
         """Opens the session anew on more qubits, if edits name some that it lacks. The history stays, and each bit: a coin is known by
@@ -332,7 +332,7 @@ class Board:
         elif edit.kind == "replace":
             self.session.replace(edit.place, edit.item)
         elif edit.kind == "split":
-            self.session.split(edit.place, int(edit.item))
+            self.session.split_known(edit.place, int(edit.item), edit.block)
         elif edit.kind == "open":
             assert edit.source
             self._take(session_of(edit.item, self.seed))
@@ -347,7 +347,8 @@ class Board:
         self.deterministic = self.kept = None
         self.flipped = made.changed
         # Qubits that are new have no coordinates yet.
-        before, self.qubits_told = self.qubits_told, self.session.numbers().qubits
+        now = self._now()
+        before, self.qubits_told = self.qubits_told, now["numbers"]["qubits"]
         moves_bits |= self.qubits_told != before
         if made.opens():
             # Marks are of bits, and those of another circuit are others.
@@ -355,7 +356,7 @@ class Board:
             return self.opened()
         self.marked ^= set(made.changed)
         told = {"event": "edited", "edits": [edit.message() for edit in made.forth], "entries": [entry.message() for entry in entries]}
-        return told | self._now() | (self._bits(self.text()) if moves_bits else {})
+        return told | now | (self._bits(self.text()) if moves_bits else {})
 
     def _now(self) -> Message:
         numbers = dataclasses.asdict(self.session.numbers())

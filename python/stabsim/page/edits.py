@@ -5,6 +5,7 @@ from typing import Any, Literal
 
 from stabsim.page.opening import Opened
 from stabsim.session.rounds import longest_part, parts_of_block, place_behind
+from stabsim.text.carrying import written_back
 
 Kind = Literal["insert", "replace", "delete", "split", "open"]
 # What a tab may ask for as an edit; a split and another circuit it asks for by themselves.
@@ -16,7 +17,7 @@ MOVING = ("DETECTOR", "OBSERVABLE", "COORDS", "REPEAT")
 @dataclasses.dataclass(frozen=True)
 class Edit:
     """An edit at a place, the path of an item as `edit` counts them, with the text of the item that it puts in. For a split that
-    is the number of the round, and `block` the text of the block, which tabs have. That which opens another circuit has its name as
+    is the number of the round, and `block` the text of the block, as the program prints it. That which opens another circuit has its name as
     the place, and its text as the item; `source` is that circuit."""
 
     kind: Kind
@@ -49,7 +50,7 @@ class Edit:
         if self.kind == "open":
             return ""
         if self.kind == "split":
-            return "".join(edit.lines() for edit in splitting(self.place, self.block, int(self.item)))
+            return "".join(edit.lines() for edit in splitting(self.place, written_back(self.block, comments=False), int(self.item)))
         return f"{self.kind} {self.place} {self.item}".strip() + "\n"
 
 
@@ -97,7 +98,7 @@ def undoing(edit: Edit, old: str) -> list[Edit]:
     if edit.kind == "insert":
         return [Edit("delete", edit.place)]
     if edit.kind == "split":
-        return joining(edit.place, old.strip(), int(edit.item))
+        return joining(edit.place, written_back(old, comments=False).strip(), int(edit.item))
     return [Edit("insert" if edit.kind == "delete" else "replace", edit.place, old.strip())]
 
 

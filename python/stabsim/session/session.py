@@ -224,8 +224,11 @@ class Session(PlainSession):
         """
         at = path_text(path)
         checking.whole("round_number", round_number)
-        block = self.old_item(at)
-        self.change(Change((Request(f"split {at} {round_number}\n".encode(), b""),), joining(at, block, round_number)))
+        self.split_known(at, round_number, self.old_item(at))
+
+    def split_known(self, path: str, round_number: int, block: str) -> None:
+        """`split` of a block whose text is known, as the program prints it."""
+        self.change(Change((Request(f"split {path} {round_number}\n".encode(), b""),), joining(path, block, round_number)))
 
     def insert_errors(self, errors: Iterable[CircuitError]) -> None:
         """Puts errors in, all by one edit: Paulis as gates at their steps, and wrong records as measurements that are inverted. Rounds

@@ -106,14 +106,14 @@ export class Keyboard {
   }
 
   #onTimeline({ key, shiftKey }) {
-    const { shown } = this.#page;
+    const { shown, timeline } = this.#page;
     if (ARROWS[key] && (shiftKey || ARROWS[key][1])) {
       this.#bitThere(ARROWS[key]);
       return true;
     }
     const keys = {
       ArrowLeft: () => shown.goTo(shown.moment - 1), ArrowRight: () => shown.goTo(shown.moment + 1), Home: () => shown.goTo(0), End: () => shown.goTo(momentsOf(shown.state.items) - 1),
-      PageUp: () => this.#round(-1), PageDown: () => this.#round(1),
+      PageUp: () => this.#round(-1), PageDown: () => this.#round(1), ...(timeline.range && { Delete: () => this.#page.press("delete") }),
     };
     keys[key]?.();
     return Boolean(keys[key]);

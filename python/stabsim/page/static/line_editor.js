@@ -1,9 +1,10 @@
 // @ts-check
 // What is done with the chosen lines of the text: each is one entry of the history.
 
+import { by } from "./by_id.js";
 import { itemAt, textOf } from "./circuit.js";
 import { copiedLines } from "./clipboard.js";
-import { beginOf, endOf, nameOf } from "./moments.js";
+import { beginOf, endOf, momentOf, nameOf } from "./moments.js";
 
 export class LineEditor {
   #page;
@@ -20,6 +21,17 @@ export class LineEditor {
     const { list, places } = lines;
     const [first, count] = [places[0], places.length];
     return { list, places, first, count, areApart: places.at(-1) - first >= count };
+  }
+
+  // The first and the last moment of several lines that are chosen and follow each other, in the round that is shown; else null.
+  get moments() {
+    const lines = this.#lines;
+    if (!lines || lines.count < 2 || lines.areApart) return null;
+    const { state: { items }, round } = this.#page.shown;
+    const { list, first, count } = lines;
+    const rounds = round && list.every((place, deep) => place === round.path[deep]) ? round.rounds : [];
+    const [begin, end] = [first, first + count - 1].map((place) => momentOf(items, [...list, place], rounds));
+    return [begin, end + lengthOf(itemAt(items, [...list, first + count - 1]))];
   }
 
   // The same, if they follow each other; else it is said that they don't.
@@ -109,7 +121,8 @@ export class LineEditor {
     const count = end.path.at(-1) - place + (itemAt(items, end.path)?.name === "TICK" ? 1 : 0);
     if (!count) return void this.#page.say("there are no lines", true);
     this.#choose(begin.path.slice(0, -1), place, count);
-    this.#page.text.focus();
+    // In a small window the text may not be there.
+    (by("text").checkVisibility() ? by("text") : by("timeline")).focus();
     return void this.#page.say(`ticks ${nameOf(items, first).name} to ${nameOf(items, last).name}: ${count} lines are chosen`);
   }
 
@@ -128,3 +141,7 @@ export class LineEditor {
     ];
   }
 }
+
+// By how many moments an item reaches beyond the one in which it begins.
+/** @param {import("./types.js").Item} item */
+const lengthOf = ({ items, count, once }) => (items ? count * once.bounds - (items.at(-1)?.name === "TICK" ? 1 : 0) : 0);

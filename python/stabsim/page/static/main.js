@@ -55,7 +55,9 @@ const GONE = "The server is gone: Save, Export and Link still work in this tab. 
 takeTheme(redraw);
 
 const views = {
-  text: new TextView(by("text"), { select, write, remove: () => lines.remove(), move: (by_) => lines.move(by_) }),
+  text: new TextView(by("text"), {
+    select, write, remove: () => lines.remove(), move: (by_) => lines.move(by_), drawn: () => views.timeline.takeRange(shown.state && lines.moments),
+  }),
   entry: new EntryView(by("entry"), { send: sendItem, split, leave: leaveEntry }),
   layout: new LayoutView(by("picture"), {
     choose: (qubit, isMore) => shown.choose(qubit, isMore),
@@ -251,7 +253,8 @@ async function sendItem(kind, path, item) {
   return Boolean(made);
 }
 
-const isInText = () => by("text").contains(document.activeElement);
+// Whether keys are for the chosen lines: the timeline shows them too, if they are several.
+const isInText = () => by("text").contains(document.activeElement) || (document.activeElement === by("timeline") && views.timeline.range !== null);
 
 // Takes a round out of the innermost block around a path, and chooses the path's item in it.
 async function split(path, round) {

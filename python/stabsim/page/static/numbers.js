@@ -18,7 +18,7 @@ export function sayNumbers({ numbers, placement, items, position, entries, deter
   ].join(" · ");
   sayRandom(deterministic);
   by("drawer").hidden = !placement.drawer.length;
-  by("drawer").textContent = `${count(placement.drawer.length, "qubit")} unused`;
+  by("drawer").textContent = `${placement.drawer.length} unused`;
   buttonBy("undo").disabled = position === 0;
   buttonBy("redo").disabled = position === entries.length;
 }

@@ -37,7 +37,7 @@ export class TextView {
   #row = 20;
   #frame = 0;
 
-  // `act` has select(path, item), write(kind, path, item), remove() of the chosen lines, move(by) of them, and search().
+  // `act` has select(path, item), write(kind, path, item), remove() of the chosen lines, move(by) of them, and drawn().
   constructor(place, act) {
     this.#place = place;
     this.#act = act;
@@ -233,6 +233,7 @@ export class TextView {
     else this.#place.removeAttribute("aria-activedescendant");
     if (!this.#isScrolled) this.#place.scrollTop = this.#top;
     this.#isScrolled = true;
+    this.#act.drawn();
   }
 
   // A row with what it says (text_rows.js).

@@ -1,9 +1,10 @@
 // @ts-check
 // The drawing of a timeline, as layers of elements (glyphs.js).
 //
-// A sheet says what is shown and where: {line, shown, width, height, step, first, last, aim, gap, x(moment), at(bit), rowHeight, ground},
-// with the moments in sight from `first` to `last`, the one to which something is dragged as `aim`, where a tick is dragged to as `gap`,
-// and the picture of all detectors as they are if nothing is known of them as `ground`.
+// A sheet says what is shown and where: {line, shown, width, height, step, first, last, aim, range, gap, x(moment), at(bit), rowHeight,
+// ground}, with the moments in sight from `first` to `last`, the one to which something is dragged as `aim`, the first and the last moment of
+// the chosen lines as `range`, where a tick is dragged to as `gap`, and the picture of all detectors as they are if nothing is known of them
+// as `ground`.
 
 import { WRONG } from "./fault_set.js";
 import { circle, gates, table } from "./glyphs.js";
@@ -24,12 +25,14 @@ const ERROR_SIDE = 18;
 const ERROR = 68;
 
 export function timelineOf(sheet) {
-  const { shown, width, height, aim, gap } = sheet;
-  const columnOf = (moment) => ({ path: box(sheet.x(moment) - Math.max(3, sheet.step / 2), 20.5, Math.max(6, sheet.step), height - 25) });
+  const { shown, width, height, aim, range, gap } = sheet;
+  const columnsOf = (from, to) => ({ path: box(sheet.x(from) - Math.max(3, sheet.step / 2), 20.5, Math.max(6, (to - from + 1) * sheet.step), height - 25) });
+  const columnOf = (moment) => columnsOf(moment, moment);
   const head = columnOf(shown.moment);
+  const chosen = range ? [columnsOf(...range)] : [];
   return [
     bands(sheet),
-    [{ ...head, fill: "chosen" }],
+    [...chosen, head].map((it) => ({ ...it, fill: "chosen" })),
     ticks(sheet),
     tickMarks(sheet),
     errorElements(sheet),
@@ -37,7 +40,7 @@ export function timelineOf(sheet) {
     coinThread(sheet),
     [sheet.ground],
     dots(sheet),
-    [{ ...head, stroke: "accent", width: 1.5 }],
+    [...chosen, head].map((it) => ({ ...it, stroke: "accent", width: 1.5 })),
     aim === null ? [] : [{ ...columnOf(aim), stroke: "accent", width: 2, dash: [4, 3] }],
     gap === null ? [] : [{ path: [["M", gap, 20.5], ["L", gap, height - 5]], stroke: "accent", width: 2.5 }],
     [{ path: box(0, 0, LEFT - 4, height), fill: "sheet" }],

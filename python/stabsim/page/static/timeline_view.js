@@ -40,6 +40,8 @@ export class TimelineView {
   #frame = 0;
   // The moment to which something is dragged.
   #aim = null;
+  // The first and the last moment of the lines that are chosen, or null.
+  #range = null;
   // The tick that is dragged by its mark, as {moment, from, place}: the moment that it ends, where the drag began, and where the tick
   // would go, {moment, gap, x}, or null.
   #held = null;
@@ -118,6 +120,16 @@ export class TimelineView {
 
   aim(moment) {
     this.#aim = moment;
+    this.draw();
+  }
+
+  get range() {
+    return this.#range;
+  }
+
+  takeRange(range) {
+    if (range?.join() === this.#range?.join()) return;
+    this.#range = range;
     this.draw();
   }
 
@@ -277,7 +289,7 @@ export class TimelineView {
   #sheet() {
     const [width, height] = this.#size;
     return {
-      line: this.#line, shown: this.#shown, width, height, step: this.#step, first: this.#momentAt(LEFT), last: this.#momentAt(width), aim: this.#aim, gap: this.#held?.place?.x ?? null,
+      line: this.#line, shown: this.#shown, width, height, step: this.#step, first: this.#momentAt(LEFT), last: this.#momentAt(width), aim: this.#aim, range: this.#range, gap: this.#held?.place?.x ?? null,
       x: (moment) => this.#x(moment), at: (bit) => this.at(bit), rowHeight: this.#rowHeight(),
     };
   }
