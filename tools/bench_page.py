@@ -2,7 +2,7 @@
 
 On a surface code, written out and in a block, it puts a Pauli on a qubit in the middle, at moments that lie evenly over all, and takes it
 back each time; in a block its round is split off first. A line has the milliseconds of a step of the way, by the browser's clock: the middle
-one of the edits, the best and the worst. It needs what the page's tests do: Chromium, its driver, selenium, aiohttp and pytest."""
+one of the edits, the best and the worst; the last is the processor time of the page's main thread meanwhile. It needs what the page's tests do: Chromium, its driver, selenium, aiohttp and pytest."""
 
 import contextlib
 import os
@@ -16,12 +16,21 @@ from browsing import Page, open_browser
 from program import TOP
 from stabsim import codes
 
-# Types a letter on a qubit, or takes back what was typed, and answers with the milliseconds of each of STEPS: a message is taken up after
-# the frame.
-TYPE = """
+# Chooses a qubit at a moment.
+CHOOSE = """
 const [qubit, moment, done] = arguments;
 import("/static/main.js").then(({ page }) => {
-  if (moment >= 0) { page.shown.goTo(moment); page.shown.choose(qubit); }
+  page.shown.goTo(moment);
+  page.shown.choose(qubit);
+  done();
+});
+"""
+
+# Types a letter on the chosen qubit, or takes back what was typed, and answers with the milliseconds of each of STEPS but the last: a message
+# is taken up after the frame.
+TYPE = """
+const [isBack, done] = arguments;
+import("/static/main.js").then(({ page }) => {
   requestAnimationFrame(() => setTimeout(() => {
     const { position } = page.shown.state;
     const pressed = performance.now();
@@ -36,7 +45,7 @@ import("/static/main.js").then(({ page }) => {
       port2.postMessage("");
     });
     painted.observe(document.body, { attributeFilter: ["data-shown"] });
-    if (moment < 0) document.getElementById("undo").click();
+    if (isBack) document.getElementById("undo").click();
     else document.getElementById("picture").dispatchEvent(new KeyboardEvent("keydown", { key: "x", bubbles: true }));
   }, 30));
 });
@@ -69,7 +78,7 @@ const step = (now) => {
 requestAnimationFrame(step);
 """
 
-STEPS = ("program and server", "layout", "painted", "in all")
+STEPS = ("program and server", "layout", "painted", "in all", "main thread")
 # Surface codes by distance and rounds, and how many edits and frames there are.
 SIZES = ((13, 13), (21, 100))
 EDITS = 9
@@ -85,6 +94,25 @@ def open_page(page: Any) -> float:
     return time.perf_counter() - begun
 
 
+def thread_time(driver: Any) -> float:
+    """How many milliseconds of a processor the main thread of the page has used."""
+    metrics = driver.execute_cdp_cmd("Performance.getMetrics", {})["metrics"]
+    return next(1000.0 * float(it["value"]) for it in metrics if it["name"] == "TaskDuration")
+
+
+def measure_edit(driver: Any, qubit: int, moment: int) -> list[float]:
+    """The milliseconds of STEPS of an edit, which is taken back."""
+    driver.execute_async_script(CHOOSE, qubit, moment)
+    time.sleep(1)
+    before = thread_time(driver)
+    found: list[float] = driver.execute_async_script(TYPE, False)
+    found.append(thread_time(driver) - before)
+    time.sleep(1)
+    driver.execute_async_script(TYPE, True)
+    time.sleep(1)
+    return found
+
+
 def measure_size(driver: Any, file: Path, distance: int, rounds: int, written_out: bool) -> None:
     file.write_text(codes.surface_code(distance, rounds, written_out=written_out))
     begun = time.perf_counter()
@@ -96,13 +124,8 @@ def measure_size(driver: Any, file: Path, distance: int, rounds: int, written_ou
         last = page.ask("page.moments() - 1")
         # The data qubit in the middle of the code: its coordinates are the distance, which is odd as those of all data qubits.
         qubit = stabsim.Circuit.from_file(file).qubit_coordinates().tolist().index([distance, distance])
-        times = []
-        for number in range(EDITS):
-            times.append(driver.execute_async_script(TYPE, qubit, (number + 1) * last // (EDITS + 1)))
-            time.sleep(1)
-            driver.execute_async_script(TYPE, qubit, -1)
-            time.sleep(1)
-        found = dict(zip(STEPS, zip(*times)))
+        times = [measure_edit(driver, qubit, (number + 1) * last // (EDITS + 1)) for number in range(EDITS)]
+        found: dict[str, Any] = dict(zip(STEPS, zip(*times)))
         found["a region"] = [driver.execute_async_script(REGION, f"D{number}") for number in range(distance, distance + EDITS)]
         found["a frame"] = driver.execute_async_script(FRAMES, COUNT_OF_FRAMES)
         for name, its in found.items():
@@ -114,6 +137,7 @@ def measure(file: Path) -> None:
     os.environ["PYTHONPATH"] = str(TOP / "python")
     with open_browser() as driver:
         driver.set_script_timeout(600)
+        driver.execute_cdp_cmd("Performance.enable", {"timeDomain": "threadTicks"})
         driver.execute_cdp_cmd("Emulation.setDeviceMetricsOverride", {"width": 1920, "height": 1080, "deviceScaleFactor": 1, "mobile": False})
         for distance, rounds in SIZES:
             for written_out in (True, False):
