@@ -53,7 +53,6 @@ const STRANGE = "The address lacks the token that the server printed: open that 
 const GONE = "The server is gone: Save, Export and Link still work in this tab. Start it again, and open the address that it prints.";
 
 takeTheme(redraw);
-
 const views = {
   text: new TextView(by("text"), {
     select, write, remove: () => lines.remove(), move: (by_) => lines.move(by_), drawn: () => views.timeline.takeRange(shown.state && lines.moments),
