@@ -74,6 +74,9 @@ def refuser(crate: str, told: str) -> str:
     own = labels_of(function)
     if named := re.fullmatch(r"returns.*-clause-(\w+)", goal):
         return f"{named[1]} of {function.full_name()}"
+    # Functions that call one another have one proof, whose goals begin with a function's name.
+    if named := re.fullmatch(r"(\w+)-returns.*-clause-(\w+)", goal):
+        return f"{named[2]} of {named[1]}"
     if goal.startswith("invariant"):
         return f"invariant of {function.type}"
     if re.fullmatch(r"[\w-]+-requires(?:-clause-\w+)?", goal):
