@@ -3,7 +3,7 @@ use super::failure::Failure;
 use std::time::{CpuClock, Duration};
 
 /// The processor time so far, if the system gives it. `since` reports if it does not, so that what
-/// is timed has one place fewer at which it may end early.
+/// is timed has one way fewer to end early.
 pub fn now<R: CpuClock>(rt: &R) -> Option<Duration> {
     match rt.thread_cpu_time() {
         Ok(time) => Some(time),

@@ -13,7 +13,7 @@ use std::time::{CpuClock, Duration};
 /// The best of this many tables counts, since other programs disturb the rest.
 const TABLES: u32 = 3;
 
-/// How many faults the session is asked for, at places that lie evenly between the items.
+/// How many faults the session is asked for, at sites that lie evenly between the items.
 const ASKED: usize = 100;
 
 /// How many faults a table has, and the seconds of making it.
@@ -162,7 +162,7 @@ fn letter_item(alloc: Global, qubit: usize) -> Result<Item, Failure> {
     Ok(read_item(alloc, line.as_str().as_bytes())?)
 }
 
-/// How many detectors an item flips, which is put in at a place and taken out again.
+/// How many detectors an item flips, which is put in and taken out again.
 fn ask(
     session: &mut Session<SeedCoins>,
     place: Path,
@@ -175,7 +175,7 @@ fn ask(
     Ok(flipped)
 }
 
-/// In how many places two lists of bits differ, as far as both go.
+/// At how many positions two lists of bits differ, as far as both go.
 fn differing(one: &[bool], other: &[bool]) -> usize {
     let mut count: usize = 0;
     for place in 0..one.len().min(other.len()) {

@@ -5,7 +5,7 @@ pub enum Work {
     Cx,
     /// The measurement of Z on a qubit.
     Measure,
-    /// The gate H and then the measurement of Z, which it makes free, on a qubit by itself.
+    /// The gate H and then the measurement of Z, which it makes random, on a qubit by itself.
     FreeDistinct,
 }
 

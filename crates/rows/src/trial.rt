@@ -108,7 +108,7 @@ impl<'a, 'b> Trial<'a, 'b> {
         }
     }
 
-    /// The runs over devices that fail at each place in turn.
+    /// The runs over devices that fail after each number of bytes in turn.
     fn try_failing(self) -> Result<(), Failure> {
         let whole = self.run_over(self.good())?;
         let written = whole.out.bytes().len().max(whole.err.bytes().len());
@@ -119,7 +119,7 @@ impl<'a, 'b> Trial<'a, 'b> {
         Ok(())
     }
 
-    /// The runs over devices that fail at this place, if a run over good ones ends in this way.
+    /// The runs over devices that fail after this many bytes, if a run over good ones ends in this way.
     fn try_failing_at(self, place: usize, whole: &Ended) -> Result<(), Failure> {
         let reads = self.circuit.len().saturating_add(1);
         let reads_fail = place <= reads && !whole.is_refused();

@@ -4,7 +4,7 @@ ghost use Rattle.stab_search.specs.PartNumbers.{PartNumbers, most_parts};
 ghost use Rattle.stab_args.specs.Asked.{IsPart, part_word};
 
 use itoa::Buffer;
-use stab_jobs::SearchPart;
+use stab_search::SearchPart;
 
 /// Whether a text is what is written of a number.
 fn is_written(text: &str, number: usize) -> bool

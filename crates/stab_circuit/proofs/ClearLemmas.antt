@@ -1,4 +1,4 @@
--- Deletions by way of an item that stands for nothing: it is put in place of the one to be deleted, and then deleted.
+-- Deletions by way of an item that stands for nothing: it replaces the item to be deleted, and is then deleted itself.
 use Rattle.stab_circuit.proofs.Names.{◌≡◌, refl, ap, sym, ◌∙◌, ℕ, ◌+◌, suc, max, Bool, true, false, List, [], ◌∷◌, ◌++◌, length, take, drop, set, arith, nat_lt, if◌then◌else◌, Option, Some, None, Result, Ok, Err, ◌⊎◌, inl, inr, length-take-le, remove, slice_get, Refusal, PlaceOutOfRange, NotABlock, QubitOutOfRange, LookbackTooFar, TooManySteps, TooDeep, Replace, Delete, Kind, OneItem, operation, repeat, done, before, listed, entries, depth, unroll, rounds, past_named, qubits_of, observables_of, named_qubits, named_observables, looks_too_far, most_steps, check_of, check_within, with_item, rebuilt, edited_inside, changed, edited_in, edited, taken_in, taken, list_verdict, verdict, Path, IsNothing, listed-append, depth-join, past_named-join, listed-entries, steps-append, if_ok, changed_split, got_split, rebuilds, around, old_parts, new_parts, old_inner, edited_new, edited_old, deleted, replace-retaken}
 
 -- what is known of a list by its parts stays the same if an item is deleted that adds nothing to it
@@ -100,7 +100,7 @@ alike : (x : OneItem) (bs : List ℕ) (at : Path) (xs : List OneItem) → Alike 
 alike x [] at xs = alike_if (nat_lt at.place (length xs)) (set xs at.place x) (remove xs at.place)
 alike x (b ∷ bs) at xs = alike_inside x bs at b xs (slice_get xs b) (alike x bs at)
 
--- an item that was put in place of another is deleted as the other would have been
+-- an item that replaced another is deleted as the other would have been
 
 if_true : {A : Type 0} (c : Bool) (a b : A) → c ≡ true → (if c then a else b) ≡ a
 if_true true a b e = refl

@@ -1,4 +1,4 @@
--- A detector: its records, which are read into a few places, and what it does.
+-- A detector: its records, which are read into a short array, and what it does.
 use Rattle.stab_circuit.proofs.Names.{◌≡◌, ◌<◌, ℕ, ◌+◌, true, false, List, [], ◌∷◌, length, take, set, list_all, All, Result, Ok, Err, refl, sym, ap, ◌∙◌, subst, take_more_set, All-nil, All-cons, All-append, Refusal, BadArguments, ◌>>=◌, Shape, each, words, arguments_of, kind_of, is_coordinate, after_coordinates, is_blank, IsLookback, lookback_of, BeginsWithTarget}
 use Rattle.stab_instructions.specs.declared.name.Instruction.TheVariants as instruction
 use Rattle.stab_instructions.specs.declared.operation.Kind.TheVariants as kind

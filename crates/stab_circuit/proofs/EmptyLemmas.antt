@@ -1,16 +1,16 @@
 -- The contents that are blank lines: the empty ones.
-use Rattle.stab_circuit.proofs.Names.{◌≡◌, refl, sym, ◌∙◌, ℕ, ◌==◌, List, [], ◌∷◌, Bool, true, false, length, Option, None, Some, Result, Ok, Err, arith, if◌then◌else◌, nat_tests, Refusal, BadBlock, Kind, Line, Blank, Close, Open, Name, ◌>>=◌, Shape, shape_of, name_of, count_of, meaning_of, is_close, shape_meaning, named_line, block_of, kind_of, targets_alone, opened, only_count}
+use Rattle.stab_circuit.proofs.Names.{◌≡◌, refl, sym, ◌∙◌, ℕ, ◌==◌, List, [], ◌∷◌, Bool, true, false, length, Option, None, Some, Result, Ok, Err, arith, if◌then◌else◌, nat_tests, Refusal, BadBlock, Kind, Line, Blank, Close, Open, Name, ◌>>=◌, Shape, shape_of, name_of, count_of, meaning_of, is_close, shape_meaning, named_line, block_of, kind_of, targets_alone, opening_of, only_count}
 use Rattle.stab_instructions.specs.declared.operation.Line.TheVariants as line
 use Rattle.stab_instructions.specs.declared.name.Name.TheVariants as name
 use Rattle.stab_instructions.proofs.BoolLemmas.{chosen, passed}
 
 -- a name and what follows it are never a blank line
-opens_blank : (s : Shape) (o : Option ℕ) (b : Bool) → s.opens ≡ b → opened s o ≡ Ok Blank → ⊥
+opens_blank : (s : Shape) (o : Option ℕ) (b : Bool) → s.opens ≡ b → opening_of s o ≡ Ok Blank → ⊥
 opens_blank s None b h e = cc
 opens_blank s (Some n) true h e = let f : Ok (Open n s.tag) ≡ Ok Blank = sym (chosen s.opens (Ok (Open n s.tag)) (Err BadBlock) h) ∙ e in cc
 opens_blank s (Some n) false h e = let f : Err BadBlock ≡ Ok Blank = sym (passed s.opens (Ok (Open n s.tag)) (Err BadBlock) h) ∙ e in cc
 
-block_blank : (s : Shape) (r : Result (List (Option ℕ)) Refusal) → (r >>= λ counts. opened s (only_count counts)) ≡ Ok Blank → ⊥
+block_blank : (s : Shape) (r : Result (List (Option ℕ)) Refusal) → (r >>= λ counts. opening_of s (only_count counts)) ≡ Ok Blank → ⊥
 block_blank s (Ok counts) e = opens_blank s (only_count counts) s.opens refl e
 block_blank s (Err x) e = cc
 

@@ -6,7 +6,7 @@ use Rattle.stab_instructions.proofs.FreeLemmas.{Each, Free, drop_none, each_weak
 use Rattle.stab_instructions.proofs.SureLemmas.{IsFactor, IsProduct}
 use Rattle.stab_circuit.proofs.AgainLemmas.{IsWord, decimal_digits, decimal_number, qubit_again, digit_no, spacing_no, each_again, words_again}
 
--- a factor: its mark, its letter and its digits
+-- a factor: its !, if it has one, its letter and its digits
 abbrev marked_text : Bool → Axis → List ℕ → List ℕ
 marked_text b a ds = mark_text b ++ (axis_text a ++ ds)
 

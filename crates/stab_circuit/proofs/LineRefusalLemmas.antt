@@ -1,5 +1,5 @@
 -- Which refusals a line can have.
-use Rattle.stab_circuit.proofs.Names.{◌≡◌, refl, ℕ, ◌==◌, List, [], ◌∷◌, Bool, true, false, length, drop, Option, None, Some, Result, Ok, Err, if◌then◌else◌, Refusal, Gate, Axis, Control, Factor, Measurement, Instruction, Name, Blank, Close, ◌>>=◌, each, slice_split, Shape, is_byte, starts_with_byte, bracketed, after_tag, shaped, shape_of, words, arguments_of, first_named, instruction_named, name_of, gate_named, controlled_named, measurement_named, other_named, first_axis, unmarked, factor_on, factor_of, on_different, product_of, control_of, by_turns, pair_of, paired, controlled_of, qubit_of, measure_target_of, lookback_of, count_of, pairs_of, coordinate_of, one_argument, number_of, observable_of, targets_alone, coordinates_of, kind_of, observable_include_of, only_count, opened, block_of, named_line, shape_meaning, is_close, meaning_of, is_of_line}
+use Rattle.stab_circuit.proofs.Names.{◌≡◌, refl, ℕ, ◌==◌, List, [], ◌∷◌, Bool, true, false, length, drop, Option, None, Some, Result, Ok, Err, if◌then◌else◌, Refusal, Gate, Axis, Control, Factor, Measurement, Instruction, Name, Blank, Close, ◌>>=◌, each, slice_split, Shape, is_byte, starts_with_byte, bracketed, after_tag, shaped, shape_of, words, arguments_of, first_named, instruction_named, name_of, gate_named, controlled_named, measurement_named, other_named, first_axis, unmarked, factor_on, factor_of, on_different, product_of, control_of, by_turns, pair_of, paired, controlled_of, qubit_of, measure_target_of, lookback_of, count_of, pairs_of, coordinate_of, one_argument, number_of, observable_of, targets_alone, coordinates_of, kind_of, observable_include_of, only_count, opening_of, block_of, named_line, shape_meaning, is_close, meaning_of, is_of_line}
 use Rattle.stab_instructions.specs.declared.control.Control.TheVariants as control
 use Rattle.stab_instructions.specs.declared.name.Instruction.TheVariants as instruction
 use Rattle.stab_instructions.specs.declared.name.Name.TheVariants as name
@@ -147,7 +147,7 @@ kind_line instruction.Tick s = if_line _ (if_line _ (good _) (bad _ refl)) (bad 
 kind_line instruction.QubitCoords s = bind_line _ _ (coordinates_line s) (λ coordinates. bind_line _ _ (each_line qubit_of qubit_line (words s.targets)) (λ qubits. good _))
 kind_line instruction.ShiftCoords s = bind_line _ _ (coordinates_line s) (λ coordinates. if_line _ (good _) (bad _ refl))
 
-opened_line : (s : Shape) (o : Option ℕ) → IsOfLine (opened s o)
+opened_line : (s : Shape) (o : Option ℕ) → IsOfLine (opening_of s o)
 opened_line s (Some n) = if_line _ (good _) (bad _ refl)
 opened_line s None = bad _ refl
 

@@ -1,5 +1,5 @@
 -- Printed contents mean what they were printed of.
-use Rattle.stab_circuit.proofs.Names.{◌≡◌, ◌<◌, ◌^◌, refl, ap, sym, ◌∙◌, ℕ, ◌==◌, ◌&&◌, List, [], ◌∷◌, ◌++◌, Bool, true, false, length, filter, append_assoc, arith, codes, if◌then◌else◌, Ok, decimal, slice_split-cons_yes, nat_tests, Gate, most_observables, Axis, Instruction, Kind, Operation, Open, Close, ◌>>=◌, each, Shape, is_spacing, is_digit, is_letter, is_brace, shape_of, words, is_some_word, is_number, arguments_of, gate_named, controlled_named, measurement_named, other_named, instruction_named, name_of, gate_name, controlled_name, measurement_name, reset_name, pair_qubits, qubit_of, lookback_of, count_of, pairs_of, coordinate_of, number_of, observable_of, kind_of, observable_include_of, without_open, only_count, opened, block_of, named_line, shape_meaning, is_close, meaning_of, kind_name, tag_text, kind_arguments, lookback_text, spaced, targets_text, head_text, operation_text, open_text}
+use Rattle.stab_circuit.proofs.Names.{◌≡◌, ◌<◌, ◌^◌, refl, ap, sym, ◌∙◌, ℕ, ◌==◌, ◌&&◌, List, [], ◌∷◌, ◌++◌, Bool, true, false, length, filter, append_assoc, arith, codes, if◌then◌else◌, Ok, decimal, slice_split-cons_yes, nat_tests, Gate, most_observables, Axis, Instruction, Kind, Operation, Open, Close, ◌>>=◌, each, Shape, is_spacing, is_digit, is_letter, is_brace, shape_of, words, is_some_word, is_number, arguments_of, gate_named, controlled_named, measurement_named, other_named, instruction_named, name_of, gate_name, controlled_name, measurement_name, reset_name, pair_qubits, qubit_of, lookback_of, count_of, pairs_of, coordinate_of, number_of, observable_of, kind_of, observable_include_of, without_open, only_count, opening_of, block_of, named_line, shape_meaning, is_close, meaning_of, kind_name, tag_text, kind_arguments, lookback_text, spaced, targets_text, head_text, operation_text, open_text}
 use Rattle.stab_gates.specs.declared.gate.Gate.TheVariants as one
 use Rattle.stab_instructions.specs.declared.axis.Axis.TheVariants as axis
 use Rattle.stab_instructions.specs.declared.name.Instruction.TheVariants as instruction
@@ -188,8 +188,8 @@ open_again n tag c t =
     ∙ ap (λ l. shape_of (head_text (codes "REPEAT") tag ++ l) >>= shape_meaning) flat
     ∙ ap (λ r. r >>= shape_meaning) (open_shape_again (codes "REPEAT") tag front repeat_is (tag_free tag t).2 refl free)
     ∙ ap (λ r. r >>= named_line s) repeat_again
-    ∙ ap (λ ws. each count_of ws >>= λ counts. opened s (only_count counts)) (count_word n wide)
-    ∙ ap (λ r. (r >>= λ first. Ok (first ∷ [])) >>= λ counts. opened s (only_count counts)) (count_again n c)
+    ∙ ap (λ ws. each count_of ws >>= λ counts. opening_of s (only_count counts)) (count_word n wide)
+    ∙ ap (λ r. (r >>= λ first. Ok (first ∷ [])) >>= λ counts. opening_of s (only_count counts)) (count_again n c)
 
 pub close_again : meaning_of (codes "}") ≡ Ok Close
 unfolding meaning_of

@@ -22,7 +22,7 @@ parts_meant round count tag body lt g =
     each-append IsMeant (rounds_as_block round tag body) (repeat 1 tag body ∷ rounds_as_block (count - (round + 1)) tag body)
     (rounds_meant round count tag body (omega (arith, lt)) g) (one, rounds_meant (count - (round + 1)) count tag body (omega arith) g)
 
--- the parts in the place of an item
+-- the parts that replace an item
 there_meant : (round place : ℕ) (xs ys : List OneItem) (o : Option OneItem) → slice_get xs place ≡ o → with_parts place xs (parts_of_item round o) ≡ Ok ys → Each IsMeant xs → Each IsMeant ys
 there_meant round place xs ys None found e g = absurd (cc)
 there_meant round place xs ys (Some (operation op)) found e g = absurd (cc)

@@ -36,7 +36,7 @@ fn long_records(
     Ok(DetectorTargets::long(alloc, coordinates, records)?)
 }
 
-/// The same in place, if the coordinates and the records are few and a look at the words' bytes
+/// The same without memory of its own, if coordinates and records are few and a look at the words' bytes
 /// is enough to see it.
 fn short_records(written: &[u8], words_text: &[u8]) -> Option<DetectorTargets>
     ensures in_front { IfSome result (λ d. d.0 ≡ arguments_of written.now) }

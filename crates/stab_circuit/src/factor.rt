@@ -12,7 +12,7 @@ use stab_instructions::{Axis, Factor, Product, Qubit, Sequence, first_piece};
 use stab_io::Refusal;
 use std::alloc::Global;
 
-/// The word without the mark `!` in front.
+/// The word without the `!` in front.
 fn unmarked(word: &[u8]) -> &[u8]
     ensures value { result.now ≡ unmarked_of word.now }
 {

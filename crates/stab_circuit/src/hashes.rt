@@ -64,7 +64,7 @@ pub(crate) fn stretch_hash(text: &[u8]) -> Hash {
     }
 }
 
-/// The eight bytes from a place on, as one number.
+/// The eight bytes from a position on, as one number.
 #[inline(always)]
 fn word_at(bytes: &[u8], place: usize) -> u64
     requires inside { place + 8 ≤ length bytes.now }

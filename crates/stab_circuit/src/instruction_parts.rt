@@ -51,7 +51,7 @@ pub(crate) fn parts_of<'a>(content: Part<'a>) -> Result<InstructionParts<'a>, Fi
     })
 }
 
-/// What is in the place of a name.
+/// What is where a name should be.
 fn no_name<'a>(content: Part<'a>) -> Finding<'a> {
     let sentences = match content.bytes().first() {
         Some(_) if is_close(content.bytes()) => sentences::NO_BLOCK_OPEN,

@@ -21,7 +21,7 @@
 //! - `whole_text`: the items of a text, by its stretches and lines.
 //! - `reading`: circuits and items of texts, and the text of a circuit.
 //! - `laws`: what holds between all texts and all items.
-//! - `part`: parts of a line, by their places in it.
+//! - `part`: parts of a line, by their positions in it.
 //! - `sentences`: what is wrong and what to do, for each kind of word.
 //! - `instruction_parts`: a line cut into its name, arguments and targets, or what has no line's shape in it.
 //! - `unread_names`: what is wrong with a name, with the names that Stim reads and stabsim doesn't.

@@ -1,9 +1,9 @@
-//! Parts of a line, by their places in it.
+//! Parts of a line, by their positions in it.
 use crate::line::content;
 use stab_instructions::without_spacing_in_front;
 use std::alloc::{AllocError, Global};
 
-/// A part of a line: the places of its first byte and of the one after its last.
+/// A part of a line: the positions of its first byte and of the one after its last.
 #[derive(Clone, Copy)]
 pub(crate) struct Part<'a> {
     pub(crate) line: &'a [u8],

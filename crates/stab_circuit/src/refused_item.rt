@@ -26,7 +26,7 @@ pub(crate) struct RefusedItem {
     pub(crate) steps_of_text: u64,
 }
 
-/// An item's place in the innermost block around it, and how many steps and records are before it.
+/// An item's position in the innermost block around it, and how many steps and records are before it.
 #[derive(Clone, Copy)]
 struct Before {
     place: u64,
@@ -149,7 +149,7 @@ impl ItemSearch {
         Ok(())
     }
 
-    /// Notes the item at the place, unless an earlier one was found.
+    /// Notes the item at the position, unless an earlier one was found.
     fn note(&mut self, line: u64) -> Result<(), AllocError> {
         if self.found.is_some() {
             return Ok(());

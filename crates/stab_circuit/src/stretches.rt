@@ -5,15 +5,15 @@ use crate::hashes::{STRETCH_SLOTS, stretch_hash};
 use stab_items::Item;
 use std::alloc::{AllocError, Global};
 
-/// After this many lines at which no stretch was found except by its place, none is looked for by its first
+/// After this many lines at which no stretch was found except by its position, none is looked for by its first
 /// bytes.
 const PATIENCE: u32 = 65_536;
 
-/// Stretches of this few lines are found by their place alone, since each is remembered again.
+/// Stretches of this few lines are found by their position alone, since each is remembered again.
 const FEW: u64 = 64;
 
-/// Lines that were read, one after the other, how many they are, and the place of their first item in the
-/// outermost list and the place after the last.
+/// Lines that were read, one after the other, how many they are, and the position of their first item in the
+/// outermost list and the position after the last.
 #[derive(Clone, Copy)]
 pub(crate) struct Stretch<'a> {
     pub(crate) bytes: &'a [u8],
@@ -180,7 +180,7 @@ impl<'a> Stretches<'a> {
     }
 
     /// Remembers the run that ends before this line, with which the rest begins, and whose items are those
-    /// from a place on.
+    /// from a position on.
     #[tactic(auto, using(crate::proofs::StretchLemmas::one_more))]
     pub(crate) fn end_run(
         &mut self,

@@ -7,13 +7,14 @@ ghost use Rattle.stab_script.specs.ScriptTurns.{EditsInTurn};
 ghost use Rattle.stab_cli.specs.Jobs.{CommandInTurn, CommandReports, CommandWarns, EndsCommand, EndsJob, JobInTurn, JobReports, reads_script, refusing_none};
 
 use stab_commands::{
-    Progress, Unwatched, run_check, run_coins, run_detect_shots, run_deterministic, run_explain,
-    run_faults, run_question, run_sample_shots, run_stabilisers,
+    run_check, run_coins, run_detect_shots, run_deterministic, run_explain, run_faults,
+    run_question, run_sample_shots, run_stabilisers,
 };
 use stab_io::{Fault, Input, Output};
 use stab_jobs::{Command, Job, QubitCount, Source, Stride};
 use stab_report::{FaultsRefused, write_refused};
 use stab_script::{NoWatcher, Watcher, run_edit_watched, run_propagate, run_propagate_each};
+use stab_search::{Progress, Unwatched};
 use std::alloc::Global;
 
 /// How many qubits, if a number is asked for.

@@ -5,10 +5,10 @@ use Rattle.stab_commands.proofs.CountLaws.{numbers_of_runs}
 
 -- where coins decide
 
--- the step at a place is the one that takes the coin there
-pub step_of_place : (n : ℕ) (items : Items) (r : CoinRuns) (k : ℕ) → AreCoinRuns n items r → k < length r.numbers.items
+-- the step at a position is the one that takes the coin there
+pub step_of_position : (n : ℕ) (items : Items) (r : CoinRuns) (k : ℕ) → AreCoinRuns n items r → k < length r.numbers.items
     → get_or r.steps.items k 0 ≡ step_of_coin (unroll items) (get_or r.numbers.items k 0)
-step_of_place n items r k are within =
+step_of_position n items r k are within =
     ap (λ l. get_or l k 0) are.steps
     ∙ get_or-map (step_of_coin (unroll items)) (free_coins n items) k 0 0 (subst (λ l. k < length l) are.numbers within)
     ∙ ap (λ l. step_of_coin (unroll items) (get_or l k 0)) (sym are.numbers)
@@ -65,9 +65,9 @@ module _ {W : Type 0} (at : W → ℕ → Bool) (l n : ℕ) (items : Items) (t :
 pub part_flips : {W : Type 0} (at : W → ℕ → Bool) (items : Items) (words : List W) (first sent some lanes : ℕ) → sent % 64 ≡ 0 → sent + some ≤ lanes
     → HaveFlips at items first lanes words → HaveFlips (λ w k. at w (64 * (sent / 64) + k)) items (first + sent) some words
 part_flips at items words first sent some lanes whole within have k less =
-    let place : 64 * (sent / 64) + k ≡ sent + k = omega (arith, whole) in
+    let position : 64 * (sent / 64) + k ≡ sent + k = omega (arith, whole) in
     let regroup : first + (sent + k) ≡ first + sent + k = omega arith in
-    ap (λ l. lane_bits at l words) place ∙ have (sent + k) (omega (arith, less, within)) ∙ ap (flips_at items) regroup
+    ap (λ l. lane_bits at l words) position ∙ have (sent + k) (omega (arith, less, within)) ∙ ap (flips_at items) regroup
 
 -- this many from scratch
 pub from_none : (k : ℕ) → k ≡ 0 + k
@@ -82,7 +82,7 @@ texts_front text_of (suc n) =
     ap₂ (λ a b. a ++ b) (texts_front text_of n) (ap text_of {x = 0 + suc n} {y = suc (0 + n)} (omega arith))
     ∙ append_assoc (text_of 0) (texts_from (λ k. text_of (suc k)) 0 n) (text_of (suc (0 + n)))
 
--- the texts of a list's elements, by their places
+-- the texts of a list's elements, by their positions
 texts_of_list : (text : ℕ → List ℕ) (xs : List ℕ) → flat_map text xs ≡ texts_from (λ k. text (get_or xs k 0)) 0 (length xs)
 texts_of_list text [] = refl
 texts_of_list text (x ∷ xs) = ap (λ l. text x ++ l) (texts_of_list text xs) ∙ sym (texts_front (λ k. text (get_or (x ∷ xs) k 0)) (length xs))
@@ -91,7 +91,7 @@ flat-mapped : {A : Type 0} (f : A → List ℕ) (h : ℕ → A) (xs : List ℕ) 
 flat-mapped f h [] = refl
 flat-mapped f h (x ∷ xs) = ap (λ l. f (h x) ++ l) (flat-mapped f h xs)
 
--- what is written of a table, by the places of its coins
+-- what is written of a table, by the positions of its coins
 pub table_texts : (layout : FaultLayout) (items : Items) (r : CoinRuns) → AreCoinRuns (qubits_of items) items r
     → texts_from (text_at layout items) 0 (length r.numbers.items) ≡ coins_text layout items (table_of (qubits_of items) items)
 table_texts layout items r are =

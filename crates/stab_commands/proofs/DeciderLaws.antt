@@ -10,14 +10,14 @@ module _ {W : Type 0} (at : W → ℕ → Bool) (word : W) (first : ℕ) where
   ones-none = ap (numbers_where (λ k. at word (k - first)) first) {x = first - first} {y = 0} (omega arith)
 
   -- one lane more
-  pub ones-next : (place : ℕ) (b : Bool) → first ≤ place → at word (place - first) ≡ b → ones_of at word first (place + 1) ≡ ones_of at word first place ++ (if b then place ∷ [] else [])
-  ones-next place b above is =
+  pub ones-next : (position : ℕ) (b : Bool) → first ≤ position → at word (position - first) ≡ b → ones_of at word first (position + 1) ≡ ones_of at word first position ++ (if b then position ∷ [] else [])
+  ones-next position b above is =
       let f : ℕ → Bool = λ k. at word (k - first) in
-      let same : first + (place - first) ≡ place = omega (arith, above) in
-      ap (numbers_where f first) {x = place + 1 - first} {y = suc (place - first)} (omega (arith, above))
-      ∙ where-next f first (place - first)
-      ∙ ap (λ k. numbers_where f first (place - first) ++ (if f k then k ∷ [] else [])) same
-      ∙ ap (λ c. numbers_where f first (place - first) ++ (if c then place ∷ [] else [])) is
+      let same : first + (position - first) ≡ position = omega (arith, above) in
+      ap (numbers_where f first) {x = position + 1 - first} {y = suc (position - first)} (omega (arith, above))
+      ∙ where-next f first (position - first)
+      ∙ ap (λ k. numbers_where f first (position - first) ++ (if f k then k ∷ [] else [])) same
+      ∙ ap (λ c. numbers_where f first (position - first) ++ (if c then position ∷ [] else [])) is
 
 -- the lanes of a part that is 0
 pub ones-blank : (first end : ℕ) → ones_of word_bit 0 first end ≡ []
@@ -53,7 +53,7 @@ numbers_more f first end within =
     ∙ sym (where-join f 0 first (end - first))
     ∙ ap (numbers_where f 0) {x = first + (end - first)} {y = end} (omega (arith, within))
 
--- the lanes of the word at a place
+-- the lanes of the word at a position
 pub ones_here : {W : Type 0} (at : W → ℕ → Bool) (words : List W) (word : W) (i first end : ℕ) → i < length words → word ≡ get_or words i word → ones_of at word first end ≡ ones_at at words i first end
 ones_here at words word i first end less is =
     where-same (λ k. at word (k - first)) (λ k. get_or (lane_bits at (k - first) words) i false) first (end - first)
@@ -79,12 +79,12 @@ lanes_are {W} at lanes items first n lists words e are flips l few within =
     ap (lane_bits at l) are ∙ lanes_checked at l lists.detectors.items lists.observables.items (flips_of (qubits_of items) items zero_coins (coin_at items (first + l))) bits.detectors bits.observables
 
 -- one list more is written
-pub lists-more : {W : Type 0} (at : W → ℕ → Bool) (words : List W) (first end place : ℕ) (old lists : List (Vec ℕ)) (new : Vec ℕ) → place < length lists
-    → ((i : ℕ) → i < place → listed lists i ≡ listed old i ++ ones_at at words i first end) → new.items ≡ listed old place ++ ones_at at words place first end
-    → (i : ℕ) → i < place + 1 → listed (set lists place new) i ≡ listed old i ++ ones_at at words i first end
-lists-more at words first end place old lists new within before here i less = by_place (cases_eq i place)
+pub lists-more : {W : Type 0} (at : W → ℕ → Bool) (words : List W) (first end position : ℕ) (old lists : List (Vec ℕ)) (new : Vec ℕ) → position < length lists
+    → ((i : ℕ) → i < position → listed lists i ≡ listed old i ++ ones_at at words i first end) → new.items ≡ listed old position ++ ones_at at words position first end
+    → (i : ℕ) → i < position + 1 → listed (set lists position new) i ≡ listed old i ++ ones_at at words i first end
+lists-more at words first end position old lists new within before here i less = by_position (cases_eq i position)
   where
-    by_place : (i ≡ place) ⊎ (i ≡ place → ⊥) → listed (set lists place new) i ≡ listed old i ++ ones_at at words i first end
-    by_place (inl same) =
-        ap (listed (set lists place new)) same ∙ listed-set_here lists place new within ∙ here ∙ ap (λ k. listed old k ++ ones_at at words k first end) (sym same)
-    by_place (inr other) = listed-set_other lists place i new other ∙ before i (omega (arith, less, other))
+    by_position : (i ≡ position) ⊎ (i ≡ position → ⊥) → listed (set lists position new) i ≡ listed old i ++ ones_at at words i first end
+    by_position (inl same) =
+        ap (listed (set lists position new)) same ∙ listed-set_here lists position new within ∙ here ∙ ap (λ k. listed old k ++ ones_at at words k first end) (sym same)
+    by_position (inr other) = listed-set_other lists position i new other ∙ before i (omega (arith, less, other))

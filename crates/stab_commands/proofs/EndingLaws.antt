@@ -48,7 +48,7 @@ pub errors_heard : {T : Type 0} (options : DistanceOptions) (i i' : InputView) (
     → GaveCircuit i i' items → HearsErrors options items old new → r ≡ Err x → ReportsErrors options i i' old new (fault_of r)
 errors_heard options i i' old new items r x gave heard is = subst (λ s. ReportsErrors options i i' old new (fault_of s)) (sym is) (inr (items, gave, heard))
 
--- what was heard before the first search, or in place of one: how many errors there are
+-- what was heard before the first search, or instead of one: how many errors there are
 pub heard_over : (options : DistanceOptions) (items : Items) (t : ErrorTableState) (old new : Option (List Heard)) (count : ℕ) → AreErrorsOf options items t → count ≡ length t.errors
     → Hears old new (begins count ∷ []) → HearsErrors options items old new
 heard_over options items t old new count are is hears = inr (t, are, subst (λ n. Hears old new (begins n ∷ [])) is hears)

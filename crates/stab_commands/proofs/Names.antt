@@ -29,7 +29,7 @@ pub use Rattle.stab_io.specs.declared.refusal.Refusal.TheVariants.{OutOfMemory, 
 pub use Rattle.stab_pauli.specs.Paulis.{Signed, single}
 pub use Rattle.stab_pauli.specs.Texts.{pauli_text, letters_text}
 pub use Rattle.stab_recording.specs.declared.whole_run.Shot.{Shot}
-pub use Rattle.stab_results.specs.Formats.{f01_bytes, digit, shot_bytes, entry, one_places, detectors_of as kinds_detectors, one_places_from}
+pub use Rattle.stab_results.specs.Formats.{f01_bytes, digit, shot_bytes, entry, one_places, detectors_of as kinds_detectors, one_positions_from}
 pub use Rattle.stab_results.specs.declared.format.Format.{Format}
 pub use Rattle.stab_results.specs.declared.format.Format.TheVariants.{F01, B8}
 pub use Rattle.stab_results.specs.declared.format.Kinds.{Kinds}
@@ -88,7 +88,7 @@ pub use Rattle.stab_tableau.proofs.OneLetterLemmas.{length-one_letter}
 pub use Rattle.stab_tableau.specs.Conjugations.{IsConjugated}
 pub use Rattle.stab_tableau.specs.Traces.{member}
 pub use lib.Seq.{take-nil, get_or-drop}
-pub use Rattle.stab_report.specs.Coins.{ShotBits, flips_of, coin_flipped, bits_of, inverted, CoinsHaveRows, CoinRow, row_by, table_of, with_rows, IsCoinTable}
+pub use Rattle.stab_report.specs.Coins.{ShotBits, flips_of, coin_flipped, shot_bits_of, inverted, CoinsHaveRows, CoinRow, row_by, table_of, with_rows, IsCoinTable}
 pub use Rattle.stab_report.specs.Places.{step_of_coin, steps_before_coin, path_at, bit_of, path_of_bit, steps_before_bit}
 pub use Rattle.stab_commands.specs.CoinRuns.{AreCoinRuns, free_coins, AreBits}
 pub use Rattle.stab_commands.specs.declared.coin_runs.CoinRuns.{CoinRuns}
@@ -131,7 +131,7 @@ pub use Rattle.stab_commands.specs.declared.distance.Distance.{Distance}
 pub use Rattle.stab_report.specs.declared.random.Bit.{Bit}
 pub use Rattle.stab_report.specs.declared.random.FaultsRefused.{FaultsRefused}
 pub use Rattle.stab_report.specs.declared.random.Random.{Random}
-pub use Rattle.stab_commands.specs.inner.CoinRows.{HaveFlips, flips_at, text_at, coin_at, decides, places_in}
+pub use Rattle.stab_commands.specs.inner.CoinRows.{HaveFlips, flips_at, text_at, coin_at, decides, positions_in}
 pub use Rattle.stab_commands.specs.inner.Deciders.{ones_at, ones_of}
 pub use Rattle.stab_commands.specs.inner.Faults.{SendsAtOnce}
 pub use Rattle.stab_commands.specs.inner.Groups.{coins_together}

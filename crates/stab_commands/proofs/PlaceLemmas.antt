@@ -1,39 +1,39 @@
--- Places of coins: those that flags show, one after another, and the steps that take them.
-use Rattle.stab_commands.proofs.Names.{◌≡◌, ℕ, zero, suc, ◌+◌, ◌-◌, ◌<◌, ◌≤◌, ◌==◌, refl, sym, ◌∙◌, ap, ap₂, subst, Bool, true, false, ◌&&◌, nat_lt, List, [], ◌∷◌, ◌++◌, append-nil, append_assoc, length, take, drop, map, get_or, inl, inr, arith, if◌then◌else◌, All, ◌⊎◌, nat_tests, length-map, map-append, length-drop, length-take, take_all, take-nil, get_or-drop, All-nil, All-cons, All-head, All-tail, All-map, Items, Step, one, detector, measured, controlled_step, unroll, observables_of, Steps, Gates, Pairs, Measurements, Detectors, Single, step_shown, steps_shown, lookbacks_of, Axis, ControlledPair, State, start, run_of, origin, coins_of, all_coins_of, run-state, coins-one, one_places_from, one_places, parity-false, AreAscending, unit_coin, run-items, coin_flipped, zero_coins, steps_before_coin, step_of_coin, coins_together}
+-- Positions of coins: those that flags show, one after another, and the steps that take them.
+use Rattle.stab_commands.proofs.Names.{◌≡◌, ℕ, zero, suc, ◌+◌, ◌-◌, ◌<◌, ◌≤◌, ◌==◌, refl, sym, ◌∙◌, ap, ap₂, subst, Bool, true, false, ◌&&◌, nat_lt, List, [], ◌∷◌, ◌++◌, append-nil, append_assoc, length, take, drop, map, get_or, inl, inr, arith, if◌then◌else◌, All, ◌⊎◌, nat_tests, length-map, map-append, length-drop, length-take, take_all, take-nil, get_or-drop, All-nil, All-cons, All-head, All-tail, All-map, Items, Step, one, detector, measured, controlled_step, unroll, observables_of, Steps, Gates, Pairs, Measurements, Detectors, Single, step_shown, steps_shown, lookbacks_of, Axis, ControlledPair, State, start, run_of, origin, coins_of, all_coins_of, run-state, coins-one, one_positions_from, one_places, parity-false, AreAscending, unit_coin, run-items, coin_flipped, zero_coins, steps_before_coin, step_of_coin, coins_together}
 use Rattle.stab_instructions.specs.declared.control.ControlledPair.TheVariants as pair
 use Rattle.stab_recording.proofs.RestPropagatedLemmas.{flags-counted}
 
--- the places of 1 bits
+-- the positions of 1 bits
 
-pub places-next : (place : ℕ) (bits : List Bool) (k : ℕ)
-    → one_places_from place (take (suc k) bits) ≡ one_places_from place (take k bits) ++ (if get_or bits k false then (place + k) ∷ [] else [])
-places-next place [] zero = refl
-places-next place [] (suc k) = refl
-places-next place (false ∷ bits) zero = refl
-places-next place (true ∷ bits) zero = ap (λ m. m ∷ []) (omega arith)
-places-next place (false ∷ bits) (suc k) =
-    places-next (place + 1) bits k
-    ∙ ap (λ m. one_places_from (place + 1) (take k bits) ++ (if get_or bits k false then m ∷ [] else [])) {x = place + 1 + k} {y = place + suc k} (omega arith)
-places-next place (true ∷ bits) (suc k) =
-    ap (λ l. place ∷ l)
-    (places-next (place + 1) bits k
-    ∙ ap (λ m. one_places_from (place + 1) (take k bits) ++ (if get_or bits k false then m ∷ [] else [])) {x = place + 1 + k} {y = place + suc k} (omega arith))
+pub positions-next : (position : ℕ) (bits : List Bool) (k : ℕ)
+    → one_positions_from position (take (suc k) bits) ≡ one_positions_from position (take k bits) ++ (if get_or bits k false then (position + k) ∷ [] else [])
+positions-next position [] zero = refl
+positions-next position [] (suc k) = refl
+positions-next position (false ∷ bits) zero = refl
+positions-next position (true ∷ bits) zero = ap (λ m. m ∷ []) (omega arith)
+positions-next position (false ∷ bits) (suc k) =
+    positions-next (position + 1) bits k
+    ∙ ap (λ m. one_positions_from (position + 1) (take k bits) ++ (if get_or bits k false then m ∷ [] else [])) {x = position + 1 + k} {y = position + suc k} (omega arith)
+positions-next position (true ∷ bits) (suc k) =
+    ap (λ l. position ∷ l)
+    (positions-next (position + 1) bits k
+    ∙ ap (λ m. one_positions_from (position + 1) (take k bits) ++ (if get_or bits k false then m ∷ [] else [])) {x = position + 1 + k} {y = position + suc k} (omega arith))
 
-places-from : (place : ℕ) (bits : List Bool) (i : ℕ) → i < length (one_places_from place bits) → place ≤ get_or (one_places_from place bits) i 0
-places-from place [] i lt = absurd (omega (arith, lt))
-places-from place (false ∷ bits) i lt = let h = places-from (place + 1) bits i lt in omega (arith, h)
-places-from place (true ∷ bits) zero lt = omega arith
-places-from place (true ∷ bits) (suc i) lt = let h = places-from (place + 1) bits i (omega (arith, lt)) in omega (arith, h)
+positions-from : (position : ℕ) (bits : List Bool) (i : ℕ) → i < length (one_positions_from position bits) → position ≤ get_or (one_positions_from position bits) i 0
+positions-from position [] i lt = absurd (omega (arith, lt))
+positions-from position (false ∷ bits) i lt = let h = positions-from (position + 1) bits i lt in omega (arith, h)
+positions-from position (true ∷ bits) zero lt = omega arith
+positions-from position (true ∷ bits) (suc i) lt = let h = positions-from (position + 1) bits i (omega (arith, lt)) in omega (arith, h)
 
-places-ascend : (place : ℕ) (bits : List Bool) → AreAscending (one_places_from place bits)
-places-ascend place [] i j lt within = absurd (omega (arith, within))
-places-ascend place (false ∷ bits) i j lt within = places-ascend (place + 1) bits i j lt within
-places-ascend place (true ∷ bits) i zero lt within = absurd (omega (arith, lt))
-places-ascend place (true ∷ bits) zero (suc j) lt within = let h = places-from (place + 1) bits j (omega (arith, within)) in omega (arith, h)
-places-ascend place (true ∷ bits) (suc i) (suc j) lt within = places-ascend (place + 1) bits i j (omega (arith, lt)) (omega (arith, within))
+positions-ascend : (position : ℕ) (bits : List Bool) → AreAscending (one_positions_from position bits)
+positions-ascend position [] i j lt within = absurd (omega (arith, within))
+positions-ascend position (false ∷ bits) i j lt within = positions-ascend (position + 1) bits i j lt within
+positions-ascend position (true ∷ bits) i zero lt within = absurd (omega (arith, lt))
+positions-ascend position (true ∷ bits) zero (suc j) lt within = let h = positions-from (position + 1) bits j (omega (arith, within)) in omega (arith, h)
+positions-ascend position (true ∷ bits) (suc i) (suc j) lt within = positions-ascend (position + 1) bits i j (omega (arith, lt)) (omega (arith, within))
 
 pub ascending : (bits : List Bool) → AreAscending (one_places bits)
-ascending bits = places-ascend 0 bits
+ascending bits = positions-ascend 0 bits
 
 number-drop : (xs : List ℕ) (k i : ℕ) → get_or (drop k xs) i 0 ≡ get_or xs (k + i) 0
 number-drop xs zero i = ap (λ m. get_or xs m 0) (omega arith)
@@ -139,23 +139,23 @@ coins-each (y ∷ ys) each =
     let later = coins-each ys (All-tail (λ x. coins_of x ≡ 1) y ys each) in
     omega (arith, first, later)
 
--- the places of 1 bits in two parts
-in-parts : (c place k : ℕ) (bits : List Bool) → one_places_from place (take (k + c) bits) ≡ one_places_from place (take k bits) ++ one_places_from (place + k) (take c (drop k bits))
-in-parts c place zero bits =
-    ap (λ m. one_places_from place (take m bits)) {x = 0 + c} {y = c} (omega arith)
-    ∙ ap (λ p. one_places_from p (take c bits)) {x = place} {y = place + 0} (omega arith)
-in-parts c place (suc k) [] =
-    ap (λ m. one_places_from place (take m [])) {x = suc k + c} {y = suc (k + c)} (omega arith)
-    ∙ sym (ap (one_places_from (place + suc k)) (take-nil c))
-in-parts c place (suc k) (false ∷ bits) =
-    ap (λ m. one_places_from place (take m (false ∷ bits))) {x = suc k + c} {y = suc (k + c)} (omega arith)
-    ∙ in-parts c (place + 1) k bits
-    ∙ ap (λ p. one_places_from (place + 1) (take k bits) ++ one_places_from p (take c (drop k bits))) {x = place + 1 + k} {y = place + suc k} (omega arith)
-in-parts c place (suc k) (true ∷ bits) =
-    ap (λ m. one_places_from place (take m (true ∷ bits))) {x = suc k + c} {y = suc (k + c)} (omega arith)
-    ∙ ap (λ l. place ∷ l)
-    (in-parts c (place + 1) k bits
-    ∙ ap (λ p. one_places_from (place + 1) (take k bits) ++ one_places_from p (take c (drop k bits))) {x = place + 1 + k} {y = place + suc k} (omega arith))
+-- the positions of 1 bits in two parts
+in-parts : (c position k : ℕ) (bits : List Bool) → one_positions_from position (take (k + c) bits) ≡ one_positions_from position (take k bits) ++ one_positions_from (position + k) (take c (drop k bits))
+in-parts c position zero bits =
+    ap (λ m. one_positions_from position (take m bits)) {x = 0 + c} {y = c} (omega arith)
+    ∙ ap (λ p. one_positions_from p (take c bits)) {x = position} {y = position + 0} (omega arith)
+in-parts c position (suc k) [] =
+    ap (λ m. one_positions_from position (take m [])) {x = suc k + c} {y = suc (k + c)} (omega arith)
+    ∙ sym (ap (one_positions_from (position + suc k)) (take-nil c))
+in-parts c position (suc k) (false ∷ bits) =
+    ap (λ m. one_positions_from position (take m (false ∷ bits))) {x = suc k + c} {y = suc (k + c)} (omega arith)
+    ∙ in-parts c (position + 1) k bits
+    ∙ ap (λ p. one_positions_from (position + 1) (take k bits) ++ one_positions_from p (take c (drop k bits))) {x = position + 1 + k} {y = position + suc k} (omega arith)
+in-parts c position (suc k) (true ∷ bits) =
+    ap (λ m. one_positions_from position (take m (true ∷ bits))) {x = suc k + c} {y = suc (k + c)} (omega arith)
+    ∙ ap (λ l. position ∷ l)
+    (in-parts c (position + 1) k bits
+    ∙ ap (λ p. one_positions_from (position + 1) (take k bits) ++ one_positions_from p (take c (drop k bits))) {x = position + 1 + k} {y = position + suc k} (omega arith))
 
 -- no more than one a step
 pub few-together : (steps : Steps) → coins_together steps ≤ length (steps_shown steps)
@@ -165,18 +165,18 @@ few-together steps = by (together steps)
     by (inl (none, e)) = omega (arith, e)
     by (inr (each, e)) = omega (arith, e)
 
--- one more of the bits from a place on
-pub places-put : (start before after : List ℕ) (place at k : ℕ) (bits : List Bool) (here : Bool) → before ≡ start ++ one_places_from place (take k (drop at bits)) → here ≡ get_or bits (at + k) false
-    → after ≡ before ++ (if here then (place + k) ∷ [] else []) → after ≡ start ++ one_places_from place (take (k + 1) (drop at bits))
-places-put start before after place at k bits here is shows puts =
+-- one more of the bits from a position on
+pub positions-put : (start before after : List ℕ) (position at k : ℕ) (bits : List Bool) (here : Bool) → before ≡ start ++ one_positions_from position (take k (drop at bits)) → here ≡ get_or bits (at + k) false
+    → after ≡ before ++ (if here then (position + k) ∷ [] else []) → after ≡ start ++ one_positions_from position (take (k + 1) (drop at bits))
+positions-put start before after position at k bits here is shows puts =
     puts
-    ∙ (λ i. is i ++ (if (shows ∙ sym (get_or-drop at bits k false)) i then (place + k) ∷ [] else []))
-    ∙ append_assoc start (one_places_from place (take k (drop at bits))) (if get_or (drop at bits) k false then (place + k) ∷ [] else [])
-    ∙ ap (λ l. start ++ l) (sym (places-next place (drop at bits) k) ∙ ap (λ m. one_places_from place (take m (drop at bits))) (sym (next k)))
+    ∙ (λ i. is i ++ (if (shows ∙ sym (get_or-drop at bits k false)) i then (position + k) ∷ [] else []))
+    ∙ append_assoc start (one_positions_from position (take k (drop at bits))) (if get_or (drop at bits) k false then (position + k) ∷ [] else [])
+    ∙ ap (λ l. start ++ l) (sym (positions-next position (drop at bits) k) ∙ ap (λ m. one_positions_from position (take m (drop at bits))) (sym (next k)))
 
 -- the steps of a group that take the coins of 1 bits, if each takes one
 steps-taking : (xs ys rest : List Step) (number coin : ℕ) → drop number xs ≡ ys ++ rest → All (λ x. coins_of x ≡ 1) ys → coin ≡ all_coins_of (take number xs)
-    → (bits : List Bool) → length bits ≤ length ys → map (step_of_coin xs) (one_places_from coin bits) ≡ one_places_from number bits
+    → (bits : List Bool) → length bits ≤ length ys → map (step_of_coin xs) (one_positions_from coin bits) ≡ one_positions_from number bits
 steps-taking xs ys rest number coin at each is [] few = refl
 steps-taking xs [] rest number coin at each is (b ∷ bits) few = absurd (omega (arith, few))
 steps-taking xs (y ∷ ys) rest number coin at each is (b ∷ bits) few =
@@ -187,37 +187,37 @@ steps-taking xs (y ∷ ys) rest number coin at each is (b ∷ bits) few =
     takes : coins_of y ≡ 1
     takes = All-head (λ x. coins_of x ≡ 1) y ys each
 
-    by : (b : Bool) → map (step_of_coin xs) (one_places_from (coin + 1) bits) ≡ one_places_from (number + 1) bits
-        → map (step_of_coin xs) (one_places_from coin (b ∷ bits)) ≡ one_places_from number (b ∷ bits)
+    by : (b : Bool) → map (step_of_coin xs) (one_positions_from (coin + 1) bits) ≡ one_positions_from (number + 1) bits
+        → map (step_of_coin xs) (one_positions_from coin (b ∷ bits)) ≡ one_positions_from number (b ∷ bits)
     by false later = later
     by true later = ap₂ (λ k l. k ∷ l) (ap (step_of_coin xs) is ∙ step-at number xs y (ys ++ rest) at takes) later
 
-places-append : (k c : ℕ) (bits : List Bool) → one_places (take (k + c) bits) ≡ one_places (take k bits) ++ one_places_from k (take c (drop k bits))
-places-append k c bits = in-parts c 0 k bits ∙ ap (λ p. one_places (take k bits) ++ one_places_from p (take c (drop k bits))) {x = 0 + k} {y = k} (omega arith)
+positions-append : (k c : ℕ) (bits : List Bool) → one_places (take (k + c) bits) ≡ one_places (take k bits) ++ one_positions_from k (take c (drop k bits))
+positions-append k c bits = in-parts c 0 k bits ∙ ap (λ p. one_places (take k bits) ++ one_positions_from p (take c (drop k bits))) {x = 0 + k} {y = k} (omega arith)
 
 -- what is gathered after a group of steps
 pub gathered-group : (free : List Bool) (xs ys rest : List Step) (number coin count : ℕ) (numbers steps more further : List ℕ) → drop number xs ≡ ys ++ rest → TakeCoins ys count
-    → AreGathered free xs number coin numbers steps → more ≡ numbers ++ one_places_from coin (take count (drop coin free)) → further ≡ steps ++ one_places_from number (take count (drop coin free))
+    → AreGathered free xs number coin numbers steps → more ≡ numbers ++ one_positions_from coin (take count (drop coin free)) → further ≡ steps ++ one_positions_from number (take count (drop coin free))
     → AreGathered free xs (number + length ys) (coin + count) more further
 gathered-group free xs ys rest number coin count numbers steps more further at (inl (none, zero')) are puts goes = record {
   coin_is = ap₂ (λ a b. a + b) are.coin_is (zero' ∙ sym (coins-none ys none)) ∙ sym (coins-after number xs ys rest at);
-  numbers_are = puts ∙ ap (λ l. l ++ one_places_from coin (take count (drop coin free))) are.numbers_are ∙ sym (places-append coin count free);
+  numbers_are = puts ∙ ap (λ l. l ++ one_positions_from coin (take count (drop coin free))) are.numbers_are ∙ sym (positions-append coin count free);
   steps_are =
       goes
-      ∙ ap (λ c. steps ++ one_places_from number (take c (drop coin free))) zero'
+      ∙ ap (λ c. steps ++ one_positions_from number (take c (drop coin free))) zero'
       ∙ append-nil steps
       ∙ are.steps_are
       ∙ ap (λ c. map (step_of_coin xs) (one_places (take c free))) {x = coin} {y = coin + count} (omega (arith, zero'));
 }
 gathered-group free xs ys rest number coin count numbers steps more further at (inr (each, all)) are puts goes = record {
   coin_is = ap₂ (λ a b. a + b) are.coin_is (all ∙ sym (coins-each ys each)) ∙ sym (coins-after number xs ys rest at);
-  numbers_are = puts ∙ ap (λ l. l ++ one_places_from coin (take count (drop coin free))) are.numbers_are ∙ sym (places-append coin count free);
+  numbers_are = puts ∙ ap (λ l. l ++ one_positions_from coin (take count (drop coin free))) are.numbers_are ∙ sym (positions-append coin count free);
   steps_are =
       goes
       ∙ ap₂ (λ a b. a ++ b) are.steps_are
       (sym (steps-taking xs ys rest number coin at each are.coin_is (take count (drop coin free)) (omega (arith, all, length-take count (drop coin free)))))
-      ∙ sym (map-append (step_of_coin xs) (one_places (take coin free)) (one_places_from coin (take count (drop coin free))))
-      ∙ ap (map (step_of_coin xs)) (sym (places-append coin count free));
+      ∙ sym (map-append (step_of_coin xs) (one_places (take coin free)) (one_positions_from coin (take count (drop coin free))))
+      ∙ ap (map (step_of_coin xs)) (sym (positions-append coin count free));
 }
 
 -- all are gathered when no step is left
@@ -230,11 +230,11 @@ gathered-all free xs number coin numbers steps none' flags are =
 
 -- a coin that decides is one that a step takes
 
-places-below : (place : ℕ) (bits : List Bool) (i : ℕ) → i < length (one_places_from place bits) → get_or (one_places_from place bits) i 0 < place + length bits
-places-below place [] i lt = absurd (omega (arith, lt))
-places-below place (false ∷ bits) i lt = let h = places-below (place + 1) bits i lt in omega (arith, h)
-places-below place (true ∷ bits) zero lt = omega arith
-places-below place (true ∷ bits) (suc i) lt = let h = places-below (place + 1) bits i (omega (arith, lt)) in omega (arith, h)
+positions-below : (position : ℕ) (bits : List Bool) (i : ℕ) → i < length (one_positions_from position bits) → get_or (one_positions_from position bits) i 0 < position + length bits
+positions-below position [] i lt = absurd (omega (arith, lt))
+positions-below position (false ∷ bits) i lt = let h = positions-below (position + 1) bits i lt in omega (arith, h)
+positions-below position (true ∷ bits) zero lt = omega arith
+positions-below position (true ∷ bits) (suc i) lt = let h = positions-below (position + 1) bits i (omega (arith, lt)) in omega (arith, h)
 
 step-within : (t : ℕ) (xs : List Step) → t < all_coins_of xs → step_of_coin xs t < length xs
 step-within t [] lt = absurd (omega (arith, lt))
@@ -250,7 +250,7 @@ step-within t (x ∷ xs) lt = by_test (nat_lt t (coins_of x)) refl (step-within 
 
 pub free-step-within : (free : List Bool) (xs : List Step) (i : ℕ) → length free ≡ all_coins_of xs → i < length (one_places free)
     → step_of_coin xs (get_or (one_places free) i 0) < length xs
-free-step-within free xs i flags lt = step-within (get_or (one_places free) i 0) xs (omega (arith, flags, places-below 0 free i lt))
+free-step-within free xs i flags lt = step-within (get_or (one_places free) i 0) xs (omega (arith, flags, positions-below 0 free i lt))
 
 -- a run has a flag for each coin that its steps take
 

@@ -1,5 +1,5 @@
 -- Flipped coins: pivots that are right for a run are right for one with other coins, and each run is any other one, inverted.
-use Rattle.stab_commands.proofs.Names.{◌≡◌, ℕ, suc, ◌+◌, refl, sym, ◌∙◌, ap, subst, Bool, false, List, [], ◌∷◌, length, take, replicate, All, Option, Some, None, All-nil, All-take, Letter, parity-false, Signed, single, member, IsConjugated, length-one_letter, Items, Step, one, two, controlled, collapse, product, detector, observable, unroll, observables_of, State, start, run, run_of, string_of, Point, RunOutput, origin, coins_of, next_point, point_after, with_additions, StepFits, flips-free, flipped-zeros, length-string_of, identity_frame, IsFlippedRun, flips_over, pivots_of, changed, IsPivotOf, IsRightAt, AreRight, pivot-conjugated, coins-flip, group-origin, conjugated-free, right-enough, enough-before, run-pivots, by_frame-same, over-by_frame, run-items, ShotBits, bits_of, inverted, zero_coins}
+use Rattle.stab_commands.proofs.Names.{◌≡◌, ℕ, suc, ◌+◌, refl, sym, ◌∙◌, ap, subst, Bool, false, List, [], ◌∷◌, length, take, replicate, All, Option, Some, None, All-nil, All-take, Letter, parity-false, Signed, single, member, IsConjugated, length-one_letter, Items, Step, one, two, controlled, collapse, product, detector, observable, unroll, observables_of, State, start, run, run_of, string_of, Point, RunOutput, origin, coins_of, next_point, point_after, with_additions, StepFits, flips-free, flipped-zeros, length-string_of, identity_frame, IsFlippedRun, flips_over, pivots_of, changed, IsPivotOf, IsRightAt, AreRight, pivot-conjugated, coins-flip, group-origin, conjugated-free, right-enough, enough-before, run-pivots, by_frame-same, over-by_frame, run-items, ShotBits, shot_bits_of, inverted, zero_coins}
 use Rattle.stab_frames.specs.Flips.{flipped}
 
 -- pivots
@@ -81,12 +81,12 @@ module _ (n : ℕ) (items : Items) (fits : All (StepFits n) (unroll items)) wher
     observables = with_additions (flips_over_all changes).additions (replicate (observables_of items) false);
   }
 
-  pub bits-changed : (coins changes : ℕ → Bool) → bits_of (run_of n (changed coins changes) items) ≡ inverted (bits_of (run_of n coins items)) (flips_by changes)
+  pub bits-changed : (coins changes : ℕ → Bool) → shot_bits_of (run_of n (changed coins changes) items) ≡ inverted (shot_bits_of (run_of n coins items)) (flips_by changes)
   bits-changed coins changes =
       let is = flipped-run coins changes in
-      ap bits_of (sym (is-run (changed coins changes)))
+      ap shot_bits_of (sym (is-run (changed coins changes)))
       ∙ (λ i. record { records = is.records (observables_of items) i; detectors = is.detectors (observables_of items) i; observables = is.observables (observables_of items) i })
-      ∙ ap (λ (s : State). inverted (bits_of s) (flips_by changes)) (is-run coins)
+      ∙ ap (λ (s : State). inverted (shot_bits_of s) (flips_by changes)) (is-run coins)
 
   free-changed : (coins changes : ℕ → Bool) → (run_of n (changed coins changes) items).free ≡ (run_of n coins items).free
   free-changed coins changes =
@@ -100,8 +100,8 @@ module _ (n : ℕ) (items : Items) (fits : All (StepFits n) (unroll items)) wher
   all-changed coins = λ i t. parity-false (coins t) i
 
   -- each run, by that with all coins 0
-  pub bits-zero : (coins : ℕ → Bool) → bits_of (run_of n coins items) ≡ inverted (bits_of (run_of n zero_coins items)) (flips_by coins)
-  bits-zero coins = ap (λ c. bits_of (run_of n c items)) (sym (all-changed coins)) ∙ bits-changed zero_coins coins
+  pub bits-zero : (coins : ℕ → Bool) → shot_bits_of (run_of n coins items) ≡ inverted (shot_bits_of (run_of n zero_coins items)) (flips_by coins)
+  bits-zero coins = ap (λ c. shot_bits_of (run_of n c items)) (sym (all-changed coins)) ∙ bits-changed zero_coins coins
 
   pub free-zero : (coins : ℕ → Bool) → (run_of n coins items).free ≡ (run_of n zero_coins items).free
   free-zero coins = ap (λ c. (run_of n c items).free) (sym (all-changed coins)) ∙ free-changed zero_coins coins

@@ -1,5 +1,5 @@
--- Laws of reasons: numbers with a property, the coins that flip a bit by their places, and which bits no coin flips.
-use Rattle.stab_commands.proofs.Names.{◌≡◌, refl, sym, ap, ap₂, ◌∙◌, ℕ, zero, suc, ◌+◌, ◌<◌, ◌==◌, Bool, true, false, List, [], ◌∷◌, ◌++◌, append_assoc, length, drop, map, get_or, codes, if◌then◌else◌, arith, flat_map, nat_tests, ◌⊕◌, Items, Path, path_text, qubits_of, unroll, observables_of, detectors_of, length-flipped, run_of, one_places, bit, numbers_where, IsDeterministic, ShotBits, bits_of, inverted, coin_flipped, flips_of, zero_coins, AreCoinRuns, free_coins, CoinRow, row_by, with_rows, IsCoinTable, table_of, CoinRuns, Bit, bit_of, path_of_bit, checked_bits, deciders, bit_name, coordinates_at, decider_text, reason_line, reason_text, DeterministicHasNoDecider, coin_at, decides}
+-- Laws of reasons: numbers with a property, the coins that flip a bit by their positions, and which bits no coin flips.
+use Rattle.stab_commands.proofs.Names.{◌≡◌, refl, sym, ap, ap₂, ◌∙◌, ℕ, zero, suc, ◌+◌, ◌<◌, ◌==◌, Bool, true, false, List, [], ◌∷◌, ◌++◌, append_assoc, length, drop, map, get_or, codes, if◌then◌else◌, arith, flat_map, nat_tests, ◌⊕◌, Items, Path, path_text, qubits_of, unroll, observables_of, detectors_of, length-flipped, run_of, one_places, bit, numbers_where, IsDeterministic, ShotBits, shot_bits_of, inverted, coin_flipped, flips_of, zero_coins, AreCoinRuns, free_coins, CoinRow, row_by, with_rows, IsCoinTable, table_of, CoinRuns, Bit, bit_of, path_of_bit, checked_bits, deciders, bit_name, coordinates_at, decider_text, reason_line, reason_text, DeterministicHasNoDecider, coin_at, decides}
 use Rattle.stab_frames.specs.Flips.{flipped}
 use Rattle.stab_commands.proofs.CountLaws.{numbers_of_runs}
 
@@ -44,16 +44,16 @@ module _ (n : ℕ) (items : Items) (i : ℕ) where
   abbrev flips_bit : List ℕ → ℕ → Bool
   flips_bit coins k = get_or (checked_bits (flips_of n items zero_coins (get_or coins k 0))) i false
 
-  following-first : (x : ℕ) (xs places : List ℕ) → map (λ k. get_or (x ∷ xs) k 0) (map suc places) ≡ map (λ k. get_or xs k 0) places
+  following-first : (x : ℕ) (xs positions : List ℕ) → map (λ k. get_or (x ∷ xs) k 0) (map suc positions) ≡ map (λ k. get_or xs k 0) positions
   following-first x xs [] = refl
-  following-first x xs (p ∷ places) = ap (λ l. get_or xs p 0 ∷ l) (following-first x xs places)
+  following-first x xs (p ∷ positions) = ap (λ l. get_or xs p 0 ∷ l) (following-first x xs positions)
 
-  -- by the places at which they are
-  pub deciders_by_places : (coins : List ℕ) → deciders i (map (row_by n items zero_coins) coins) ≡ map (λ k. get_or coins k 0) (numbers_where (flips_bit coins) 0 (length coins))
-  deciders_by_places [] = refl
-  deciders_by_places (x ∷ xs) =
+  -- by the positions at which they are
+  pub deciders_by_positions : (coins : List ℕ) → deciders i (map (row_by n items zero_coins) coins) ≡ map (λ k. get_or coins k 0) (numbers_where (flips_bit coins) 0 (length coins))
+  deciders_by_positions [] = refl
+  deciders_by_positions (x ∷ xs) =
       by_test (get_or (checked_bits (flips_of n items zero_coins x)) i false)
-      (deciders_by_places xs ∙ sym (following-first x xs (numbers_where (flips_bit xs) 0 (length xs))) ∙ ap (map (λ k. get_or (x ∷ xs) k 0)) (sym (where-shift (flips_bit (x ∷ xs)) 0 (length xs))))
+      (deciders_by_positions xs ∙ sym (following-first x xs (numbers_where (flips_bit xs) 0 (length xs))) ∙ ap (map (λ k. get_or (x ∷ xs) k 0)) (sym (where-shift (flips_bit (x ∷ xs)) 0 (length xs))))
     where
       by_test : (b : Bool) → deciders i (map (row_by n items zero_coins) xs) ≡ map (λ k. get_or (x ∷ xs) k 0) (numbers_where (flips_bit (x ∷ xs)) 1 (length xs))
           → (if b then x ∷ deciders i (map (row_by n items zero_coins) xs) else deciders i (map (row_by n items zero_coins) xs))
@@ -97,7 +97,7 @@ get-flipped (x ∷ a) (y ∷ b) c d zero ab cd = refl
 get-flipped (x ∷ a) (y ∷ b) c d (suc i) ab cd = get-flipped a b c d i (omega (arith, ab)) cd
 
 module _ (n : ℕ) (items : Items) (i : ℕ) where
-  bit_of_run : (coins : ℕ → Bool) → get_or (checked_bits (bits_of (run_of n coins items))) i false ≡ bit n (observables_of items) coins (unroll items) i
+  bit_of_run : (coins : ℕ → Bool) → get_or (checked_bits (shot_bits_of (run_of n coins items))) i false ≡ bit n (observables_of items) coins (unroll items) i
   unfolding run_of
   bit_of_run coins = refl
 
@@ -141,11 +141,11 @@ module _ (n : ℕ) (items : Items) (i : ℕ) where
     observables = length-flipped bits.observables flips.observables ∙ counted.observables;
   }
 
-  run-counted : (coins : ℕ → Bool) → Counted (bits_of (run_of n coins items))
+  run-counted : (coins : ℕ → Bool) → Counted (shot_bits_of (run_of n coins items))
   run-counted coins = record { detectors = detectors_alike coins zero_coins; observables = observables_alike coins zero_coins }
 
   flips-counted : (t : ℕ) → Counted (flips_of n items zero_coins t)
-  flips-counted t = inverted-counted (bits_of (run_of n (coin_flipped t zero_coins) items)) (bits_of (run_of n zero_coins items)) (run-counted (coin_flipped t zero_coins))
+  flips-counted t = inverted-counted (shot_bits_of (run_of n (coin_flipped t zero_coins) items)) (shot_bits_of (run_of n zero_coins items)) (run-counted (coin_flipped t zero_coins))
 
   kept : (coins : ℕ → Bool) (ts : List ℕ) (bits : ShotBits) → Counted bits → deciders i (map (row_by n items zero_coins) ts) ≡ []
       → get_or (checked_bits (with_rows coins (map (row_by n items zero_coins) ts) bits)) i false ≡ get_or (checked_bits bits) i false
@@ -173,11 +173,11 @@ module _ (n : ℕ) (items : Items) (i : ℕ) where
       all : List ℕ
       all = one_places (run_of n zero_coins items).free
 
-      as_zero : (coins : ℕ → Bool) → get_or (checked_bits (bits_of (run_of n coins items))) i false ≡ get_or (checked_bits (bits_of (run_of n zero_coins items))) i false
+      as_zero : (coins : ℕ → Bool) → get_or (checked_bits (shot_bits_of (run_of n coins items))) i false ≡ get_or (checked_bits (shot_bits_of (run_of n zero_coins items))) i false
       as_zero coins =
           ap (λ bits. get_or (checked_bits bits) i false) (table.adds coins)
-          ∙ ap (λ l. get_or (checked_bits (with_rows coins l (bits_of (run_of n zero_coins items)))) i false) (table.listed zero_coins)
-          ∙ kept coins all (bits_of (run_of n zero_coins items)) (run-counted zero_coins) (ap (deciders i) (sym (table.listed zero_coins)) ∙ none)
+          ∙ ap (λ l. get_or (checked_bits (with_rows coins l (shot_bits_of (run_of n zero_coins items)))) i false) (table.listed zero_coins)
+          ∙ kept coins all (shot_bits_of (run_of n zero_coins items)) (run-counted zero_coins) (ap (deciders i) (sym (table.listed zero_coins)) ∙ none)
 
 pub deterministic-has-no-decider : DeterministicHasNoDecider
 deterministic-has-no-decider items rows i table within = (deterministic-has-none (qubits_of items) items i rows table, none-has-deterministic (qubits_of items) items i rows table)
@@ -188,22 +188,22 @@ mapped_first : (h : ℕ → ℕ) (xs : List ℕ) → 0 < length xs → map h xs 
 mapped_first h [] some = absurd (omega arith)
 mapped_first h (x ∷ xs) some = refl
 
--- whether there are places
+-- whether there are positions
 
-pub no_places : (xs : List ℕ) → true ≡ (length xs == 0) → xs ≡ []
-no_places [] e = refl
-no_places (x ∷ xs) e = absurd (omega (arith, zero_length (length (x ∷ xs)) e))
+pub no_positions : (xs : List ℕ) → true ≡ (length xs == 0) → xs ≡ []
+no_positions [] e = refl
+no_positions (x ∷ xs) e = absurd (omega (arith, zero_length (length (x ∷ xs)) e))
   where
     zero_length : (n : ℕ) → true ≡ (n == 0) → n ≡ 0
     zero_length n h = grind (arith, nat_tests, h)
 
-pub some_places : (xs : List ℕ) → false ≡ (length xs == 0) → xs ≡ [] → ⊥
-some_places xs e none = not_none (length xs) e (ap length none)
+pub some_positions : (xs : List ℕ) → false ≡ (length xs == 0) → xs ≡ [] → ⊥
+some_positions xs e none = not_none (length xs) e (ap length none)
   where
     not_none : (n : ℕ) → false ≡ (n == 0) → n ≡ 0 → ⊥
     not_none n h z = grind (arith, nat_tests, h, z)
 
--- the line of the bit of a number, by the places of the coins that flip it
+-- the line of the bit of a number, by the positions of the coins that flip it
 
 flat-mapped : (text : ℕ → List ℕ) (h : ℕ → ℕ) (xs : List ℕ) → flat_map text (map h xs) ≡ flat_map (λ x. text (h x)) xs
 flat-mapped text h [] = refl
@@ -213,39 +213,39 @@ none-mapped : (h : ℕ → ℕ) (xs : List ℕ) → map h xs ≡ [] → xs ≡ [
 none-mapped h [] e = refl
 none-mapped h (x ∷ xs) e = absurd (cc)
 
-module _ (items : Items) (r : CoinRuns) (are : AreCoinRuns (qubits_of items) items r) (i : ℕ) (places : List ℕ) (found : numbers_where (decides items i) 0 (length r.numbers.items) ≡ places) where
-  pub found_deciders : deciders i (table_of (qubits_of items) items) ≡ map (coin_at items) places
+module _ (items : Items) (r : CoinRuns) (are : AreCoinRuns (qubits_of items) items r) (i : ℕ) (positions : List ℕ) (found : numbers_where (decides items i) 0 (length r.numbers.items) ≡ positions) where
+  pub found_deciders : deciders i (table_of (qubits_of items) items) ≡ map (coin_at items) positions
   found_deciders =
-      deciders_by_places (qubits_of items) items i (free_coins (qubits_of items) items)
+      deciders_by_positions (qubits_of items) items i (free_coins (qubits_of items) items)
       ∙ ap (λ (l : List ℕ). map (coin_at items) (numbers_where (decides items i) 0 (length l))) (sym are.numbers)
       ∙ ap (map (coin_at items)) found
 
   -- nothing is written of a bit that no coin flips
-  pub reason_none : places ≡ [] → reason_text items (table_of (qubits_of items) items) i ≡ []
+  pub reason_none : positions ≡ [] → reason_text items (table_of (qubits_of items) items) i ≡ []
   reason_none none = ap (reason_line items (bit_of (detectors_of (unroll items)) i)) (found_deciders ∙ ap (map (coin_at items)) none)
 
   -- a bit that some coin flips is not the same for all random bits
-  pub is_random : (places ≡ [] → ⊥) → IsDeterministic (qubits_of items) items i → ⊥
-  is_random some deterministic = some (none-mapped (coin_at items) places (sym found_deciders ∙ deterministic-has-none (qubits_of items) items i (table_of (qubits_of items) items) are.table deterministic))
+  pub is_random : (positions ≡ [] → ⊥) → IsDeterministic (qubits_of items) items i → ⊥
+  is_random some deterministic = some (none-mapped (coin_at items) positions (sym found_deciders ∙ deterministic-has-none (qubits_of items) items i (table_of (qubits_of items) items) are.table deterministic))
 
   -- a bit that is not the same whatever the coins is flipped by some coin
-  pub some_found : (IsDeterministic (qubits_of items) items i → ⊥) → 0 < length places
-  some_found random = not_none places (λ none. random (none-has-deterministic (qubits_of items) items i (table_of (qubits_of items) items) are.table (found_deciders ∙ ap (map (coin_at items)) none)))
+  pub some_found : (IsDeterministic (qubits_of items) items i → ⊥) → 0 < length positions
+  some_found random = not_none positions (λ none. random (none-has-deterministic (qubits_of items) items i (table_of (qubits_of items) items) are.table (found_deciders ∙ ap (map (coin_at items)) none)))
     where
       not_none : (xs : List ℕ) → (xs ≡ [] → ⊥) → 0 < length xs
       not_none [] some = absurd (some refl)
       not_none (x ∷ xs) some = omega arith
 
   -- the first that does
-  pub first_found : 0 < length places → deciders i (table_of (qubits_of items) items) ≡ coin_at items (get_or places 0 0) ∷ map (coin_at items) (drop 1 places)
-  first_found some = found_deciders ∙ mapped_first (coin_at items) places some
+  pub first_found : 0 < length positions → deciders i (table_of (qubits_of items) items) ≡ coin_at items (get_or positions 0 0) ∷ map (coin_at items) (drop 1 positions)
+  first_found some = found_deciders ∙ mapped_first (coin_at items) positions some
 
   -- its line
-  pub reason_found : (b : Bit) → b ≡ bit_of (detectors_of (unroll items)) i → (path : Path) → path_of_bit items b ≡ path → (places ≡ [] → ⊥)
-      → line_front items b path ++ (flat_map (λ k. decider_text items (coin_at items k)) places ++ codes "\n") ≡ reason_text items (table_of (qubits_of items) items) i
+  pub reason_found : (b : Bit) → b ≡ bit_of (detectors_of (unroll items)) i → (path : Path) → path_of_bit items b ≡ path → (positions ≡ [] → ⊥)
+      → line_front items b path ++ (flat_map (λ k. decider_text items (coin_at items k)) positions ++ codes "\n") ≡ reason_text items (table_of (qubits_of items) items) i
   reason_found b is path at some =
-      ap (λ p. line_front items b p ++ (flat_map (λ k. decider_text items (coin_at items k)) places ++ codes "\n")) (sym at)
-      ∙ ap (λ l. line_front items b (path_of_bit items b) ++ (l ++ codes "\n")) (sym (flat-mapped (decider_text items) (coin_at items) places))
-      ∙ sym (reason_some items b (map (coin_at items) places) (λ none. some (none-mapped (coin_at items) places none)))
+      ap (λ p. line_front items b p ++ (flat_map (λ k. decider_text items (coin_at items k)) positions ++ codes "\n")) (sym at)
+      ∙ ap (λ l. line_front items b (path_of_bit items b) ++ (l ++ codes "\n")) (sym (flat-mapped (decider_text items) (coin_at items) positions))
+      ∙ sym (reason_some items b (map (coin_at items) positions) (λ none. some (none-mapped (coin_at items) positions none)))
       ∙ ap (reason_line items b) (sym found_deciders)
       ∙ ap (λ c. reason_line items c (deciders i (table_of (qubits_of items) items))) is

@@ -1,5 +1,5 @@
 -- Rows: each coin flips the same bits whatever the others are, and each run is the sum of the rows of its coins.
-use Rattle.stab_commands.proofs.Names.{◌≡◌, ℕ, zero, suc, ◌+◌, ◌-◌, ◌<◌, ◌≤◌, ◌==◌, refl, sym, ◌∙◌, ap, subst, Bool, true, false, List, [], ◌∷◌, map, get_or, arith, inl, inr, All, ◌⊎◌, if◌then◌else◌, cases_eq, cases_lt, All-head, All-tail, ◌⊕◌, Items, unroll, State, run_of, StepFits, run_of-same, one_places_from, one_places, ShotBits, bits_of, inverted, coin_flipped, flips_of, zero_coins, CoinRow, row_by, with_rows, IsCoinTable, table_of, CoinsHaveRows}
+use Rattle.stab_commands.proofs.Names.{◌≡◌, ℕ, zero, suc, ◌+◌, ◌-◌, ◌<◌, ◌≤◌, ◌==◌, refl, sym, ◌∙◌, ap, subst, Bool, true, false, List, [], ◌∷◌, map, get_or, arith, inl, inr, All, ◌⊎◌, if◌then◌else◌, cases_eq, cases_lt, All-head, All-tail, ◌⊕◌, Items, unroll, State, run_of, StepFits, run_of-same, one_positions_from, one_places, ShotBits, shot_bits_of, inverted, coin_flipped, flips_of, zero_coins, CoinRow, row_by, with_rows, IsCoinTable, table_of, CoinsHaveRows}
 use Rattle.stab_commands.proofs.BitLemmas.{AreAlike, inverted-alike, inverted-round, inverted-kept}
 use Rattle.stab_commands.proofs.PropagatedPointLemmas.{flips_by, bits-changed, bits-zero, free-zero}
 
@@ -17,26 +17,26 @@ flipped-elsewhere t s coins ne = ap (λ b. b ⊕ coins s) (other s t ne)
 
 module _ (n : ℕ) (items : Items) (fits : All (StepFits n) (unroll items)) where
   abbrev zeros : ShotBits
-  zeros = bits_of (run_of n zero_coins items)
+  zeros = shot_bits_of (run_of n zero_coins items)
 
-  pub alike-zero : (coins : ℕ → Bool) → AreAlike (bits_of (run_of n coins items)) zeros
+  pub alike-zero : (coins : ℕ → Bool) → AreAlike (shot_bits_of (run_of n coins items)) zeros
   alike-zero coins =
       subst (λ bits. AreAlike bits zeros) (sym (bits-zero n items fits coins)) (inverted-alike zeros (flips_by n items fits coins))
 
   -- the row of a coin, by what its frame flips
-  row-is : (coins : ℕ → Bool) (t : ℕ) → flips_of n items coins t ≡ inverted (inverted (bits_of (run_of n coins items)) (flips_by n items fits (λ s. s == t))) (bits_of (run_of n coins items))
-  row-is coins t = ap (λ bits. inverted bits (bits_of (run_of n coins items))) (bits-changed n items fits coins (λ s. s == t))
+  row-is : (coins : ℕ → Bool) (t : ℕ) → flips_of n items coins t ≡ inverted (inverted (shot_bits_of (run_of n coins items)) (flips_by n items fits (λ s. s == t))) (shot_bits_of (run_of n coins items))
+  row-is coins t = ap (λ bits. inverted bits (shot_bits_of (run_of n coins items))) (bits-changed n items fits coins (λ s. s == t))
 
   row-alike : (coins : ℕ → Bool) (t : ℕ) → flips_of n items zero_coins t ≡ flips_of n items coins t
   row-alike coins t =
       row-is zero_coins t
-      ∙ sym (inverted-round (bits_of (run_of n coins items)) zeros (flips_by n items fits (λ s. s == t)) (alike-zero coins))
+      ∙ sym (inverted-round (shot_bits_of (run_of n coins items)) zeros (flips_by n items fits (λ s. s == t)) (alike-zero coins))
       ∙ sym (row-is coins t)
 
-  row-inverts : (coins : ℕ → Bool) (t : ℕ) → inverted (bits_of (run_of n coins items)) (flips_of n items zero_coins t) ≡ bits_of (run_of n (coin_flipped t coins) items)
+  row-inverts : (coins : ℕ → Bool) (t : ℕ) → inverted (shot_bits_of (run_of n coins items)) (flips_of n items zero_coins t) ≡ shot_bits_of (run_of n (coin_flipped t coins) items)
   row-inverts coins t =
-      ap (inverted (bits_of (run_of n coins items))) (row-is zero_coins t)
-      ∙ inverted-kept (bits_of (run_of n coins items)) zeros (flips_by n items fits (λ s. s == t)) (alike-zero coins)
+      ap (inverted (shot_bits_of (run_of n coins items))) (row-is zero_coins t)
+      ∙ inverted-kept (shot_bits_of (run_of n coins items)) zeros (flips_by n items fits (λ s. s == t)) (alike-zero coins)
       ∙ sym (bits-changed n items fits coins (λ s. s == t))
 
   -- a coin that decides nothing
@@ -52,20 +52,20 @@ module _ (n : ℕ) (items : Items) (fits : All (StepFits n) (unroll items)) wher
               absurd (cc)
           by_cases (inr ne) = sym (flipped-elsewhere t s coins ne)
 
-  absent : (k : ℕ) (flags : List Bool) (i : ℕ) → All (λ (r : CoinRow). r.coin ≡ k + i → ⊥) (map (row_by n items zero_coins) (one_places_from k flags)) → get_or flags i false ≡ false
+  absent : (k : ℕ) (flags : List Bool) (i : ℕ) → All (λ (r : CoinRow). r.coin ≡ k + i → ⊥) (map (row_by n items zero_coins) (one_positions_from k flags)) → get_or flags i false ≡ false
   absent k [] i all = refl
   absent k (false ∷ flags) zero all = refl
   absent k (false ∷ flags) (suc i) all =
-      absent (k + 1) flags i (subst (λ m. All (λ (r : CoinRow). r.coin ≡ m → ⊥) (map (row_by n items zero_coins) (one_places_from (k + 1) flags))) (omega arith) all)
-  absent k (true ∷ flags) zero all = absurd (All-head (λ (r : CoinRow). r.coin ≡ k + 0 → ⊥) (row_by n items zero_coins k) (map (row_by n items zero_coins) (one_places_from (k + 1) flags)) all (omega arith))
+      absent (k + 1) flags i (subst (λ m. All (λ (r : CoinRow). r.coin ≡ m → ⊥) (map (row_by n items zero_coins) (one_positions_from (k + 1) flags))) (omega arith) all)
+  absent k (true ∷ flags) zero all = absurd (All-head (λ (r : CoinRow). r.coin ≡ k + 0 → ⊥) (row_by n items zero_coins k) (map (row_by n items zero_coins) (one_positions_from (k + 1) flags)) all (omega arith))
   absent k (true ∷ flags) (suc i) all =
-      absent (k + 1) flags i (subst (λ m. All (λ (r : CoinRow). r.coin ≡ m → ⊥) (map (row_by n items zero_coins) (one_places_from (k + 1) flags))) (omega arith)
-      (All-tail (λ (r : CoinRow). r.coin ≡ k + suc i → ⊥) (row_by n items zero_coins k) (map (row_by n items zero_coins) (one_places_from (k + 1) flags)) all))
+      absent (k + 1) flags i (subst (λ m. All (λ (r : CoinRow). r.coin ≡ m → ⊥) (map (row_by n items zero_coins) (one_positions_from (k + 1) flags))) (omega arith)
+      (All-tail (λ (r : CoinRow). r.coin ≡ k + suc i → ⊥) (row_by n items zero_coins k) (map (row_by n items zero_coins) (one_positions_from (k + 1) flags)) all))
 
   -- the rows of the coins from a number on, if some coins below are those of a run and all others are 0
   module _ (coins : ℕ → Bool) where
     abbrev rows_from : ℕ → List Bool → List CoinRow
-    rows_from k flags = map (row_by n items zero_coins) (one_places_from k flags)
+    rows_from k flags = map (row_by n items zero_coins) (one_positions_from k flags)
 
     pub record IsBelow (k : ℕ) (some : ℕ → Bool) : Type 0 where
       pub below : (s : ℕ) → s < k → some s ≡ coins s
@@ -103,30 +103,30 @@ module _ (n : ℕ) (items : Items) (fits : All (StepFits n) (unroll items)) wher
             absurd (cc)
 
     sum-from : (k : ℕ) (flags : List Bool) (some : ℕ → Bool) → AreFlags k flags → IsBelow k some
-        → with_rows coins (rows_from k flags) (bits_of (run_of n some items)) ≡ bits_of (run_of n coins items)
-    sum-from k [] some are is = ap bits_of (sym (all-below k some are is))
+        → with_rows coins (rows_from k flags) (shot_bits_of (run_of n some items)) ≡ shot_bits_of (run_of n coins items)
+    sum-from k [] some are is = ap shot_bits_of (sym (all-below k some are is))
     sum-from k (false ∷ flags) some are is = by_coin (λ next. sum-from (k + 1) flags next (flags-rest k false flags are)) (coins k) refl
       where
         fixed : get_or (run_of n zero_coins items).free k false ≡ false
         fixed = ap (λ m. get_or (run_of n zero_coins items).free m false) (omega arith) ∙ are 0
 
-        by_coin : ((next : ℕ → Bool) → IsBelow (k + 1) next → with_rows coins (rows_from (k + 1) flags) (bits_of (run_of n next items)) ≡ bits_of (run_of n coins items))
-            → (b : Bool) → coins k ≡ b → with_rows coins (rows_from (k + 1) flags) (bits_of (run_of n some items)) ≡ bits_of (run_of n coins items)
+        by_coin : ((next : ℕ → Bool) → IsBelow (k + 1) next → with_rows coins (rows_from (k + 1) flags) (shot_bits_of (run_of n next items)) ≡ shot_bits_of (run_of n coins items))
+            → (b : Bool) → coins k ≡ b → with_rows coins (rows_from (k + 1) flags) (shot_bits_of (run_of n some items)) ≡ shot_bits_of (run_of n coins items)
         by_coin later true one =
-            ap (λ (s : State). with_rows coins (rows_from (k + 1) flags) (bits_of s)) (sym (still some k fixed)) ∙ later (coin_flipped k some) (below-flipped k some one is)
+            ap (λ (s : State). with_rows coins (rows_from (k + 1) flags) (shot_bits_of s)) (sym (still some k fixed)) ∙ later (coin_flipped k some) (below-flipped k some one is)
         by_coin later false zero' = later some (below-same k some zero' is)
     sum-from k (true ∷ flags) some are is = by_coin (λ next. sum-from (k + 1) flags next (flags-rest k true flags are)) (coins k) refl
       where
-        by_coin : ((next : ℕ → Bool) → IsBelow (k + 1) next → with_rows coins (rows_from (k + 1) flags) (bits_of (run_of n next items)) ≡ bits_of (run_of n coins items))
+        by_coin : ((next : ℕ → Bool) → IsBelow (k + 1) next → with_rows coins (rows_from (k + 1) flags) (shot_bits_of (run_of n next items)) ≡ shot_bits_of (run_of n coins items))
             → (b : Bool) → coins k ≡ b
-            → with_rows coins (rows_from (k + 1) flags) (if coins k then inverted (bits_of (run_of n some items)) (flips_of n items zero_coins k) else bits_of (run_of n some items))
-            ≡ bits_of (run_of n coins items)
+            → with_rows coins (rows_from (k + 1) flags) (if coins k then inverted (shot_bits_of (run_of n some items)) (flips_of n items zero_coins k) else shot_bits_of (run_of n some items))
+            ≡ shot_bits_of (run_of n coins items)
         by_coin later true one =
-            ap (λ b. with_rows coins (rows_from (k + 1) flags) (if b then inverted (bits_of (run_of n some items)) (flips_of n items zero_coins k) else bits_of (run_of n some items))) one
+            ap (λ b. with_rows coins (rows_from (k + 1) flags) (if b then inverted (shot_bits_of (run_of n some items)) (flips_of n items zero_coins k) else shot_bits_of (run_of n some items))) one
             ∙ ap (with_rows coins (rows_from (k + 1) flags)) (row-inverts some k)
             ∙ later (coin_flipped k some) (below-flipped k some one is)
         by_coin later false zero' =
-            ap (λ b. with_rows coins (rows_from (k + 1) flags) (if b then inverted (bits_of (run_of n some items)) (flips_of n items zero_coins k) else bits_of (run_of n some items))) zero'
+            ap (λ b. with_rows coins (rows_from (k + 1) flags) (if b then inverted (shot_bits_of (run_of n some items)) (flips_of n items zero_coins k) else shot_bits_of (run_of n some items))) zero'
             ∙ later some (below-same k some zero' is)
 
   pub coin-table : IsCoinTable n items (table_of n items)

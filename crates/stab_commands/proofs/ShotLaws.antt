@@ -58,10 +58,10 @@ pub shown_of_part : {W : Type 0} (at : W → ℕ → Bool) (words : List W) (par
     → sent % 64 ≡ 0 → sent + k < lanes → ((l : ℕ) → l < lanes → IsShown shown (run (first + l)) kinds (lane_bits at l words))
     → lane_bits word_bit k part ≡ lane_bits at (64 * (sent / 64) + k) words → IsShown shown (run (first + sent + k)) kinds (lane_bits word_bit k part)
 shown_of_part at words part sent lanes first k shown run kinds whole within are is =
-    let place : 64 * (sent / 64) + k ≡ sent + k = omega (arith, whole) in
+    let position : 64 * (sent / 64) + k ≡ sent + k = omega (arith, whole) in
     let shot : first + (sent + k) ≡ first + sent + k = omega arith in
     subst (λ n. IsShown shown (run n) kinds (lane_bits word_bit k part)) shot
-    (subst (IsShown shown (run (first + (sent + k))) kinds) (sym (is ∙ ap (λ l. lane_bits at l words) place)) (are (sent + k) within))
+    (subst (IsShown shown (run (first + (sent + k))) kinds) (sym (is ∙ ap (λ l. lane_bits at l words) position)) (are (sent + k) within))
 
 -- a lane whose coins are those of a seed's shot runs as that shot does
 pub lane_runs : (n : ℕ) (items : Items) (seed first shots l : ℕ) (coins : ℕ → Bool) → ((t : ℕ) → coins t ≡ seed_coin seed ((first + l) % 2 ^ 64) t)

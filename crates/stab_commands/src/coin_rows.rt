@@ -14,7 +14,7 @@ ghost use Rattle.stab_commands.specs.CoinRuns.{AreCoinRuns};
 ghost use Rattle.stab_report.specs.CoinTables.{coin_line, coin_text, whole_kinds};
 ghost use Rattle.stab_report.specs.Endings.{SendsUnflushed};
 ghost use Rattle.stab_report.specs.Texts.{row_head, texts_from};
-ghost use Rattle.stab_commands.specs.inner.CoinRows.{HaveFlips, coin_at, places_in, text_at};
+ghost use Rattle.stab_commands.specs.inner.CoinRows.{HaveFlips, coin_at, positions_in, text_at};
 
 use crate::coin_runs::CoinRuns;
 use stab_circuit::{Circuit, Path};
@@ -62,137 +62,141 @@ impl PlacedCoin {
     }
 }
 
-/// The coin at a place among those that decide.
-pub(crate) fn placed_coin(circuit: &Circuit, runs: &CoinRuns, place: usize) -> PlacedCoin
+/// The coin at a position among those that decide.
+pub(crate) fn placed_coin(circuit: &Circuit, runs: &CoinRuns, position: usize) -> PlacedCoin
     requires checked { check_of (circuit_items circuit.now) ≡ None }
     requires runs { AreCoinRuns (qubits_of (circuit_items circuit.now)) (circuit_items circuit.now) runs.now }
-    requires in_range { place < length runs.now.numbers.items }
-    ensures coin { result.coin ≡ coin_at (circuit_items circuit.now) place }
-    ensures step { result.step ≡ step_of_coin (unroll (circuit_items circuit.now)) (coin_at (circuit_items circuit.now) place) }
-    ensures path { result.path ≡ path_of_coin (circuit_items circuit.now) (coin_at (circuit_items circuit.now) place) }
+    requires in_range { position < length runs.now.numbers.items }
+    ensures coin { result.coin ≡ coin_at (circuit_items circuit.now) position }
+    ensures step { result.step ≡ step_of_coin (unroll (circuit_items circuit.now)) (coin_at (circuit_items circuit.now) position) }
+    ensures path { result.path ≡ path_of_coin (circuit_items circuit.now) (coin_at (circuit_items circuit.now) position) }
 {
-    let coin = runs.numbers()[place] as usize;
-    let step = runs.steps()[place];
+    let coin = runs.numbers()[position] as usize;
+    let step = runs.steps()[position];
     let path = circuit.item_of_step(step).path;
     PlacedCoin { coin, step, path }
 }
 
-/// A word of 64 lanes, and its place among others.
+/// A word of 64 lanes, and its position among others.
 #[derive(Clone, Copy)]
 struct PlacedWord {
-    place: u32,
+    position: u32,
     word: u64,
 }
 
-/// The greatest place that a `u32` numbers.
-const LAST_PLACE: usize = 4_294_967_295;
+/// The greatest position that a `u32` numbers.
+const LAST_POSITION: usize = 4_294_967_295;
 
-/// Puts a word and its place after others, if it is not 0.
+/// Puts a word and its position after others, if it is not 0.
 ///
-/// Fault `OutOfMemory`, also if a `u32` doesn't number the place: no circuit has as many bits.
-fn push_word(found: &mut Vec<PlacedWord>, place: usize, word: u64) -> Result<(), Fault>
-    ensures value { OnOk result ((l : ℕ) → places_in l found.new.items ≡ places_in l found.old.items ++ (if word_bit word l then place ∷ [] else [])) }
+/// Fault `OutOfMemory`, also if the position fits no `u32`: no circuit has as many bits.
+fn push_word(found: &mut Vec<PlacedWord>, position: usize, word: u64) -> Result<(), Fault>
+    ensures value { OnOk result ((l : ℕ) → positions_in l found.new.items ≡ positions_in l found.old.items ++ (if word_bit word l then position ∷ [] else [])) }
     ensures err { IfErr result (λ f. f ≡ whole OutOfMemory) }
 {
     if word == 0 {
         return Ok(());
     }
-    if place > LAST_PLACE {
+    if position > LAST_POSITION {
         return Err(Fault::whole(Refusal::OutOfMemory));
     }
-    let place = place as u32;
-    found.push(PlacedWord { place, word })?;
+    let position = position as u32;
+    found.push(PlacedWord { position, word })?;
     Ok(())
 }
 
-/// Puts the words that are not 0 of the 64 lanes from 64 * `part` on in place of what a list has.
+/// Replaces what a list has by the words that are not 0, of the 64 lanes from 64 * `part` on.
 fn find_words<W: Word>(words: &[W], part: usize, found: &mut Vec<PlacedWord>) -> Result<(), Fault>
     requires in_range { 64 * part + 64 ≤ W.lanes }
-    ensures ones { OnOk result ((l : ℕ) → l < 64 → places_in l found.new.items ≡ one_places (lane_bits W.at (64 * part + l) words.now)) }
+    ensures ones { OnOk result ((l : ℕ) → l < 64 → positions_in l found.new.items ≡ one_places (lane_bits W.at (64 * part + l) words.now)) }
     ensures err { IfErr result (λ f. f ≡ whole OutOfMemory) }
 {
     found.clear();
-    for place in 0..words.len() {
-        push_word(found, place, words[place].part(part))?;
+    for position in 0..words.len() {
+        push_word(found, position, words[position].part(part))?;
     }
     Ok(())
 }
 
-/// Puts the places of the words that are 1 in a lane in place of what a list has.
-fn write_places(found: &[PlacedWord], lane: usize, places: &mut Vec<u32>) -> Result<(), AllocError>
+/// Replaces what a list has by the positions of the words that are 1 in a lane.
+fn write_positions(
+    found: &[PlacedWord],
+    lane: usize,
+    positions: &mut Vec<u32>,
+) -> Result<(), AllocError>
     requires in_range { lane < 64 }
-    ensures value { OnOk result (places.new.items ≡ places_in lane found.now) }
+    ensures value { OnOk result (positions.new.items ≡ positions_in lane found.now) }
 {
-    places.clear();
+    positions.clear();
     for word in found {
         if word.word.bit(lane) {
-            places.push(word.place)?;
+            positions.push(word.position)?;
         }
     }
     Ok(())
 }
 
-/// Writes a coin's line, by the places of the bits that it flips.
+/// Writes a coin's line, by the positions of the bits that it flips.
 fn write_line<O: Output>(
     out: &mut O,
     kinds: Kinds,
     coin: &PlacedCoin,
-    places: &[u32],
+    positions: &[u32],
 ) -> Result<(), Refusal>
-    ensures writes { WritesAll (O.seen out.old) (O.seen out.new) (row_head coin.now.step coin.now.path (codes "c") coin.now.coin ++ (flat_map (entry kinds) places.now ++ codes "\n")) result }
+    ensures writes { WritesAll (O.seen out.old) (O.seen out.new) (row_head coin.now.step coin.now.path (codes "c") coin.now.coin ++ (flat_map (entry kinds) positions.now ++ codes "\n")) result }
 {
     write_head(out, coin.step, &coin.path, b"c", coin.coin)?;
-    write_entries(out, kinds, places)?;
+    write_entries(out, kinds, positions)?;
     write_all(out, b"\n")
 }
 
-/// Writes the line of the coin at a place, by the places of the bits that it flips.
+/// Writes the line of the coin at a position, by the positions of the bits that it flips.
 fn write_coin_line<O: Output>(
     out: &mut O,
     circuit: &Circuit,
     runs: &CoinRuns,
-    place: usize,
-    places: &[u32],
+    position: usize,
+    positions: &[u32],
 ) -> Result<(), Fault>
     requires checked { check_of (circuit_items circuit.now) ≡ None }
     requires runs { AreCoinRuns (qubits_of (circuit_items circuit.now)) (circuit_items circuit.now) runs.now }
-    requires in_range { place < length runs.now.numbers.items }
-    ensures writes { (flips : List Bool) → one_places flips ≡ places.now → WritesAllOrFault (O.seen out.old) (O.seen out.new) (coin_line (circuit_items circuit.now) (coin_at (circuit_items circuit.now) place) flips) result }
+    requires in_range { position < length runs.now.numbers.items }
+    ensures writes { (flips : List Bool) → one_places flips ≡ positions.now → WritesAllOrFault (O.seen out.old) (O.seen out.new) (coin_line (circuit_items circuit.now) (coin_at (circuit_items circuit.now) position) flips) result }
 {
-    let coin = placed_coin(circuit, runs, place);
+    let coin = placed_coin(circuit, runs, position);
     let kinds = whole_kinds(circuit);
-    match write_line(out, kinds, &coin, places) {
+    match write_line(out, kinds, &coin, positions) {
         Ok(()) => Ok(()),
         Err(refusal) => Err(Fault::whole(refusal)),
     }
 }
 
-/// Writes what is written of the coin at a place, by the places of the bits that it flips, and by as many bits that are 0.
+/// Writes what is written of the coin at a position, by the positions of the bits that it flips, and by as many bits that are 0.
 fn write_coin<O: Output>(
     out: &mut O,
     circuit: &Circuit,
     layout: FaultLayout,
     runs: &CoinRuns,
-    place: usize,
-    places: &[u32],
+    position: usize,
+    positions: &[u32],
     bits: &mut [bool],
 ) -> Result<(), Fault>
     requires checked { check_of (circuit_items circuit.now) ≡ None }
     requires runs { AreCoinRuns (qubits_of (circuit_items circuit.now)) (circuit_items circuit.now) runs.now }
-    requires in_range { place < length runs.now.numbers.items }
-    requires below { All (λ k. k < length bits.old) places.now }
+    requires in_range { position < length runs.now.numbers.items }
+    requires below { All (λ k. k < length bits.old) positions.now }
     requires zero { bits.old ≡ replicate (length bits.old) false }
     requires within { detectors_of (whole_kinds (circuit_items circuit.now)) ≤ length bits.old }
-    ensures writes { (flips : List Bool) → length flips ≡ length bits.old → one_places flips ≡ places.now → WritesAllOrFault (O.seen out.old) (O.seen out.new) (coin_text layout (circuit_items circuit.now) (coin_at (circuit_items circuit.now) place) flips) result }
+    ensures writes { (flips : List Bool) → length flips ≡ length bits.old → one_places flips ≡ positions.now → WritesAllOrFault (O.seen out.old) (O.seen out.new) (coin_text layout (circuit_items circuit.now) (coin_at (circuit_items circuit.now) position) flips) result }
     ensures same { OnOk result (bits.new ≡ bits.old) }
 {
     match layout {
-        FaultLayout::Lines => write_coin_line(out, circuit, runs, place, places),
-        FaultLayout::Shots(format) => write_row(out, format, whole_kinds(circuit), bits, places),
+        FaultLayout::Lines => write_coin_line(out, circuit, runs, position, positions),
+        FaultLayout::Shots(format) => write_row(out, format, whole_kinds(circuit), bits, positions),
     }
 }
 
-/// Writes what is written of the coins of this many of the 64 lanes from 64 * `part` on, which are those from a place on.
+/// Writes what is written of the coins of this many of the 64 lanes from 64 * `part` on, which are those from a position on.
 fn write_lanes<O: Output, W: Word>(
     alloc: Global,
     out: &mut O,
@@ -217,17 +221,17 @@ fn write_lanes<O: Output, W: Word>(
     ensures same { OnOk result (bits.new ≡ bits.old) }
 {
     let mut found = Vec::new(alloc);
-    let mut places = Vec::new(alloc);
+    let mut positions = Vec::new(alloc);
     find_words(words, part, &mut found)?;
     for lane in 0..lanes {
-        write_places(found.as_slice(), lane, &mut places)?;
+        write_positions(found.as_slice(), lane, &mut positions)?;
         let at = first + lane;
-        write_coin(out, circuit, layout, runs, at, places.as_slice(), bits)?;
+        write_coin(out, circuit, layout, runs, at, positions.as_slice(), bits)?;
     }
     Ok(())
 }
 
-/// Writes what is written of the coins of this many lanes, which are those from a place on, 64 lanes at a time.
+/// Writes what is written of the coins of this many lanes, which are those from a position on, 64 lanes at a time.
 pub(crate) fn write_parts<O: Output, W: Word>(
     alloc: Global,
     out: &mut O,

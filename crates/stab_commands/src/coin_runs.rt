@@ -14,7 +14,7 @@ ghost use Rattle.stab_report.specs.Coins.{flips_of};
 ghost use Rattle.stab_run.specs.Coins.{zero_coins};
 ghost use Rattle.stab_commands.specs.CoinRuns.{AreCoinRuns, AreBits, free_coins};
 
-use crate::coin_places::{CoinPlaces, coin_places};
+use crate::coin_positions::{CoinPositions, coin_positions};
 use stab_circuit::Circuit;
 use stab_io::Fault;
 use stab_recording::{Shot, run_once};
@@ -42,10 +42,10 @@ impl Drop for CoinRuns {
     }
 }
 
-/// How many bytes the bits of lanes take at most, one for each eight lanes, besides the room that a growing list keeps free.
+/// How many bytes the bits of lanes take at most, one for each eight lanes, besides the room that a growing list keeps unused.
 const MOST_BYTES: usize = 12 * 1024 * 1024;
 
-/// In how many lanes this many coins of a run go at once, 64, 256 or 1,024.
+/// In how many lanes this many coins of a run are propagated at once: 64, 256 or 1,024.
 fn lanes_of(zero: &Shot, coins: usize) -> usize
     ensures some { 0 < result }
     ensures few { result ≤ 1024 }
@@ -79,7 +79,7 @@ fn reference_of(
 }
 
 /// The coins of a circuit that nothing refuses which decide, by a flag for each of its coin numbers.
-fn places_of(alloc: Global, circuit: &Circuit, free: &[bool]) -> Result<CoinPlaces, Fault>
+fn positions_of(alloc: Global, circuit: &Circuit, free: &[bool]) -> Result<CoinPositions, Fault>
     requires checked { check_of (circuit_items circuit.now) ≡ None }
     requires flags { length free.now ≡ all_coins_of (unroll (circuit_items circuit.now)) }
     ensures numbers { IfOk result (λ p. p.numbers.items ≡ one_places free.now) }
@@ -87,14 +87,14 @@ fn places_of(alloc: Global, circuit: &Circuit, free: &[bool]) -> Result<CoinPlac
     ensures distinct { IfOk result (λ p. All HasDistinctQubits (unroll (circuit_items circuit.now))) }
     ensures err { IfErr result (λ f. f ≡ whole OutOfMemory) }
 {
-    match coin_places(alloc, circuit, free) {
-        Ok(places) => Ok(places),
+    match coin_positions(alloc, circuit, free) {
+        Ok(positions) => Ok(positions),
         Err(refusal) => Err(Fault::whole(refusal)),
     }
 }
 
 impl CoinRuns {
-    /// Those of a circuit on n qubits, at most 1,024.
+    /// The runs of a circuit on n qubits, at most 1,024.
     ///
     /// Refused as `Circuit::check` refuses, else `OutOfMemory`, always with line 0.
     pub fn of(alloc: Global, circuit: &Circuit, n: usize) -> Result<CoinRuns, Fault>
@@ -106,7 +106,7 @@ impl CoinRuns {
         CoinRuns::of_checked(alloc, circuit, n)
     }
 
-    /// Those of a circuit that nothing refuses.
+    /// The runs of a circuit that nothing refuses.
     fn of_checked(alloc: Global, circuit: &Circuit, n: usize) -> Result<CoinRuns, Fault>
         requires in_range { n ≤ most_qubits }
         requires checked { check_within n (circuit_items circuit.now) ≡ None }
@@ -115,7 +115,7 @@ impl CoinRuns {
     {
         let mut coins = ListCoins::new(&[]);
         let zero = run_once(alloc, circuit, n, &mut coins)?;
-        let CoinPlaces { numbers, steps } = places_of(alloc, circuit, zero.free.as_slice())?;
+        let CoinPositions { numbers, steps } = positions_of(alloc, circuit, zero.free.as_slice())?;
         let many = numbers.len() > lanes_of(&zero, numbers.len());
         let reference = reference_of(alloc, circuit, n, many)?;
         Ok(CoinRuns {
@@ -147,7 +147,7 @@ impl CoinRuns {
         self.steps.as_slice()
     }
 
-    /// In how many lanes these coins go at once: 64, 256 or 1,024.
+    /// In how many lanes these coins are propagated at once: 64, 256 or 1,024.
     pub fn lanes(&self) -> usize
         ensures some { 0 < result }
         ensures few { result ≤ 1024 }
@@ -155,8 +155,8 @@ impl CoinRuns {
         lanes_of(&self.zero, self.numbers.len())
     }
 
-    /// Replaces what lists had by, for each lane, which bits of a run are flipped by a coin: lane l has those of the coin at place
-    /// `first` + l of the numbers, as far as there are such.
+    /// Replaces what lists had by, for each lane, which bits of a run are flipped by a coin: lane l has those of the coin at
+    /// position `first` + l of the numbers, as far as there are such.
     ///
     /// Fault `OutOfMemory` alone, with line 0; nothing is said of the lists then.
     pub fn flips<W: UnitWord>(

@@ -18,7 +18,7 @@ use stab_report::finish;
 use stab_sampler::{Shots, UnitWord, Wide};
 use std::alloc::Global;
 
-/// Writes what is written of this many coins, at most as many as there are lanes, from a place on. What they flip replaces
+/// Writes what is written of this many coins, at most as many as there are lanes, from a position on. What they flip replaces
 /// what the lists had.
 fn send_batch<O: Output, W: UnitWord>(
     alloc: Global,

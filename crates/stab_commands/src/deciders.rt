@@ -1,4 +1,4 @@
-//! The coins that decide each detector and observable, by their places among those that decide any outcome.
+//! The coins that decide each detector and observable, by their positions among those that decide any outcome.
 ghost use Rattle.std.specs.Prelude.{◌≡◌, ℕ, ◌+◌, ◌-◌, ◌<◌, ◌≤◌, ◌++◌, None, length, IfOk, IfErr, OnOk};
 ghost use Rattle.stab_io.specs.Refusals.{whole};
 ghost use Rattle.stab_io.specs.declared.refusal.Refusal.TheVariants.{OutOfMemory};
@@ -17,39 +17,44 @@ use stab_io::Fault;
 use stab_sampler::{Shots, UnitWord, Wide, Word};
 use std::alloc::{AllocError, Global};
 
-/// Puts after others the numbers from `first` up to `end` that are lanes, counted from there, in which a word is 1.
-fn push_ones(places: &mut Vec<usize>, word: u64, first: usize, end: usize) -> Result<(), AllocError>
+/// Puts after others `first` plus the number of each lane in which a word is 1, as far as it is below `end`.
+fn push_ones(
+    positions: &mut Vec<usize>,
+    word: u64,
+    first: usize,
+    end: usize,
+) -> Result<(), AllocError>
     requires some { first ≤ end }
     requires in_range { end ≤ first + 64 }
-    ensures value { OnOk result (places.new.items ≡ places.old.items ++ ones_of word_bit word first end) }
+    ensures value { OnOk result (positions.new.items ≡ positions.old.items ++ ones_of word_bit word first end) }
 {
     if word == 0 {
         return Ok(());
     }
-    for place in first..end {
-        if word.bit(place - first) {
-            places.push(place)?;
+    for position in first..end {
+        if word.bit(position - first) {
+            positions.push(position)?;
         }
     }
     Ok(())
 }
 
-/// Puts such numbers after others, of a word of as many lanes as there are.
+/// Puts such numbers after others, of a word of any number of lanes.
 fn push_parts<W: Word>(
-    places: &mut Vec<usize>,
+    positions: &mut Vec<usize>,
     word: W,
     first: usize,
     end: usize,
 ) -> Result<(), AllocError>
     requires some { first ≤ end }
     requires in_range { end ≤ first + W.lanes }
-    ensures value { OnOk result (places.new.items ≡ places.old.items ++ ones_of W.at word first end) }
+    ensures value { OnOk result (positions.new.items ≡ positions.old.items ++ ones_of W.at word first end) }
 {
     let mut pushed = 0;
     while pushed < end - first {
         let some = (end - first - pushed).min(64);
         let begin = first + pushed;
-        push_ones(places, word.part(pushed / 64), begin, begin + some)?;
+        push_ones(positions, word.part(pushed / 64), begin, begin + some)?;
         pushed += some;
     }
     Ok(())
@@ -85,7 +90,7 @@ fn add_lists(alloc: Global, lists: &mut Vec<Vec<usize>>, count: usize) -> Result
     Ok(())
 }
 
-/// Lists the coins at the places from `first` on, at most as many as there are lanes, at each bit that they flip.
+/// Lists the coins at the positions from `first` on, at most as many as there are lanes, at each bit that they flip.
 fn list_batch<W: UnitWord>(
     alloc: Global,
     circuit: &Circuit,
@@ -113,7 +118,7 @@ fn list_batch<W: UnitWord>(
     Ok(())
 }
 
-/// For each bit the places of the coins that flip it, by batches of this many lanes.
+/// For each bit the positions of the coins that flip it, by batches of this many lanes.
 fn list_batches<W: UnitWord>(
     alloc: Global,
     circuit: &Circuit,
@@ -142,7 +147,7 @@ fn list_batches<W: UnitWord>(
     Ok(lists)
 }
 
-/// For each detector and then each observable the places of the coins that flip it, ascending.
+/// For each detector and then each observable the positions of the coins that flip it, ascending.
 pub(crate) fn deciders(
     alloc: Global,
     circuit: &Circuit,

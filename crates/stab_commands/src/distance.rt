@@ -284,8 +284,8 @@ fn send_distance<O: Output, P: Progress>(
 /// its tag leaves (`X`, `Y`, `Z`, `XZ`), or with the tag `pairs` all products of two letters on each two
 /// targets. With `everywhere` they are those letters after each gate and reset and before what is
 /// measured, all products after a gate on two qubits, and each record wrong by itself. Letters
-/// `XAndZ` leave out Y, and products that have both kinds. With `graphlike`, the X and the Z of its letters take
-/// the place of an error that flips more than two detectors, and only errors are taken that flip at most two. With an
+/// `XAndZ` leave out Y, and products that have both kinds. With `graphlike`, the X and the Z of its letters
+/// replace an error that flips more than two detectors, and only errors are taken that flip at most two. With an
 /// `observable`, it is this one that is different.
 ///
 /// The first line is `distance W of all marked errors`, or `of all errors everywhere`, or `of graph-like errors`. Then each of the W errors

@@ -147,8 +147,8 @@ fn find_decider(alloc: Global, circuit: &Circuit, number: usize) -> Result<Decid
 {
     let runs = CoinRuns::of(alloc, circuit, circuit.qubits())?;
     let lists = deciders(alloc, circuit, &runs)?;
-    let places = lists[number].as_slice();
-    let coin = placed_coin(circuit, &runs, places[0]);
+    let positions = lists[number].as_slice();
+    let coin = placed_coin(circuit, &runs, positions[0]);
     Ok(coin.decider())
 }
 
@@ -313,9 +313,9 @@ fn send_faults<O: Output>(
     }
 }
 
-/// Reads a circuit, and writes which of its detectors and observables each fault flips: a Pauli X or
-/// Z that is put in at a place between two steps, and flips a bit if the run without it gives the
-/// other one, for all random bits, on as many qubits as the circuit names.
+/// Reads a circuit, and writes which of its detectors and observables each fault flips. A fault is a
+/// Pauli X or Z that is put in between two steps. It flips a bit if the run without it gives the other
+/// bit, for all random bits. Runs are on as many qubits as the circuit names.
 ///
 /// The faults are those at the targets of the gate `I`; or, `everywhere`, those after each target of
 /// each gate and reset, and in front of each measured qubit and after it. They come in the order of

@@ -6,7 +6,7 @@ ghost use Rattle.stab_report.specs.Reasons.{DeterministicHasNoDecider};
 ghost use Rattle.stab_report.specs.Rows.{SameGroupSameLines};
 
 /// Two stabiliser groups are one if and only if the lines of their reduced rows are the same: so texts that `stabilisers`
-/// wrote can be compared in place of states.
+/// wrote can be compared instead of states.
 pub fn same_group_same_lines()
     ensures law { SameGroupSameLines }
 {}

@@ -12,7 +12,7 @@
 //! - `run`: the commands that write the shots of a circuit.
 //! - `stabilisers`: the command that writes the stabilisers of the state after a run.
 //! - `part_laws`: outputs of parts are joined to that of all shots.
-//! - `coin_places`: the coins that decide, and the steps at which they do.
+//! - `coin_positions`: the coins that decide, and the steps at which they do.
 //! - `coin_runs`: the runs that have one coin 1, as lanes.
 //! - `doubts`: the marks of a circuit that may be meant in another way.
 //! - `check`: the command that writes the numbers of a circuit, or what is wrong with it.
@@ -64,7 +64,7 @@
 
 mod bits;
 mod check;
-mod coin_places;
+mod coin_positions;
 mod coin_rows;
 mod coin_runs;
 mod coins;
@@ -103,6 +103,4 @@ pub use reasons::{has_bit, run_explain, write_why};
 pub use run::{run_detect, run_detect_shots, run_sample, run_sample_shots};
 pub use searched::run_searched_errors;
 pub use shots::send_shots;
-pub use stab_error_model::{Progress, Unwatched};
-pub use stab_jobs::{DistanceOptions, ErrorLetters, FaultLayout, SearchedLayout, Source};
 pub use stabilisers::run_stabilisers;

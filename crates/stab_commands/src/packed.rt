@@ -32,7 +32,7 @@ fn send_bytes<O: Output>(out: &mut O, bytes: &[u8]) -> Result<(), Fault>
     }
 }
 
-/// Writes the line of one of eight lanes in place of a text. The lanes come as bytes, each with a bit of all eight.
+/// Writes the line of one of eight lanes over a text. The lanes come as bytes, each with a bit of all eight.
 fn write_line(column: &[u8], lane: usize, text: &mut [u8])
     requires in_range { lane < 8 }
     requires as_long { length text.old ≡ length column.now + 1 }
@@ -154,26 +154,26 @@ fn send_first_part<O: Output, W: Word>(
     send_part(alloc, out, packing, part.as_slice(), lanes)
 }
 
-/// Writes the bits of the 64 lanes from 64 * place on, and those of the 64 from 64 * next on, of words of more.
+/// Writes the bits of the 64 lanes from 64 * position on, and those of the 64 from 64 * next on, of words of more lanes.
 fn write_two_parts<W: Word>(
     words: &[W],
-    place: usize,
+    position: usize,
     next: usize,
     first: &mut [u64],
     second: &mut [u64],
 )
-    requires in_range { 64 * place + 64 ≤ W.lanes }
+    requires in_range { 64 * position + 64 ≤ W.lanes }
     requires next_in_range { 64 * next + 64 ≤ W.lanes }
     requires as_many { length first.old ≡ length words.now }
     requires second_as_many { length second.old ≡ length words.now }
     ensures size { length first.new ≡ length first.old }
     ensures second_size { length second.new ≡ length second.old }
-    ensures value { (l : ℕ) → l < 64 → lane_bits word_bit l first.new ≡ lane_bits W.at (64 * place + l) words.now }
+    ensures value { (l : ℕ) → l < 64 → lane_bits word_bit l first.new ≡ lane_bits W.at (64 * position + l) words.now }
     ensures second { (l : ℕ) → l < 64 → lane_bits word_bit l second.new ≡ lane_bits W.at (64 * next + l) words.now }
 {
     // A word of many lanes is fetched from far, so that two of its parts are taken at once.
     for k in 0..words.len() {
-        first[k] = words[k].part(place);
+        first[k] = words[k].part(position);
         second[k] = words[k].part(next);
     }
 }
@@ -211,9 +211,15 @@ fn send_all_parts<O: Output, W: Word>(
     let mut sent = 0;
     while sent < lanes {
         let some = (lanes - sent).min(128);
-        let place = sent / 64;
-        let next = if some > 64 { place + 1 } else { place };
-        write_two_parts(words, place, next, one.as_mut_slice(), two.as_mut_slice());
+        let position = sent / 64;
+        let next = if some > 64 { position + 1 } else { position };
+        write_two_parts(
+            words,
+            position,
+            next,
+            one.as_mut_slice(),
+            two.as_mut_slice(),
+        );
         send_two_parts(alloc, out, packing, one.as_slice(), two.as_slice(), some)?;
         sent += some;
     }

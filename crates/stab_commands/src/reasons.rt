@@ -23,20 +23,20 @@ use stab_io::{Fault, Input, Output, Refusal, write_all};
 use stab_report::{Bit, finish, write_decider, write_texts};
 use std::alloc::Global;
 
-/// Writes the coins at places among those that decide, each with the path of the item that takes it.
+/// Writes the coins at positions among those that decide, each with the path of the item that takes it.
 fn write_deciders<O: Output>(
     out: &mut O,
     circuit: &Circuit,
     runs: &CoinRuns,
-    places: &[usize],
+    positions: &[usize],
 ) -> Result<(), Refusal>
     requires checked { check_of (circuit_items circuit.now) ≡ None }
     requires runs { AreCoinRuns (qubits_of (circuit_items circuit.now)) (circuit_items circuit.now) runs.now }
-    requires in_range { All (λ k. k < length runs.now.numbers.items) places.now }
-    ensures writes { WritesAll (O.seen out.old) (O.seen out.new) (flat_map (λ k. decider_text (circuit_items circuit.now) (coin_at (circuit_items circuit.now) k)) places.now) result }
+    requires in_range { All (λ k. k < length runs.now.numbers.items) positions.now }
+    ensures writes { WritesAll (O.seen out.old) (O.seen out.new) (flat_map (λ k. decider_text (circuit_items circuit.now) (coin_at (circuit_items circuit.now) k)) positions.now) result }
 {
-    for place in places {
-        let coin = placed_coin(circuit, runs, *place);
+    for position in positions {
+        let coin = placed_coin(circuit, runs, *position);
         write_decider(out, &coin.decider())?;
     }
     Ok(())
@@ -86,22 +86,22 @@ fn write_front<O: Output>(
     write_coordinates(out, circuit, path)
 }
 
-/// Writes a bit's line, by the path of its first item and the places of the coins that decide it.
+/// Writes a bit's line, by the path of its first item and the positions of the coins that decide it.
 fn write_line<O: Output>(
     out: &mut O,
     circuit: &Circuit,
     runs: &CoinRuns,
     bit: Bit,
     path: &Path,
-    places: &[usize],
+    positions: &[usize],
 ) -> Result<(), Refusal>
     requires checked { check_of (circuit_items circuit.now) ≡ None }
     requires runs { AreCoinRuns (qubits_of (circuit_items circuit.now)) (circuit_items circuit.now) runs.now }
-    requires in_range { All (λ k. k < length runs.now.numbers.items) places.now }
-    ensures writes { WritesAll (O.seen out.old) (O.seen out.new) (((bit_name bit ++ (codes " " ++ path_text path.now)) ++ coordinates_at (circuit_items circuit.now) path.now) ++ (flat_map (λ k. decider_text (circuit_items circuit.now) (coin_at (circuit_items circuit.now) k)) places.now ++ codes "\n")) result }
+    requires in_range { All (λ k. k < length runs.now.numbers.items) positions.now }
+    ensures writes { WritesAll (O.seen out.old) (O.seen out.new) (((bit_name bit ++ (codes " " ++ path_text path.now)) ++ coordinates_at (circuit_items circuit.now) path.now) ++ (flat_map (λ k. decider_text (circuit_items circuit.now) (coin_at (circuit_items circuit.now) k)) positions.now ++ codes "\n")) result }
 {
     write_front(out, circuit, bit, path)?;
-    write_deciders(out, circuit, runs, places)?;
+    write_deciders(out, circuit, runs, positions)?;
     write_all(out, b"\n")
 }
 
@@ -112,40 +112,40 @@ fn send_line<O: Output>(
     runs: &CoinRuns,
     bit: Bit,
     path: &Path,
-    places: &[usize],
+    positions: &[usize],
 ) -> Result<(), Fault>
     requires checked { check_of (circuit_items circuit.now) ≡ None }
     requires runs { AreCoinRuns (qubits_of (circuit_items circuit.now)) (circuit_items circuit.now) runs.now }
-    requires in_range { All (λ k. k < length runs.now.numbers.items) places.now }
-    ensures writes { WritesAllOrFault (O.seen out.old) (O.seen out.new) (((bit_name bit ++ (codes " " ++ path_text path.now)) ++ coordinates_at (circuit_items circuit.now) path.now) ++ (flat_map (λ k. decider_text (circuit_items circuit.now) (coin_at (circuit_items circuit.now) k)) places.now ++ codes "\n")) result }
+    requires in_range { All (λ k. k < length runs.now.numbers.items) positions.now }
+    ensures writes { WritesAllOrFault (O.seen out.old) (O.seen out.new) (((bit_name bit ++ (codes " " ++ path_text path.now)) ++ coordinates_at (circuit_items circuit.now) path.now) ++ (flat_map (λ k. decider_text (circuit_items circuit.now) (coin_at (circuit_items circuit.now) k)) positions.now ++ codes "\n")) result }
 {
-    match write_line(out, circuit, runs, bit, path, places) {
+    match write_line(out, circuit, runs, bit, path, positions) {
         Ok(()) => Ok(()),
         Err(refusal) => Err(Fault::whole(refusal)),
     }
 }
 
-/// Writes the line of the bit of a number, by the places of the coins that decide it; nothing if there are none.
+/// Writes the line of the bit of a number, by the positions of the coins that decide it; nothing if there are none.
 fn write_reason<O: Output>(
     alloc: Global,
     out: &mut O,
     circuit: &Circuit,
     runs: &CoinRuns,
     number: usize,
-    places: &[usize],
+    positions: &[usize],
 ) -> Result<(), Fault>
     requires checked { check_of (circuit_items circuit.now) ≡ None }
     requires runs { AreCoinRuns (qubits_of (circuit_items circuit.now)) (circuit_items circuit.now) runs.now }
     requires in_range { number < bits_in (circuit_items circuit.now) }
-    requires are { numbers_where (decides (circuit_items circuit.now) number) 0 (length runs.now.numbers.items) ≡ places.now }
+    requires are { numbers_where (decides (circuit_items circuit.now) number) 0 (length runs.now.numbers.items) ≡ positions.now }
     ensures sends { SendsUnflushed (reason_text (circuit_items circuit.now) (table_of (qubits_of (circuit_items circuit.now)) (circuit_items circuit.now)) number) (O.seen out.old) (O.seen out.new) result }
 {
-    if places.is_empty() {
+    if positions.is_empty() {
         return Ok(());
     }
     let bit = bit_of(circuit.detectors(), number);
     match path_of_bit(alloc, circuit, bit) {
-        Ok(path) => send_line(out, circuit, runs, bit, &path, places),
+        Ok(path) => send_line(out, circuit, runs, bit, &path, positions),
         Err(refusal) => Err(Fault::whole(refusal)),
     }
 }
@@ -190,8 +190,8 @@ pub fn write_why<O: Output>(
     let runs = CoinRuns::of(alloc, circuit, circuit.qubits())?;
     let lists = deciders(alloc, circuit, &runs)?;
     let number = bit_number(circuit, bit, lists.len());
-    let places = lists[number].as_slice();
-    write_reason(alloc, out, circuit, &runs, number, places)
+    let positions = lists[number].as_slice();
+    write_reason(alloc, out, circuit, &runs, number, positions)
 }
 
 /// Writes the line of each detector and then each observable that is not the same for all random bits.
@@ -209,8 +209,8 @@ fn write_reasons<O: Output>(
     ensures sends { SendsUnflushed (reasons_text (circuit_items circuit.now) (table_of (qubits_of (circuit_items circuit.now)) (circuit_items circuit.now))) (O.seen out.old) (O.seen out.new) result }
 {
     for number in 0..lists.len() {
-        let places = lists[number].as_slice();
-        write_reason(alloc, out, circuit, runs, number, places)?;
+        let positions = lists[number].as_slice();
+        write_reason(alloc, out, circuit, runs, number, positions)?;
     }
     Ok(())
 }

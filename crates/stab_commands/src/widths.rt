@@ -3,7 +3,7 @@ ghost use Rattle.std.specs.Prelude.{◌<◌, ◌≤◌};
 
 use stab_circuit::Circuit;
 
-/// How many bytes the bits of shots that go at once take at most, besides the room that a growing list keeps free. On its way out a
+/// How many bytes the bits of shots that go at once take at most, besides the room that a growing list keeps unused. On its way out a
 /// bit of all of them takes up to 25 bytes more. The run over which they are propagated takes up to three for each of its bits, and
 /// for what is recorded of it 4 MiB and a pointer for each random outcome.
 const MOST_BYTES: usize = 12 * 1024 * 1024;

@@ -1,5 +1,5 @@
 -- Adding errors: errors put after others, one after another, and where their rows are in a list of faults.
-use Rattle.stab_error_model.proofs.Names.{◌≡◌, ℕ, ◌+◌, refl, sym, ap, ◌∙◌, subst, List, [], ◌∷◌, ◌++◌, append_assoc, append-nil, map, take, drop, get_or, length, ◌<◌, All, None, IfSome, map-append, drop-drop, take_more, drop-append_seam, All-append, All-cons, All-nil, Letter, ErrorLetters, Site, FaultPlace, fault_on, faults_on, Error, each_letter, each_product, letter_at, error_shown, Stands, ErrorStands, Adds, HasFrom, IsUnderWay, Place, PlacedLetter, ErrorValue}
+use Rattle.stab_error_model.proofs.Names.{◌≡◌, ℕ, ◌+◌, refl, sym, ap, ◌∙◌, subst, List, [], ◌∷◌, ◌++◌, append_assoc, append-nil, map, take, drop, get_or, length, ◌<◌, All, None, IfSome, map-append, drop-drop, take_more, drop-append_seam, All-append, All-cons, All-nil, Letter, ErrorLetters, Site, FaultPlace, fault_on, faults_on, Error, each_letter, each_product, fault_of_letter, error_shown, Stands, ErrorStands, Adds, HasFrom, IsUnderWay, Place, PlacedLetter, ErrorValue}
 use Rattle.std.specs.Prelude.{Option, Some}
 use Rattle.stab_gates.specs.declared.letter.Letter.TheVariants as letter
 use Rattle.stab_error_model.specs.declared.placed.Error.TheVariants as error
@@ -37,23 +37,23 @@ pub has-next : (row : ℕ) (mine others faults : List FaultPlace) → HasFrom ro
 has-next row mine others faults has =
     (has.0, sym (drop-drop (length mine) row faults) ∙ ap (drop (length mine)) (has.1 ∙ append_assoc mine others has.0) ∙ drop-append_seam mine (others ++ has.0))
 
-pub stands-first : (p : Place) (others faults : List FaultPlace) → HasFrom p.row (letter_at p letter.X ∷ letter_at p letter.Z ∷ others) faults → Stands p faults
+pub stands-first : (p : Place) (others faults : List FaultPlace) → HasFrom p.row (fault_of_letter p letter.X ∷ fault_of_letter p letter.Z ∷ others) faults → Stands p faults
 stands-first p others faults has = (others ++ has.0, has.1)
 
--- where places are
+-- where sites are
 
-pub stands-at : (p : Place) (row t : ℕ) (s : Site) (others faults : List FaultPlace) → p.row ≡ row → ((l : Letter) → letter_at p l ≡ fault_on t s l)
+pub stands-at : (p : Place) (row t : ℕ) (s : Site) (others faults : List FaultPlace) → p.row ≡ row → ((l : Letter) → fault_of_letter p l ≡ fault_on t s l)
     → HasFrom row (faults_on t s ++ others) faults → Stands p faults
 stands-at p row t s others faults row_is is has =
     stands-first p others faults
-    (subst (λ r. HasFrom r (letter_at p letter.X ∷ letter_at p letter.Z ∷ others) faults) (sym row_is)
+    (subst (λ r. HasFrom r (fault_of_letter p letter.X ∷ fault_of_letter p letter.Z ∷ others) faults) (sym row_is)
     (subst (λ (fs : List FaultPlace). HasFrom row fs faults) (λ i. sym (is letter.X) i ∷ sym (is letter.Z) i ∷ others) has))
 
-pub letters-there : (ls : List Letter) (p : Place) (t : ℕ) (s : Site) → ((l : Letter) → letter_at p l ≡ fault_on t s l) → each_letter ls (letter_at p) ≡ each_letter ls (fault_on t s)
+pub letters-there : (ls : List Letter) (p : Place) (t : ℕ) (s : Site) → ((l : Letter) → fault_of_letter p l ≡ fault_on t s l) → each_letter ls (fault_of_letter p) ≡ each_letter ls (fault_on t s)
 letters-there ls p t s is = (λ i. each_letter ls (λ l. is l i))
 
-pub products-there : (asked : ErrorLetters) (p q : Place) (t u : ℕ) (s r : Site) → ((l : Letter) → letter_at p l ≡ fault_on t s l) → ((l : Letter) → letter_at q l ≡ fault_on u r l)
-    → each_product asked (letter_at p) (letter_at q) ≡ each_product asked (fault_on t s) (fault_on u r)
+pub products-there : (asked : ErrorLetters) (p q : Place) (t u : ℕ) (s r : Site) → ((l : Letter) → fault_of_letter p l ≡ fault_on t s l) → ((l : Letter) → fault_of_letter q l ≡ fault_on u r l)
+    → each_product asked (fault_of_letter p) (fault_of_letter q) ≡ each_product asked (fault_on t s) (fault_on u r)
 products-there asked p q t u s r first second = (λ i. each_product asked (λ l. first l i) (λ l. second l i))
 
 -- errors that are under way
@@ -81,36 +81,36 @@ mapped-more f Is xs k x old now new lt is before adds =
     (sym (ap (map f) (take_more xs k x lt ∙ ap (λ y. take k xs ++ y ∷ []) (sym is)) ∙ map-append f (take k xs) (x ∷ [])))
     (adds-more Is (map f (take k xs)) (f x ∷ []) old now new before adds)
 
--- a record by itself, with its places
-pub record-stands : (number : ℕ) (flip : PlacedLetter) (back : Option PlacedLetter) (front following : Place) → flip.place ≡ front → IfSome back (λ f. f.place ≡ following)
+-- a record by itself, with its sites
+pub record-stands : (number : ℕ) (flip : PlacedLetter) (back : Option PlacedLetter) (front following : Place) → flip.site ≡ front → IfSome back (λ f. f.site ≡ following)
     → (faults : List FaultPlace) → Stands front faults × Stands following faults → ErrorStands faults (error.Record number flip back)
 record-stands number flip None front following first second faults stand = subst (λ p. Stands p faults) (sym first) stand.0
 record-stands number flip (Some f) front following first second faults stand =
     (subst (λ p. Stands p faults) (sym first) stand.0, subst (λ p. Stands p faults) (sym second) stand.1)
 
--- letters at a place, whose faults are from a row on
-pub letters-at : (ls : List Letter) (p : Place) (row t : ℕ) (s : Site) (now new : List ErrorValue) → p.row ≡ row → ((l : Letter) → letter_at p l ≡ fault_on t s l)
-    → Adds (Stands p) (each_letter ls (letter_at p)) now new → Adds (HasFrom row (faults_on t s)) (each_letter ls (fault_on t s)) now new
+-- letters at a site, whose faults are from a row on
+pub letters-at : (ls : List Letter) (p : Place) (row t : ℕ) (s : Site) (now new : List ErrorValue) → p.row ≡ row → ((l : Letter) → fault_of_letter p l ≡ fault_on t s l)
+    → Adds (Stands p) (each_letter ls (fault_of_letter p)) now new → Adds (HasFrom row (faults_on t s)) (each_letter ls (fault_on t s)) now new
 letters-at ls p row t s now new row_is is adds =
-    adds-same (HasFrom row (faults_on t s)) (each_letter ls (letter_at p)) (each_letter ls (fault_on t s)) now new (letters-there ls p t s is)
-    (adds-weaker (Stands p) (HasFrom row (faults_on t s)) (each_letter ls (letter_at p)) now new (λ faults has. stands-at p row t s [] faults row_is is has) adds)
+    adds-same (HasFrom row (faults_on t s)) (each_letter ls (fault_of_letter p)) (each_letter ls (fault_on t s)) now new (letters-there ls p t s is)
+    (adds-weaker (Stands p) (HasFrom row (faults_on t s)) (each_letter ls (fault_of_letter p)) now new (λ faults has. stands-at p row t s [] faults row_is is has) adds)
 
--- two places, of which the second is after the first
-pub both-stand : (p r : Place) (row t u : ℕ) (s z : Site) → p.row ≡ row → r.row ≡ row + 2 → ((l : Letter) → letter_at p l ≡ fault_on t s l) → ((l : Letter) → letter_at r l ≡ fault_on u z l)
+-- two sites, of which the second is after the first
+pub both-stand : (p r : Place) (row t u : ℕ) (s z : Site) → p.row ≡ row → r.row ≡ row + 2 → ((l : Letter) → fault_of_letter p l ≡ fault_on t s l) → ((l : Letter) → fault_of_letter r l ≡ fault_on u z l)
     → (faults : List FaultPlace) → HasFrom row (faults_on t s ++ faults_on u z) faults → Stands p faults × Stands r faults
 both-stand p r row t u s z p_row r_row p_is r_is faults has = (
   stands-at p row t s (faults_on u z) faults p_row p_is has,
   stands-at r (row + 2) u z [] faults r_row r_is (has-next row (faults_on t s) (faults_on u z) faults has),
 )
 
--- products at two places
+-- products at two sites
 pub products-at : (asked : ErrorLetters) (p r : Place) (row t u : ℕ) (s z : Site) (now new : List ErrorValue) → p.row ≡ row → r.row ≡ row + 2
-    → ((l : Letter) → letter_at p l ≡ fault_on t s l) → ((l : Letter) → letter_at r l ≡ fault_on u z l)
-    → Adds (λ faults. Stands p faults × Stands r faults) (each_product asked (letter_at p) (letter_at r)) now new
+    → ((l : Letter) → fault_of_letter p l ≡ fault_on t s l) → ((l : Letter) → fault_of_letter r l ≡ fault_on u z l)
+    → Adds (λ faults. Stands p faults × Stands r faults) (each_product asked (fault_of_letter p) (fault_of_letter r)) now new
     → Adds (HasFrom row (faults_on t s ++ faults_on u z)) (each_product asked (fault_on t s) (fault_on u z)) now new
 products-at asked p r row t u s z now new p_row r_row p_is r_is adds =
     let both : List FaultPlace = faults_on t s ++ faults_on u z in
-    adds-same (HasFrom row both) (each_product asked (letter_at p) (letter_at r)) (each_product asked (fault_on t s) (fault_on u z)) now new
+    adds-same (HasFrom row both) (each_product asked (fault_of_letter p) (fault_of_letter r)) (each_product asked (fault_on t s) (fault_on u z)) now new
     (products-there asked p r t u s z p_is r_is)
-    (adds-weaker (λ faults. Stands p faults × Stands r faults) (HasFrom row both) (each_product asked (letter_at p) (letter_at r)) now new
+    (adds-weaker (λ faults. Stands p faults × Stands r faults) (HasFrom row both) (each_product asked (fault_of_letter p) (fault_of_letter r)) now new
     (both-stand p r row t u s z p_row r_row p_is r_is) adds)

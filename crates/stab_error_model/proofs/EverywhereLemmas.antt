@@ -1,5 +1,5 @@
 -- Errors everywhere: the faults of a table at a step, and at the factors of a product.
-use Rattle.stab_error_model.proofs.Names.{◌≡◌, ℕ, ◌+◌, ◌*◌, ◌≤◌, refl, Bool, true, false, List, [], ◌∷◌, ◌++◌, length, arith, Letter, Factor, Step, one, two, controlled, collapse, product, detector, observable, makes, FaultPlace, in_front, following, fault_on, faults_on, ErrorLetters, Error, each_letter, errors_at, letters_asked, wrong_record, letter_at, Stands, Adds, HasFrom, IsUnderWay, factor_errors, factor_faults, measured_errors, Place, ErrorValue}
+use Rattle.stab_error_model.proofs.Names.{◌≡◌, ℕ, ◌+◌, ◌*◌, ◌≤◌, refl, Bool, true, false, List, [], ◌∷◌, ◌++◌, length, arith, Letter, Factor, Step, one, two, controlled, collapse, product, detector, observable, makes, FaultPlace, in_front, following, fault_on, faults_on, ErrorLetters, Error, each_letter, errors_at, letters_asked, wrong_record, fault_of_letter, Stands, Adds, HasFrom, IsUnderWay, factor_errors, factor_faults, measured_errors, Place, ErrorValue}
 use Rattle.stab_error_model.proofs.AddingLemmas.{adds-same, adds-weaker, both-stand, has-first, letters-there, stands-at, under-way-more}
 
 pub long-factors : (t : ℕ) (factors : List Factor) → length (factor_faults t factors) ≡ 4 * length factors
@@ -8,16 +8,16 @@ long-factors t (f ∷ fs) = omega (arith, long-factors t fs)
 
 -- the letters in front of a factor, and the rest
 pub factor-more : (ls : List Letter) (Is : List FaultPlace → Type 0) (all : List Error) (row next t : ℕ) (f : Factor) (fs : List Factor) (p : Place) (old now new : List ErrorValue)
-    → p.row ≡ row → ((l : Letter) → letter_at p l ≡ fault_on t (in_front f.qubit) l) → next ≡ row + 4
+    → p.row ≡ row → ((l : Letter) → fault_of_letter p l ≡ fault_on t (in_front f.qubit) l) → next ≡ row + 4
     → IsUnderWay Is all (factor_errors ls t (f ∷ fs)) row (factor_faults t (f ∷ fs)) old now
-    → Adds (Stands p) (each_letter ls (letter_at p)) now new
+    → Adds (Stands p) (each_letter ls (fault_of_letter p)) now new
     → IsUnderWay Is all (factor_errors ls t fs) next (factor_faults t fs) old new
 factor-more ls Is all row next t f fs p old now new row_is is next_is way adds =
     let mine : List FaultPlace = faults_on t (in_front f.qubit) ++ faults_on t (following f.qubit) in
     under-way-more Is all (each_letter ls (fault_on t (in_front f.qubit))) (factor_errors ls t fs) row next mine (factor_faults t fs) old now new next_is way
-    (adds-same (HasFrom row mine) (each_letter ls (letter_at p)) (each_letter ls (fault_on t (in_front f.qubit))) now new
+    (adds-same (HasFrom row mine) (each_letter ls (fault_of_letter p)) (each_letter ls (fault_on t (in_front f.qubit))) now new
     (letters-there ls p t (in_front f.qubit) is)
-    (adds-weaker (Stands p) (HasFrom row mine) (each_letter ls (letter_at p)) now new
+    (adds-weaker (Stands p) (HasFrom row mine) (each_letter ls (fault_of_letter p)) now new
     (λ faults has. stands-at p row t (in_front f.qubit) (faults_on t (following f.qubit)) faults row_is is has) adds))
 
 -- a step makes one record at most
@@ -37,26 +37,26 @@ pub measured-are : (asked : ErrorLetters) (t m q : ℕ) (l : Letter) (inverted r
 measured-are asked t m q l inverted true = refl
 measured-are asked t m q l inverted false = refl
 
--- and at its places
+-- and at its sites
 pub measured-at : (ls : List Letter) (p r : Place) (row t m q : ℕ) (l : Letter) (resets : Bool) (now new : List ErrorValue) → p.row ≡ row → r.row ≡ row + 2
-    → ((k : Letter) → letter_at p k ≡ fault_on t (in_front q) k) → ((k : Letter) → letter_at r k ≡ fault_on t (following q) k)
-    → Adds (λ faults. Stands p faults × Stands r faults) (measured_errors ls l (letter_at p) (letter_at r) resets m) now new
+    → ((k : Letter) → fault_of_letter p k ≡ fault_on t (in_front q) k) → ((k : Letter) → fault_of_letter r k ≡ fault_on t (following q) k)
+    → Adds (λ faults. Stands p faults × Stands r faults) (measured_errors ls l (fault_of_letter p) (fault_of_letter r) resets m) now new
     → Adds (HasFrom row (faults_on t (in_front q) ++ faults_on t (following q))) (measured_errors ls l (fault_on t (in_front q)) (fault_on t (following q)) resets m) now new
 measured-at ls p r row t m q l resets now new p_row r_row p_is r_is adds =
     let both : List FaultPlace = faults_on t (in_front q) ++ faults_on t (following q) in
-    adds-same (HasFrom row both) (measured_errors ls l (letter_at p) (letter_at r) resets m) (measured_errors ls l (fault_on t (in_front q)) (fault_on t (following q)) resets m) now new
+    adds-same (HasFrom row both) (measured_errors ls l (fault_of_letter p) (fault_of_letter r) resets m) (measured_errors ls l (fault_on t (in_front q)) (fault_on t (following q)) resets m) now new
     (λ i. measured_errors ls l (λ k. p_is k i) (λ k. r_is k i) resets m)
-    (adds-weaker (λ faults. Stands p faults × Stands r faults) (HasFrom row both) (measured_errors ls l (letter_at p) (letter_at r) resets m) now new
+    (adds-weaker (λ faults. Stands p faults × Stands r faults) (HasFrom row both) (measured_errors ls l (fault_of_letter p) (fault_of_letter r) resets m) now new
     (both-stand p r row t t (in_front q) (following q) p_row r_row p_is r_is) adds)
 
--- a record by itself, at the places of a product's first factor
+-- a record by itself, at the sites of a product's first factor
 pub record-at : (p r : Place) (row t m q : ℕ) (k : Letter) (others : List FaultPlace) (now new : List ErrorValue) → p.row ≡ row → r.row ≡ row + 2
-    → ((l : Letter) → letter_at p l ≡ fault_on t (in_front q) l) → ((l : Letter) → letter_at r l ≡ fault_on t (following q) l)
-    → Adds (λ faults. Stands p faults × Stands r faults) (wrong_record m (letter_at p k) (letter_at r k ∷ []) ∷ []) now new
+    → ((l : Letter) → fault_of_letter p l ≡ fault_on t (in_front q) l) → ((l : Letter) → fault_of_letter r l ≡ fault_on t (following q) l)
+    → Adds (λ faults. Stands p faults × Stands r faults) (wrong_record m (fault_of_letter p k) (fault_of_letter r k ∷ []) ∷ []) now new
     → Adds (HasFrom row ((faults_on t (in_front q) ++ faults_on t (following q)) ++ others)) (wrong_record m (fault_on t (in_front q) k) (fault_on t (following q) k ∷ []) ∷ []) now new
 record-at p r row t m q k others now new p_row r_row p_is r_is adds =
     let both : List FaultPlace = faults_on t (in_front q) ++ faults_on t (following q) in
-    adds-same (HasFrom row (both ++ others)) (wrong_record m (letter_at p k) (letter_at r k ∷ []) ∷ []) (wrong_record m (fault_on t (in_front q) k) (fault_on t (following q) k ∷ []) ∷ []) now new
+    adds-same (HasFrom row (both ++ others)) (wrong_record m (fault_of_letter p k) (fault_of_letter r k ∷ []) ∷ []) (wrong_record m (fault_on t (in_front q) k) (fault_on t (following q) k ∷ []) ∷ []) now new
     (λ i. wrong_record m (p_is k i) (r_is k i ∷ []) ∷ [])
-    (adds-weaker (λ faults. Stands p faults × Stands r faults) (HasFrom row (both ++ others)) (wrong_record m (letter_at p k) (letter_at r k ∷ []) ∷ []) now new
+    (adds-weaker (λ faults. Stands p faults × Stands r faults) (HasFrom row (both ++ others)) (wrong_record m (fault_of_letter p k) (fault_of_letter r k ∷ []) ∷ []) now new
     (λ faults has. both-stand p r row t t (in_front q) (following q) p_row r_row p_is r_is faults (has-first row both others faults has)) adds)

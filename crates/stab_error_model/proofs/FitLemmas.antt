@@ -1,5 +1,5 @@
 -- Errors that fit a circuit: what they flip adds, and they have a table.
-use Rattle.stab_error_model.proofs.Names.{◌≡◌, ℕ, ◌<◌, refl, sym, ap, ◌∙◌, Bool, true, false, List, [], ◌∷◌, ◌++◌, map, arith, All, Contains, ◌&&◌, slice_index_or, flat_map, All-nil, All-head, All-tail, All-append, All-contains, ◌⊕◌, parity-assoc, Items, unroll, detectors_of, StepFits, FaultPlace, bits_in, IsDeterministic, AreDeterministic, flips, FaultFits, flips_together, FaultsAdd, DeterministicParities, PlacesFlipDeterministicParities, where-same, Error, faults_in, ErrorTableState, IsErrorTable, flip_together, flipped_by, flip_each, ErrorsAdd, observables_of, deterministic-found}
+use Rattle.stab_error_model.proofs.Names.{◌≡◌, ℕ, ◌<◌, refl, sym, ap, ◌∙◌, Bool, true, false, List, [], ◌∷◌, ◌++◌, map, arith, All, Contains, ◌&&◌, slice_index_or, flat_map, All-nil, All-head, All-tail, All-append, All-contains, ◌⊕◌, parity-assoc, Items, unroll, detectors_of, StepFits, FaultPlace, bits_in, IsDeterministic, AreDeterministic, flips, FaultFits, flips_together, FaultsAdd, DeterministicParities, SitesFlipDeterministicParities, where-same, Error, faults_in, ErrorTableState, IsErrorTable, flip_together, flipped_by, flip_each, ErrorsAdd, observables_of, deterministic-found}
 
 pub together-append : (g : FaultPlace → Bool) (xs ys : List FaultPlace) → flips_together g (xs ++ ys) ≡ flips_together g xs ⊕ flips_together g ys
 together-append g [] ys = refl
@@ -36,7 +36,7 @@ module _ (n : ℕ) (items : Items) (fits : All (StepFits n) (unroll items)) (add
 -- what an error flips of deterministic bits does not depend on coins
 
 module _ (n : ℕ) (items : Items) (deterministic : List Bool) (fits : All (StepFits n) (unroll items)) (are_deterministic : AreDeterministic n items deterministic)
-    (found : DeterministicParities) (places : PlacesFlipDeterministicParities) (adds : FaultsAdd) (coins others : ℕ → Bool) where
+    (found : DeterministicParities) (sites : SitesFlipDeterministicParities) (adds : FaultsAdd) (coins others : ℕ → Bool) where
   module _ (i : ℕ) (lt : i < bits_in items) (same : IsDeterministic n items i) where
     faults-alike : (fs : List FaultPlace) → All (FaultFits n (unroll items)) fs → flips_together (λ f. flips n items coins f i) fs ≡ flips_together (λ f. flips n items others f i) fs
     faults-alike [] fit = refl
@@ -44,7 +44,7 @@ module _ (n : ℕ) (items : Items) (deterministic : List Bool) (fits : All (Step
         let here = All-head (FaultFits n (unroll items)) f fs fit in
         let is_deterministic = (found n (observables_of items) (unroll items) i fits lt).1 same in
         (λ t.
-        (places n items i f fits lt here.qubit is_deterministic coins ∙ sym (places n items i f fits lt here.qubit is_deterministic others)) t
+        (sites n items i f fits lt here.qubit is_deterministic coins ∙ sym (sites n items i f fits lt here.qubit is_deterministic others)) t
         ⊕ faults-alike fs (All-tail (FaultFits n (unroll items)) f fs fit) t)
 
     error-alike : (e : Error) → Fits n items e → flip_together n items coins (faults_in e) i ≡ flip_together n items others (faults_in e) i
@@ -72,7 +72,7 @@ module _ (n : ℕ) (items : Items) (deterministic : List Bool) (fits : All (Step
 
 -- so there is a table
 
-module _ (n : ℕ) (items : Items) (fits : All (StepFits n) (unroll items)) (found : DeterministicParities) (places : PlacesFlipDeterministicParities) (adds : FaultsAdd) where
+module _ (n : ℕ) (items : Items) (fits : All (StepFits n) (unroll items)) (found : DeterministicParities) (sites : SitesFlipDeterministicParities) (adds : FaultsAdd) where
   pub table-found : (errors : List Error) → All (Fits n items) errors → (t : ErrorTableState) × (t.errors ≡ errors) × IsErrorTable n items t
   table-found errors fit =
       let deterministic = deterministic-found found n items fits in
@@ -82,7 +82,7 @@ module _ (n : ℕ) (items : Items) (fits : All (StepFits n) (unroll items)) (fou
         record {
           are_deterministic = deterministic.1;
           detectors = refl;
-          are_flipped = λ others. rows-alike n items deterministic.0 fits deterministic.1 found places adds coins others errors fit;
+          are_flipped = λ others. rows-alike n items deterministic.0 fits deterministic.1 found sites adds coins others errors fit;
           add = errors-add n items fits adds errors fit;
         },
       )

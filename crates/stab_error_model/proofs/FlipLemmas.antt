@@ -1,5 +1,5 @@
 -- Flips: what an error flips of a run, by the rows of a table of faults.
-use Rattle.stab_error_model.proofs.Names.{◌≡◌, ℕ, zero, suc, ◌+◌, ◌<◌, ◌≤◌, ◌⊎◌, inl, inr, refl, sym, ap, ◌∙◌, subst, Bool, true, false, List, [], ◌∷◌, map, length, drop, arith, All, ◌&&◌, None, slice_index_or, if◌then◌else◌, cases_lt, ne_eqb, get_or-map, get_or_past, length-map, drop-drop, All-nil, All-cons, All-head, All-tail, Letter, ◌⊕◌, letters_anticommute, parity-false, letter_of_string, one_letter-anticommute, Items, unroll, detectors_of, StepFits, row, bits_at, parity_region, FaultPlace, in_front, fault_on, faults_of, fault_at, numbers_where, bits_in, IsDeterministic, IsFaultTable, flips, flipped, FaultFits, flips_together, FaultsAdd, DeterministicParities, PlacesFlipDeterministicParities, bits-letter, long-parity, ascending-is, ascends-below, where-same, fault-fits, odd-where, row-names, faults_in, letter_at, fault_shown, error_shown, IsErrorTable, flip_together, flipped_by, Stands, ErrorStands, letter_names, error_names, IsRowOf, AreRowsOf, Place, PlacedLetter, ErrorValue, observables_of}
+use Rattle.stab_error_model.proofs.Names.{◌≡◌, ℕ, zero, suc, ◌+◌, ◌<◌, ◌≤◌, ◌⊎◌, inl, inr, refl, sym, ap, ◌∙◌, subst, Bool, true, false, List, [], ◌∷◌, map, length, drop, arith, All, ◌&&◌, None, slice_index_or, if◌then◌else◌, cases_lt, ne_eqb, get_or-map, get_or_past, length-map, drop-drop, All-nil, All-cons, All-head, All-tail, Letter, ◌⊕◌, letters_anticommute, parity-false, letter_of_string, one_letter-anticommute, Items, unroll, detectors_of, StepFits, row, bits_at, parity_region, FaultPlace, in_front, fault_on, faults_of, fault_at, numbers_where, bits_in, IsDeterministic, IsFaultTable, flips, flipped_by_fault, FaultFits, flips_together, FaultsAdd, DeterministicParities, SitesFlipDeterministicParities, bits-letter, long-parity, ascending-is, ascends-below, where-same, fault-fits, odd-where, row-names, faults_in, fault_of_letter, fault_shown, error_shown, IsErrorTable, flip_together, flipped_by, Stands, ErrorStands, letter_names, error_names, IsRowOf, AreRowsOf, Place, PlacedLetter, ErrorValue, observables_of}
 use Rattle.std.specs.Prelude.{Some}
 use Rattle.stab_gates.specs.declared.letter.Letter.TheVariants as letter
 use Rattle.stab_regions.specs.Rows.{odd}
@@ -25,11 +25,11 @@ odd-past f i (suc k) m le = past-step (f i) i m (numbers_where f (i + 1) k) (λ 
 
 -- nor one without the property
 pub odd-without : (f : ℕ → Bool) (k m : ℕ) → (m < k → f m ≡ false) → odd m (numbers_where f 0 k) ≡ false
-odd-without f k m without = by_place (cases_lt m k)
+odd-without f k m without = by_site (cases_lt m k)
   where
-    by_place : (m < k) ⊎ (k ≤ m) → odd m (numbers_where f 0 k) ≡ false
-    by_place (inl less) = odd-where f 0 k m (omega arith) (omega (arith, less)) ∙ without less
-    by_place (inr more) = odd-past f 0 k m (omega (arith, more))
+    by_site : (m < k) ⊎ (k ≤ m) → odd m (numbers_where f 0 k) ≡ false
+    by_site (inl less) = odd-where f 0 k m (omega arith) (omega (arith, less)) ∙ without less
+    by_site (inr more) = odd-past f 0 k m (omega (arith, more))
 
 -- a bit that is not set
 pub unset : (b : Bool) (other : Bool) → b ≡ false → (b && other) ≡ false
@@ -38,54 +38,54 @@ unset b other e = ap (λ c. c && other) e
 pub set : (b : Bool) (other : Bool) → b ≡ true → (b && other) ≡ other
 set b other e = ap (λ c. c && other) e
 
--- letters at one place
+-- letters at one site
 
 module _ (n : ℕ) (everywhere : Bool) (items : Items) (deterministic : List Bool) (rows : List (List ℕ)) (fits : All (StepFits n) (unroll items))
-    (table : IsFaultTable n everywhere items deterministic rows) (found : DeterministicParities) (places : PlacesFlipDeterministicParities) (adds : FaultsAdd) where
+    (table : IsFaultTable n everywhere items deterministic rows) (found : DeterministicParities) (sites : SitesFlipDeterministicParities) (adds : FaultsAdd) where
   abbrev faults : List FaultPlace
   faults = faults_of everywhere (unroll items)
 
   as-many : length rows ≡ length faults
-  as-many = ap length (table.are_flipped (λ t. false)) ∙ length-map faults (flipped n items deterministic (λ t. false))
+  as-many = ap length (table.are_flipped (λ t. false)) ∙ length-map faults (flipped_by_fault n items deterministic (λ t. false))
 
-  -- a place where X and Z are has its numbers
+  -- a site where X and Z are has its numbers
 
-  x-place : (p : Place) → Stands p faults → (p.row < length faults) × (fault_at everywhere (unroll items) p.row ≡ letter_at p letter.X)
-  x-place p stands = dropped-first p.row faults (letter_at p letter.X) (fault_on 0 (in_front 0) letter.X) (letter_at p letter.Z ∷ stands.0) stands.1
+  x-site : (p : Place) → Stands p faults → (p.row < length faults) × (fault_at everywhere (unroll items) p.row ≡ fault_of_letter p letter.X)
+  x-site p stands = dropped-first p.row faults (fault_of_letter p letter.X) (fault_on 0 (in_front 0) letter.X) (fault_of_letter p letter.Z ∷ stands.0) stands.1
 
-  z-place : (p : Place) → Stands p faults → (p.row + 1 < length faults) × (fault_at everywhere (unroll items) (p.row + 1) ≡ letter_at p letter.Z)
-  z-place p stands =
-      dropped-first (p.row + 1) faults (letter_at p letter.Z) (fault_on 0 (in_front 0) letter.X) stands.0
+  z-site : (p : Place) → Stands p faults → (p.row + 1 < length faults) × (fault_at everywhere (unroll items) (p.row + 1) ≡ fault_of_letter p letter.Z)
+  z-site p stands =
+      dropped-first (p.row + 1) faults (fault_of_letter p letter.Z) (fault_on 0 (in_front 0) letter.X) stands.0
       (sym (drop-drop 1 p.row faults) ∙ ap (drop 1) stands.1)
 
-  pub place-fits : (p : Place) (l : Letter) → Stands p faults → FaultFits n (unroll items) (letter_at p l)
-  place-fits p l stands =
-      let x = x-place p stands in
-      let fit : FaultFits n (unroll items) (letter_at p letter.X) = subst (FaultFits n (unroll items)) x.1 (fault-fits n everywhere (unroll items) p.row fits x.0) in
+  pub site-fits : (p : Place) (l : Letter) → Stands p faults → FaultFits n (unroll items) (fault_of_letter p l)
+  site-fits p l stands =
+      let x = x-site p stands in
+      let fit : FaultFits n (unroll items) (fault_of_letter p letter.X) = subst (FaultFits n (unroll items)) x.1 (fault-fits n everywhere (unroll items) p.row fits x.0) in
       record { qubit = fit.qubit; before = fit.before }
 
   module _ (i : ℕ) (lt : i < bits_in items) (same : IsDeterministic n items i) (coins : ℕ → Bool) where
-    x-flips : (p : Place) → Stands p faults → flips n items coins (letter_at p letter.X) i ≡ odd i (row rows p.row)
+    x-flips : (p : Place) → Stands p faults → flips n items coins (fault_of_letter p letter.X) i ≡ odd i (row rows p.row)
     x-flips p stands =
-        let x = x-place p stands in
+        let x = x-site p stands in
         ap (λ f. flips n items coins f i) (sym x.1) ∙ row-names n everywhere items deterministic rows fits table i lt same coins p.row (omega (arith, x.0, as-many))
 
-    z-flips : (p : Place) → Stands p faults → flips n items coins (letter_at p letter.Z) i ≡ odd i (row rows (p.row + 1))
+    z-flips : (p : Place) → Stands p faults → flips n items coins (fault_of_letter p letter.Z) i ≡ odd i (row rows (p.row + 1))
     z-flips p stands =
-        let z = z-place p stands in
+        let z = z-site p stands in
         ap (λ f. flips n items coins f i) (sym z.1) ∙ row-names n everywhere items deterministic rows fits table i lt same coins (p.row + 1) (omega (arith, z.0, as-many))
 
     -- a letter flips the bit if it anticommutes with the region's letter there
     letter-meets : (p : Place) (l : Letter) → Stands p faults
-        → flips n items coins (letter_at p l) i
+        → flips n items coins (fault_of_letter p l) i
         ≡ letters_anticommute l (letter_of_string (parity_region n (detectors_of (unroll items)) i (drop p.before (unroll items))).string.letters p.qubit)
     letter-meets p l stands =
-        let fit = place-fits p l stands in
-        places n items i (letter_at p l) fits lt fit.qubit ((found n (observables_of items) (unroll items) i fits lt).1 same) coins
+        let fit = site-fits p l stands in
+        sites n items i (fault_of_letter p l) fits lt fit.qubit ((found n (observables_of items) (unroll items) i fits lt).1 same) coins
         ∙ one_letter-anticommute n p.qubit l (parity_region n (detectors_of (unroll items)) i (drop p.before (unroll items))).string.letters
         (long-parity n (detectors_of (unroll items)) i (drop p.before (unroll items))) fit.qubit
 
-    pub letter-flips : (p : Place) (l : Letter) → Stands p faults → flips n items coins (letter_at p l) i ≡ bits_at i l (row rows p.row) (row rows (p.row + 1))
+    pub letter-flips : (p : Place) (l : Letter) → Stands p faults → flips n items coins (fault_of_letter p l) i ≡ bits_at i l (row rows p.row) (row rows (p.row + 1))
     letter-flips p l stands =
         letter-meets p l stands
         ∙ sym (bits-letter i l (letter_of_string (parity_region n (detectors_of (unroll items)) i (drop p.before (unroll items))).string.letters p.qubit)
@@ -98,28 +98,28 @@ module _ (n : ℕ) (everywhere : Bool) (items : Items) (deterministic : List Boo
   pub error-fits : (e : ErrorValue) → ErrorStands faults e → All (FaultFits n (unroll items)) (faults_in (error_shown e))
   error-fits (error.Letter f) stands = one f stands
     where
-      one : (f : PlacedLetter) → Stands f.place faults → All (FaultFits n (unroll items)) (fault_shown f ∷ [])
-      one f stands = All-cons (FaultFits n (unroll items)) (fault_shown f) [] (place-fits f.place f.letter stands) (All-nil (FaultFits n (unroll items)))
+      one : (f : PlacedLetter) → Stands f.site faults → All (FaultFits n (unroll items)) (fault_shown f ∷ [])
+      one f stands = All-cons (FaultFits n (unroll items)) (fault_shown f) [] (site-fits f.site f.letter stands) (All-nil (FaultFits n (unroll items)))
   error-fits (error.Letters f g) stands = two f g stands.0 stands.1
     where
-      two : (f g : PlacedLetter) → Stands f.place faults → Stands g.place faults → All (FaultFits n (unroll items)) (fault_shown f ∷ fault_shown g ∷ [])
+      two : (f g : PlacedLetter) → Stands f.site faults → Stands g.site faults → All (FaultFits n (unroll items)) (fault_shown f ∷ fault_shown g ∷ [])
       two f g first second =
-          All-cons (FaultFits n (unroll items)) (fault_shown f) (fault_shown g ∷ []) (place-fits f.place f.letter first)
-          (All-cons (FaultFits n (unroll items)) (fault_shown g) [] (place-fits g.place g.letter second) (All-nil (FaultFits n (unroll items))))
+          All-cons (FaultFits n (unroll items)) (fault_shown f) (fault_shown g ∷ []) (site-fits f.site f.letter first)
+          (All-cons (FaultFits n (unroll items)) (fault_shown g) [] (site-fits g.site g.letter second) (All-nil (FaultFits n (unroll items))))
   error-fits (error.Record number f None) stands =
-      All-cons (FaultFits n (unroll items)) (fault_shown f) [] (place-fits f.place f.letter stands) (All-nil (FaultFits n (unroll items)))
+      All-cons (FaultFits n (unroll items)) (fault_shown f) [] (site-fits f.site f.letter stands) (All-nil (FaultFits n (unroll items)))
   error-fits (error.Record number f (Some g)) stands =
-      All-cons (FaultFits n (unroll items)) (fault_shown f) (fault_shown g ∷ []) (place-fits f.place f.letter stands.0)
-      (All-cons (FaultFits n (unroll items)) (fault_shown g) [] (place-fits g.place g.letter stands.1) (All-nil (FaultFits n (unroll items))))
+      All-cons (FaultFits n (unroll items)) (fault_shown f) (fault_shown g ∷ []) (site-fits f.site f.letter stands.0)
+      (All-cons (FaultFits n (unroll items)) (fault_shown g) [] (site-fits g.site g.letter stands.1) (All-nil (FaultFits n (unroll items))))
 
   module _ (i : ℕ) (lt : i < bits_in items) (same : IsDeterministic n items i) (coins : ℕ → Bool) where
-    -- letters at one and at two places
-    one-flips : (f : PlacedLetter) → Stands f.place faults → flips_together (λ g. flips n items coins g i) (fault_shown f ∷ []) ≡ letter_names i rows f
-    one-flips f stands = parity-false (flips n items coins (fault_shown f) i) ∙ letter-flips i lt same coins f.place f.letter stands
+    -- letters at one and at two sites
+    one-flips : (f : PlacedLetter) → Stands f.site faults → flips_together (λ g. flips n items coins g i) (fault_shown f ∷ []) ≡ letter_names i rows f
+    one-flips f stands = parity-false (flips n items coins (fault_shown f) i) ∙ letter-flips i lt same coins f.site f.letter stands
 
-    two-flip : (f g : PlacedLetter) → Stands f.place faults → Stands g.place faults
+    two-flip : (f g : PlacedLetter) → Stands f.site faults → Stands g.site faults
         → flips_together (λ h. flips n items coins h i) (fault_shown f ∷ fault_shown g ∷ []) ≡ letter_names i rows f ⊕ letter_names i rows g
-    two-flip f g first second = (λ t. letter-flips i lt same coins f.place f.letter first t ⊕ one-flips g second t)
+    two-flip f g first second = (λ t. letter-flips i lt same coins f.site f.letter first t ⊕ one-flips g second t)
 
     together : (e : ErrorValue) → ErrorStands faults e → flips_together (λ f. flips n items coins f i) (faults_in (error_shown e)) ≡ error_names i rows e
     together (error.Letter f) stands = one-flips f stands
@@ -134,19 +134,19 @@ module _ (n : ℕ) (everywhere : Bool) (items : Items) (deterministic : List Boo
   -- bits that are not deterministic, and numbers that are of no bit, are in no row
 
   row-without : (i : ℕ) → (i < bits_in items → slice_index_or deterministic i false ≡ false) → (k : ℕ) → odd i (row rows k) ≡ false
-  row-without i without k = by_place (cases_lt k (length rows))
+  row-without i without k = by_site (cases_lt k (length rows))
     where
       coins : ℕ → Bool
       coins = λ t. false
 
-      by_place : (k < length rows) ⊎ (length rows ≤ k) → odd i (row rows k) ≡ false
-      by_place (inl less) =
+      by_site : (k < length rows) ⊎ (length rows ≤ k) → odd i (row rows k) ≡ false
+      by_site (inl less) =
           ap (odd i)
           (ap (λ rs. row rs k) (table.are_flipped coins)
-          ∙ get_or-map (flipped n items deterministic coins) faults k (fault_on 0 (in_front 0) letter.X) [] (omega (arith, less, as-many)))
+          ∙ get_or-map (flipped_by_fault n items deterministic coins) faults k (fault_on 0 (in_front 0) letter.X) [] (omega (arith, less, as-many)))
           ∙ odd-without (λ m. slice_index_or deterministic m false && flips n items coins (fault_at everywhere (unroll items) k) m) (bits_in items) i
           (λ inside. unset (slice_index_or deterministic i false) (flips n items coins (fault_at everywhere (unroll items) k) i) (without inside))
-      by_place (inr more) = ap (odd i) (get_or_past rows k [] more)
+      by_site (inr more) = ap (odd i) (get_or_past rows k [] more)
 
   bits-without : (i : ℕ) (l : Letter) (by_x by_z : List ℕ) → odd i by_x ≡ false → odd i by_z ≡ false → bits_at i l by_x by_z ≡ false
   bits-without i letter.I by_x by_z x z = refl
@@ -156,7 +156,7 @@ module _ (n : ℕ) (everywhere : Bool) (items : Items) (deterministic : List Boo
 
   module _ (i : ℕ) (without : i < bits_in items → slice_index_or deterministic i false ≡ false) where
     letter-without : (f : PlacedLetter) → letter_names i rows f ≡ false
-    letter-without f = bits-without i f.letter (row rows f.place.row) (row rows (f.place.row + 1)) (row-without i without f.place.row) (row-without i without (f.place.row + 1))
+    letter-without f = bits-without i f.letter (row rows f.site.row) (row rows (f.site.row + 1)) (row-without i without f.site.row) (row-without i without (f.site.row + 1))
 
     error-without : (e : ErrorValue) → error_names i rows e ≡ false
     error-without (error.Letter f) = letter-without f

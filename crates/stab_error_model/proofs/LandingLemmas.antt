@@ -45,7 +45,7 @@ errors-following asked t m (x ∷ xs) ys e has =
     (subst (λ u. Contains (errors_from asked u ((m + makes x) + records_of xs) ys) e) steps
     (subst (λ k. Contains (errors_from asked (t + length (x ∷ xs)) k ys) e) records has)))
 
--- what a letter at a place of all steps flips of a parity, by the pass backwards
+-- what a letter at a site of all steps flips of a parity, by the pass backwards
 abbrev pub there_flips : (n D : ℕ) → List Step → (i : ℕ) → FaultPlace → Bool
 there_flips n D xs i f = parity_flips n D i f.letter f.qubit (drop f.before xs)
 
@@ -53,7 +53,7 @@ there_flips n D xs i f = parity_flips n D i f.letter f.qubit (drop f.before xs)
 abbrev pub LandsNowhere : (n D : ℕ) → (ℕ → Type 0) → Letter → (qubit : ℕ) → List Step → Type 0
 LandsNowhere n D Is k p ys = (i : ℕ) → Is i → parity_flips n D i k p ys ≡ false
 
--- it flips what a letter at a place flips, and each letter there is an error, if it is asked for
+-- it flips what a letter at a site flips, and each letter there is an error, if it is asked for
 pub record LandsOnOne (n D : ℕ) (xs : List Step) (Is : ℕ → Type 0) (t m : ℕ) (k : Letter) (p : ℕ) (ys : List Step) : Type 0 where
   pub step : ℕ
   pub site : Site
@@ -62,7 +62,7 @@ pub record LandsOnOne (n D : ℕ) (xs : List Step) (Is : ℕ → Type 0) (t m : 
   pub listed : (asked : ErrorLetters) (l : Letter) → Contains (letters_asked asked) l → Contains (errors_from asked t m ys) (letter (fault_on step site l))
   pub flips : (i : ℕ) → Is i → parity_flips n D i k p ys ≡ there_flips n D xs i (fault_on step site image)
 
--- it flips what letters at two places flip, and each product there is an error, if it is asked for
+-- it flips what letters at two sites flip, and each product there is an error, if it is asked for
 pub record LandsOnTwo (n D : ℕ) (xs : List Step) (Is : ℕ → Type 0) (t m : ℕ) (k : Letter) (p : ℕ) (ys : List Step) : Type 0 where
   pub step : ℕ
   pub first : Site
@@ -128,7 +128,7 @@ module _ (n D : ℕ) (xs : List Step) (Is : ℕ → Type 0) where
       flips = λ i is. same i is ∙ on.flips i is;
     }))
 
-    -- one that has errors at a place
+    -- one that has errors at a site
     stays : (site : Site) (image : Letter) → site.qubit < n → ((asked : ErrorLetters) (l : Letter) → Contains (letters_asked asked) l → Contains (errors_at asked t m x) (letter (fault_on t site l)))
         → ((i : ℕ) → Is i → parity_flips n D i k p (x ∷ rest) ≡ there_flips n D xs i (fault_on t site image)) → Here
     stays site image inside listed flips = inr (inl (record {
@@ -203,7 +203,7 @@ module _ (n D : ℕ) (xs : List Step) (Is : ℕ → Type 0) where
 
     at-two : (g : PairGate) (a b : ℕ) → AreLast n D xs Is t (two g a b ∷ rest) → (p ≡ a) ⊎ (p ≡ a → ⊥) → (p ≡ b) ⊎ (p ≡ b → ⊥) → Lands n D xs Is (t + 1) (m + 0) k p rest
         → Lands n D xs Is t m k p (two g a b ∷ rest)
-    at-two g a b are on_a on_b later = by_place on_a on_b
+    at-two g a b are on_a on_b later = by_site on_a on_b
       where
         fit : (a < n) × (b < n) × (b ≢ a)
         fit = All-head (StepFits n) (two g a b) rest are.fits
@@ -226,14 +226,14 @@ module _ (n D : ℕ) (xs : List Step) (Is : ℕ → Type 0) where
           flips = λ i is. flips i is ∙ following-are image other i;
         }))
 
-        by_place : (p ≡ a) ⊎ (p ≡ a → ⊥) → (p ≡ b) ⊎ (p ≡ b → ⊥) → Lands n D xs Is t m k p (two g a b ∷ rest)
-        by_place (inl e) other =
+        by_site : (p ≡ a) ⊎ (p ≡ a → ⊥) → (p ≡ b) ⊎ (p ≡ b → ⊥) → Lands n D xs Is t m k p (two g a b ∷ rest)
+        by_site (inl e) other =
             on-both (first_image g k I) (second_image g k I)
             (λ i is. ap (λ r. parity_flips n D i k r (two g a b ∷ rest)) e ∙ first-flips n D i rest g a b fit.0 fit.1 fit.2 are.few k)
-        by_place (inr off) (inl e) =
+        by_site (inr off) (inl e) =
             on-both (first_image g I k) (second_image g I k)
             (λ i is. ap (λ r. parity_flips n D i k r (two g a b ∷ rest)) e ∙ second-flips n D i rest g a b fit.0 fit.1 fit.2 are.few k)
-        by_place (inr off_a) (inr off_b) =
+        by_site (inr off_a) (inr off_b) =
             passed t m k p lt (two g a b) rest are (λ i is. pair-other n D i rest g a b fit.0 fit.1 fit.2 are.few k p lt off_a off_b) later
 
   -- so it lands

@@ -6,7 +6,7 @@ mod DoubtLemmas
 mod EverywhereLemmas
 mod RowLemmas
 mod FitLemmas
-mod PlaceFitLemmas
+mod SiteFitLemmas
 mod WrongRecordLemmas
 mod LandingLemmas
 mod ListedLemmas

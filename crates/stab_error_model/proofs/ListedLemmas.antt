@@ -1,8 +1,8 @@
 -- Listed errors: where a letter lands there are errors that flip what it flips: one of all letters, or some that have X or Z alone.
-use Rattle.stab_error_model.proofs.Names.{◌≡◌, ℕ, ◌+◌, ◌≤◌, ◌<◌, ◌⊎◌, inl, inr, refl, sym, ap, ◌∙◌, subst, Bool, true, false, List, [], ◌∷◌, ◌++◌, length, take, drop, take-append-drop, length-take-le, arith, All, Contains, All-nil, All-cons, All-head, All-tail, All-append, All-drop, All-weaker, All-contains, flat_map, flat_map-append, Letter, I, X, Y, Z, ◌⊕◌, parity-false, Items, unroll, records_of, detectors_of, observables_of, Step, StepFits, FaultPlace, Site, fault_on, bits_in, IsDeterministic, flips, FaultFits, flips_together, FaultsAdd, DeterministicParities, PlacesFlipDeterministicParities, and-left, diagonal, parity_region, parity_kept, parity_flips, parity_deterministic, none-flips, y-flips, kept-last, count-following, Error, letter, faults_in, letters_asked, pairs_asked, each_letter, product_at, errors_from, errors_of, letter_parts, ErrorLetters, flip_together, FlipAlike}
+use Rattle.stab_error_model.proofs.Names.{◌≡◌, ℕ, ◌+◌, ◌≤◌, ◌<◌, ◌⊎◌, inl, inr, refl, sym, ap, ◌∙◌, subst, Bool, true, false, List, [], ◌∷◌, ◌++◌, length, take, drop, take-append-drop, length-take-le, arith, All, Contains, All-nil, All-cons, All-head, All-tail, All-append, All-drop, All-weaker, All-contains, flat_map, flat_map-append, Letter, I, X, Y, Z, ◌⊕◌, parity-false, Items, unroll, records_of, detectors_of, observables_of, Step, StepFits, FaultPlace, Site, fault_on, bits_in, IsDeterministic, flips, FaultFits, flips_together, FaultsAdd, DeterministicParities, SitesFlipDeterministicParities, and-left, diagonal, parity_region, parity_kept, parity_flips, parity_deterministic, none-flips, y-flips, kept-last, count-following, Error, letter, faults_in, letters_asked, pairs_asked, each_letter, product_at, errors_from, errors_of, letter_parts, ErrorLetters, flip_together, FlipAlike}
 use Rattle.stab_jobs.specs.declared.job.ErrorLetters.TheVariants as letters_of
 use Rattle.stab_error_model.proofs.FitLemmas.{Fits, together-append}
-use Rattle.stab_error_model.proofs.PlaceFitLemmas.{errors-fit}
+use Rattle.stab_error_model.proofs.SiteFitLemmas.{errors-fit}
 use Rattle.stab_error_model.proofs.LandingLemmas.{there_flips, LandsNowhere, Lands, AreLast, lands, errors-following}
 
 -- X and Z are asked for, alone and beside I
@@ -156,7 +156,7 @@ module _ (n D : ℕ) (xs : List Step) (Is : ℕ → Type 0) where
 
 -- by runs
 
-module _ (n : ℕ) (items : Items) (fits : All (StepFits n) (unroll items)) (found : DeterministicParities) (places : PlacesFlipDeterministicParities) (adds : FaultsAdd) where
+module _ (n : ℕ) (items : Items) (fits : All (StepFits n) (unroll items)) (found : DeterministicParities) (sites : SitesFlipDeterministicParities) (adds : FaultsAdd) where
   abbrev steps : List Step
   steps = unroll items
 
@@ -204,7 +204,7 @@ module _ (n : ℕ) (items : Items) (fits : All (StepFits n) (unroll items)) (fou
   by-pass [] fit i is coins = refl
   by-pass (f ∷ fs) fit i is coins =
       let here = All-head (FaultFits n steps) f fs fit in
-      (λ j. places n items i f fits is.0 here.qubit (whole i is) coins j ⊕ by-pass fs (All-tail (FaultFits n steps) f fs fit) i is coins j)
+      (λ j. sites n items i f fits is.0 here.qubit (whole i is) coins j ⊕ by-pass fs (All-tail (FaultFits n steps) f fs fit) i is coins j)
 
   pub flip-by-pass : (fs : List FaultPlace) → All (FaultFits n steps) fs → (i : ℕ) → Is i → (coins : ℕ → Bool)
       → flip_together n items coins fs i ≡ flips_together (there_flips n all_detectors steps i) fs

@@ -1,13 +1,13 @@
 -- Errors at marks: those at one target, or at two, and then those at the rest.
-use Rattle.stab_error_model.proofs.Names.{◌≡◌, ℕ, ◌+◌, ◌*◌, ◌<◌, ◌≤◌, refl, sym, ap, ◌∙◌, subst, List, [], ◌∷◌, ◌++◌, map, drop, get_or, length, arith, All, None, flat_map, drop_more, get_or-map, length-append, length-map, Letter, few_steps, Items, check_of, most_steps, ErrorLetters, FaultPlace, in_front, fault_on, faults_on, Error, each_letter, each_product, each_target, each_two_targets, instructions, marks_from, letter_at, Stands, Adds, IsUnderWay, marks_shown, marked_faults, target_faults, MarksValue, Place, ErrorValue}
+use Rattle.stab_error_model.proofs.Names.{◌≡◌, ℕ, ◌+◌, ◌*◌, ◌<◌, ◌≤◌, refl, sym, ap, ◌∙◌, subst, List, [], ◌∷◌, ◌++◌, map, drop, get_or, length, arith, All, None, flat_map, drop_more, get_or-map, length-append, length-map, Letter, few_steps, Items, check_of, most_steps, ErrorLetters, FaultPlace, in_front, fault_on, faults_on, Error, each_letter, each_product, each_target, each_two_targets, instructions, marks_from, fault_of_letter, Stands, Adds, IsUnderWay, marks_shown, marked_faults, target_faults, MarksValue, Place, ErrorValue}
 use Rattle.stab_error_model.proofs.AddingLemmas.{letters-at, products-at, under-way-more}
 use Rattle.stab_error_model.proofs.MarkLemmas.{EndsBy, long-unrolled, marks-end}
 
 -- one target, and the rest
 pub target-more : (ls : List Letter) (Is : List FaultPlace → Type 0) (all : List Error) (row next t then q : ℕ) (qs : List ℕ) (p : Place) (old now new : List ErrorValue)
-    → p.row ≡ row → ((l : Letter) → letter_at p l ≡ fault_on t (in_front q) l) → next ≡ row + 2 → then ≡ t + 1
+    → p.row ≡ row → ((l : Letter) → fault_of_letter p l ≡ fault_on t (in_front q) l) → next ≡ row + 2 → then ≡ t + 1
     → IsUnderWay Is all (each_target ls t (q ∷ qs)) row (target_faults t (q ∷ qs)) old now
-    → Adds (Stands p) (each_letter ls (letter_at p)) now new
+    → Adds (Stands p) (each_letter ls (fault_of_letter p)) now new
     → IsUnderWay Is all (each_target ls then qs) next (target_faults then qs) old new
 target-more ls Is all row next t then q qs p old now new row_is is next_is then_is way adds =
     subst (λ u. IsUnderWay Is all (each_target ls u qs) next (target_faults u qs) old new) (sym then_is)
@@ -16,10 +16,10 @@ target-more ls Is all row next t then q qs p old now new row_is is next_is then_
 
 -- two, and the rest
 pub targets-more : (asked : ErrorLetters) (Is : List FaultPlace → Type 0) (all : List Error) (row next t then a b : ℕ) (qs : List ℕ) (p r : Place) (old now new : List ErrorValue)
-    → p.row ≡ row → r.row ≡ row + 2 → ((l : Letter) → letter_at p l ≡ fault_on t (in_front a) l) → ((l : Letter) → letter_at r l ≡ fault_on (t + 1) (in_front b) l)
+    → p.row ≡ row → r.row ≡ row + 2 → ((l : Letter) → fault_of_letter p l ≡ fault_on t (in_front a) l) → ((l : Letter) → fault_of_letter r l ≡ fault_on (t + 1) (in_front b) l)
     → next ≡ row + 4 → then ≡ t + 2
     → IsUnderWay Is all (each_two_targets asked t (a ∷ b ∷ qs)) row (target_faults t (a ∷ b ∷ qs)) old now
-    → Adds (λ faults. Stands p faults × Stands r faults) (each_product asked (letter_at p) (letter_at r)) now new
+    → Adds (λ faults. Stands p faults × Stands r faults) (each_product asked (fault_of_letter p) (fault_of_letter r)) now new
     → IsUnderWay Is all (each_two_targets asked then qs) next (target_faults then qs) old new
 targets-more asked Is all row next t then a b qs p r old now new p_row r_row p_is r_is next_is then_is way adds =
     subst (λ u. IsUnderWay Is all (each_two_targets asked u qs) next (target_faults u qs) old new) (sym then_is)

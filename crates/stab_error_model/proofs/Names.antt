@@ -53,8 +53,8 @@ pub use Rattle.stab_regions.proofs.MoveLemmas.{long-parity}
 pub use Rattle.stab_regions.proofs.PassLemmas.{first_image, second_image, none-flips, y-flips, end-flips, one-flips, one-other, first-flips, second-flips, pair-other, controlled-passes, detector-passes, observable-passes, collapse-other, product-other, unrecorded-passes, reset-passes, reset-stops, wrong-measured, wrong-reset, wrong-product}
 pub use Rattle.stab_regions.proofs.ShowLemmas.{bits-letter}
 pub use Rattle.stab_regions.proofs.NegatedLemmas.{AreNegated, collapse-negated, product-negated, negated-front, kept-last, kept-following, count-following, count-least, named_there}
-pub use Rattle.stab_regions.specs.FaultLaws.{FaultFits, flips_together, FaultsAdd, DeterministicParities, DeterministicParityBits, PlacesFlipDeterministicParities}
-pub use Rattle.stab_regions.specs.Faults.{Site, FaultPlace, fault_on, faults_on, in_front, following, bits_in, IsDeterministic, AreDeterministic, flips, faults_of, fault_at, numbers_where, IsFaultTable, flipped, faults_from, marked_at, sites_at, with_gates, bit}
+pub use Rattle.stab_regions.specs.FaultLaws.{FaultFits, flips_together, FaultsAdd, DeterministicParities, DeterministicParityBits, SitesFlipDeterministicParities}
+pub use Rattle.stab_regions.specs.Faults.{Site, FaultPlace, fault_on, faults_on, in_front, following, bits_in, IsDeterministic, AreDeterministic, flips, faults_of, fault_at, numbers_where, IsFaultTable, flipped_by_fault, faults_from, marked_at, sites_at, with_gates, bit}
 pub use Rattle.stab_regions.specs.Parities.{parity_region, parity_kept, parity_flips, parity_deterministic}
 pub use Rattle.stab_regions.specs.Rows.{row, bits_at}
 pub use Rattle.stab_run.proofs.FitLemmas.{check-fits}
@@ -67,8 +67,8 @@ pub use Rattle.stab_tableau.specs.Traces.{diagonal}
 pub use Rattle.stab_error_model.specs.ErrorTables.{ErrorTableState, IsErrorTable, flip_together, flipped_by, flip_each, ErrorsAdd, StepsInside}
 pub use Rattle.stab_error_model.specs.Errors.{Error, each_letter, each_product, errors_at, letters_asked, wrong_record, faults_in, Marks, instruction_rounds, instructions, is_idle, marks_by, marks_from, marks_of, each_target, each_two_targets, letter, pairs_asked, product_at, wrong_product, errors_from, letters_left, errors_marked, errors_of, first_fault, letters}
 pub use Rattle.stab_error_model.specs.EverywhereLaws.{inverted_once, with_inverted, FlipAlike}
-pub use Rattle.stab_error_model.specs.Parts.{letter_parts, IsSplit, AreSplit, AreSearched, parts_of, fault_parts}
-pub use Rattle.stab_error_model.specs.Placed.{letter_at, error_shown, fault_shown, faults_shown}
+pub use Rattle.stab_error_model.specs.Parts.{letter_parts, GivesParts, AreSplit, AreSearched, parts_of, fault_parts}
+pub use Rattle.stab_error_model.specs.Placed.{fault_of_letter, error_shown, fault_shown, faults_shown}
 pub use Rattle.stab_error_model.specs.Unseen.{IsDistance, AreUnseen, FlipsTwo, AreUnseenOf, error_at, errors_at_numbers, NoneUnseen, NoneUnseenWithin, SomeUnseen, IsWithin, IsAskedFor, IsLeastSet, IsSetCount, ReportsUnseen}
 pub use Rattle.stab_error_model.specs.declared.marks.Marks.{Marks as MarksValue}
 pub use Rattle.stab_error_model.specs.declared.placed.Error.{Error as ErrorValue}

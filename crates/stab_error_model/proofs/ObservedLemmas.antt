@@ -1,7 +1,7 @@
 -- Observed rows: a table in which one observable alone counts has the logical errors that flip this observable.
 use Rattle.stab_error_model.proofs.Names.{◌≡◌, ℕ, ◌+◌, ◌-◌, ◌<◌, ◌≤◌, ◌==◌, ◌⊎◌, inl, inr, refl, sym, ap, ◌∙◌, subst, Bool, true, false, ◌||◌, List, [], ◌∷◌, length, arith, if◌then◌else◌, Option, Some, None, All, ne_eqb, eqb-true, lt-ltb, le-ltb, cases_lt, get_or-map, get_or_past, length-map, ◌⊕◌, true≢false, eq-eqb, odd, AscendsFrom, IsLogicalError, IsAskedFor, is_kept, kept_row, with_observable, IsLogicalOf}
 use Rattle.stab_error_model.proofs.RowLemmas.{ascends-weaker}
-use Rattle.stab_search.specs.Tables.{ErrorTable, row, flips}
+use Rattle.stab_search.specs.Tables.{ErrorTable, row, flipped_by_rows}
 use Rattle.std.specs.List.{filter}
 
 module _ (test : ℕ → Bool) where
@@ -63,39 +63,39 @@ module _ (t : ErrorTable) where
   same-detectors (Some j) = refl
 
   row-kept : (j r : ℕ) → row (kept (Some j)) r ≡ kept_row t.detectors j (row t.rows r)
-  row-kept j r = by_place (cases_lt r (length t.rows))
+  row-kept j r = by_site (cases_lt r (length t.rows))
     where
-      by_place : (r < length t.rows) ⊎ (length t.rows ≤ r) → row (kept (Some j)) r ≡ kept_row t.detectors j (row t.rows r)
-      by_place (inl inside) = get_or-map (kept_row t.detectors j) t.rows r [] [] inside
-      by_place (inr past) =
+      by_site : (r < length t.rows) ⊎ (length t.rows ≤ r) → row (kept (Some j)) r ≡ kept_row t.detectors j (row t.rows r)
+      by_site (inl inside) = get_or-map (kept_row t.detectors j) t.rows r [] [] inside
+      by_site (inr past) =
           get_or_past (kept (Some j)) r [] (omega (arith, past, as-many-kept (Some j)))
           ∙ ap (kept_row t.detectors j) (sym (get_or_past t.rows r [] past))
 
   -- what is kept is flipped by the kept rows as by the rows, and nothing else is
 
-  flips-passes : (j i : ℕ) → is_kept t.detectors j i ≡ true → (errors : List ℕ) → flips (kept (Some j)) errors i ≡ flips t.rows errors i
+  flips-passes : (j i : ℕ) → is_kept t.detectors j i ≡ true → (errors : List ℕ) → flipped_by_rows (kept (Some j)) errors i ≡ flipped_by_rows t.rows errors i
   flips-passes j i passes [] = refl
   flips-passes j i passes (r ∷ errors) =
       (λ m. (ap (odd i) (row-kept j r) ∙ odd-passes (is_kept t.detectors j) i passes (row t.rows r)) m ⊕ flips-passes j i passes errors m)
 
-  flips-dropped : (j i : ℕ) → is_kept t.detectors j i ≡ false → (errors : List ℕ) → flips (kept (Some j)) errors i ≡ false
+  flips-dropped : (j i : ℕ) → is_kept t.detectors j i ≡ false → (errors : List ℕ) → flipped_by_rows (kept (Some j)) errors i ≡ false
   flips-dropped j i drops [] = refl
   flips-dropped j i drops (r ∷ errors) =
       (λ m. (ap (odd i) (row-kept j r) ∙ odd-dropped (is_kept t.detectors j) i drops (row t.rows r)) m ⊕ flips-dropped j i drops errors m)
 
-  flips-detector : (observable : Option ℕ) (errors : List ℕ) (d : ℕ) → d < t.detectors → flips (kept observable) errors d ≡ flips t.rows errors d
+  flips-detector : (observable : Option ℕ) (errors : List ℕ) (d : ℕ) → d < t.detectors → flipped_by_rows (kept observable) errors d ≡ flipped_by_rows t.rows errors d
   flips-detector None errors d less = refl
   flips-detector (Some j) errors d less = flips-passes j d (kept-detector t.detectors j d less) errors
 
   flips-asked : (observable : Option ℕ) (errors : List ℕ) (number : ℕ) → IsAskedFor observable number
-      → flips (kept observable) errors (t.detectors + number) ≡ flips t.rows errors (t.detectors + number)
+      → flipped_by_rows (kept observable) errors (t.detectors + number) ≡ flipped_by_rows t.rows errors (t.detectors + number)
   flips-asked None errors number asked = refl
   flips-asked (Some j) errors number asked =
       flips-passes j (t.detectors + number) (kept-asked t.detectors j (t.detectors + number) (omega (arith, asked))) errors
 
   -- an observable that the kept rows flip is one that is asked for
 
-  asked-for : (observable : Option ℕ) (errors : List ℕ) (o : ℕ) → t.detectors ≤ o → flips (kept observable) errors o ≡ true → IsAskedFor observable (o - t.detectors)
+  asked-for : (observable : Option ℕ) (errors : List ℕ) (o : ℕ) → t.detectors ≤ o → flipped_by_rows (kept observable) errors o ≡ true → IsAskedFor observable (o - t.detectors)
   asked-for None errors o past flipped = tt
   asked-for (Some j) errors o past flipped = by_test ((o - t.detectors) == j) refl
     where
@@ -118,7 +118,7 @@ module _ (t : ErrorTable) where
         undetected = λ d less. sym (flips-detector observable errors d less) ∙ e.undetected d (subst (λ m. d < m) (sym (same-detectors observable)) less);
         number = o - t.detectors;
         asked = asked;
-        flipped = sym (flips-asked observable errors (o - t.detectors) asked) ∙ ap (flips (kept observable) errors) o_is ∙ e.observed.2;
+        flipped = sym (flips-asked observable errors (o - t.detectors) asked) ∙ ap (flipped_by_rows (kept observable) errors) o_is ∙ e.observed.2;
       }
 
   pub to-kept : (observable : Option ℕ) (errors : List ℕ) → IsLogicalOf observable t errors → IsLogicalError (with_observable observable t) errors

@@ -1,5 +1,5 @@
 -- Parts: which errors give way to theirs, by rows and by runs.
-use Rattle.stab_error_model.proofs.Names.{None, ◌≡◌, ℕ, ◌⊎◌, inl, inr, refl, sym, ap, ◌∙◌, subst, Bool, true, false, List, [], ◌∷◌, ◌++◌, append_assoc, append-nil, map, arith, All, All-nil, All-cons, All-head, All-tail, Items, unroll, detectors_of, StepFits, FaultPlace, faults_of, IsFaultTable, FaultsAdd, DeterministicParities, PlacesFlipDeterministicParities, IsGraphlike, Error, ErrorTableState, IsErrorTable, IsSplit, AreSplit, AreSearched, parts_of, error_shown, Adds, ErrorStands, IsRowOf, IsSplitByRow, SplitByRows, AreSplitByRows, AreSearchedByRows, ErrorValue}
+use Rattle.stab_error_model.proofs.Names.{None, ◌≡◌, ℕ, ◌⊎◌, inl, inr, refl, sym, ap, ◌∙◌, subst, Bool, true, false, List, [], ◌∷◌, ◌++◌, append_assoc, append-nil, map, arith, All, All-nil, All-cons, All-head, All-tail, Items, unroll, detectors_of, StepFits, FaultPlace, faults_of, IsFaultTable, FaultsAdd, DeterministicParities, SitesFlipDeterministicParities, IsGraphlike, Error, ErrorTableState, IsErrorTable, GivesParts, AreSplit, AreSearched, parts_of, error_shown, Adds, ErrorStands, IsRowOf, IsSplitByRow, SplitByRows, AreSplitByRows, AreSearchedByRows, ErrorValue}
 use Rattle.stab_error_model.proofs.FlipLemmas.{table-is}
 use Rattle.stab_error_model.proofs.GraphlikeLemmas.{row-two, two-row}
 
@@ -33,7 +33,7 @@ searched-stand true rows detectors whole searched faults is stand = is.stand fau
 -- by runs
 
 module _ (n : ℕ) (everywhere : Bool) (items : Items) (deterministic : List Bool) (rows : List (List ℕ)) (fits : All (StepFits n) (unroll items))
-    (table : IsFaultTable n everywhere items deterministic rows) (found : DeterministicParities) (places : PlacesFlipDeterministicParities) (adds : FaultsAdd)
+    (table : IsFaultTable n everywhere items deterministic rows) (found : DeterministicParities) (sites : SitesFlipDeterministicParities) (adds : FaultsAdd)
     (detectors : ℕ) (count : detectors ≡ detectors_of (unroll items)) where
   abbrev Stand : ErrorValue → Type 0
   Stand = ErrorStands (faults_of everywhere (unroll items))
@@ -43,12 +43,12 @@ module _ (n : ℕ) (everywhere : Bool) (items : Items) (deterministic : List Boo
   alone e row = record { deterministic = deterministic; errors = error_shown e ∷ []; table = record { detectors = detectors; rows = row ∷ [] } }
 
   alone-is : (e : ErrorValue) (row : List ℕ) → Stand e → IsRowOf rows e row → IsErrorTable n items (alone e row)
-  alone-is e row stands is = table-is n everywhere items deterministic rows fits table found places adds detectors count (e ∷ []) (row ∷ []) (All-cons Stand e [] stands (All-nil Stand)) (is, tt)
+  alone-is e row stands is = table-is n everywhere items deterministic rows fits table found sites adds detectors count (e ∷ []) (row ∷ []) (All-cons Stand e [] stands (All-nil Stand)) (is, tt)
 
-  row-split : (e : ErrorValue) (given : List Error) → Stand e → IsSplitByRow rows detectors e given → IsSplit n items (error_shown e) given
+  row-split : (e : ErrorValue) (given : List Error) → Stand e → IsSplitByRow rows detectors e given → GivesParts n items (error_shown e) given
   row-split e given stands (row, is, kept) = by_row kept
     where
-      by_row : (IsGraphlike detectors row × (given ≡ error_shown e ∷ [])) ⊎ ((IsGraphlike detectors row → ⊥) × (given ≡ parts_of (error_shown e))) → IsSplit n items (error_shown e) given
+      by_row : (IsGraphlike detectors row × (given ≡ error_shown e ∷ [])) ⊎ ((IsGraphlike detectors row → ⊥) × (given ≡ parts_of (error_shown e))) → GivesParts n items (error_shown e) given
       by_row (inl stays) = inl (row-two n items None (alone e row) (alone-is e row stands is) 0 (omega arith) stays.0, stays.1)
       by_row (inr goes) = inr (λ two. goes.0 (two-row n items None (alone e row) (alone-is e row stands is) 0 (omega arith) two), goes.1)
 

@@ -1,5 +1,5 @@
 -- Rows: those of a table of faults ascend, and rows that are put together name what errors flip.
-use Rattle.stab_error_model.proofs.Names.{◌≡◌, ℕ, zero, suc, ◌+◌, ◌<◌, ◌≤◌, ◌⊎◌, inl, inr, sym, ap, ◌∙◌, subst, Bool, true, false, List, [], ◌∷◌, ◌++◌, length, arith, if◌then◌else◌, cases_lt, get_or-map, get_or_past, length-map, Items, unroll, row, in_front, fault_on, faults_of, numbers_where, bits_in, flipped, IsFaultTable, AscendsFrom, IsAscending, RowsAscend, IsRowOf, AreRowsOf}
+use Rattle.stab_error_model.proofs.Names.{◌≡◌, ℕ, zero, suc, ◌+◌, ◌<◌, ◌≤◌, ◌⊎◌, inl, inr, sym, ap, ◌∙◌, subst, Bool, true, false, List, [], ◌∷◌, ◌++◌, length, arith, if◌then◌else◌, cases_lt, get_or-map, get_or_past, length-map, Items, unroll, row, in_front, fault_on, faults_of, numbers_where, bits_in, flipped_by_fault, IsFaultTable, AscendsFrom, IsAscending, RowsAscend, IsRowOf, AreRowsOf}
 use Rattle.stab_gates.specs.declared.letter.Letter.TheVariants as letter
 use Rattle.stab_error_model.specs.declared.placed.Error.{Error}
 
@@ -16,21 +16,21 @@ where-ascends f i zero = tt
 where-ascends f i (suc k) = ascends-step (f i) i (numbers_where f (i + 1) k) (where-ascends f (i + 1) k)
 
 pub rows-ascend : (n : ℕ) (everywhere : Bool) (items : Items) (deterministic : List Bool) (rows : List (List ℕ)) → IsFaultTable n everywhere items deterministic rows → RowsAscend rows
-rows-ascend n everywhere items deterministic rows table k = by_place (cases_lt k (length rows))
+rows-ascend n everywhere items deterministic rows table k = by_site (cases_lt k (length rows))
   where
     coins : ℕ → Bool
     coins = λ t. false
 
     as-many : length rows ≡ length (faults_of everywhere (unroll items))
-    as-many = ap length (table.are_flipped coins) ∙ length-map (faults_of everywhere (unroll items)) (flipped n items deterministic coins)
+    as-many = ap length (table.are_flipped coins) ∙ length-map (faults_of everywhere (unroll items)) (flipped_by_fault n items deterministic coins)
 
-    by_place : (k < length rows) ⊎ (length rows ≤ k) → IsAscending (row rows k)
-    by_place (inl less) =
+    by_site : (k < length rows) ⊎ (length rows ≤ k) → IsAscending (row rows k)
+    by_site (inl less) =
         subst IsAscending
         (sym (ap (λ rs. row rs k) (table.are_flipped coins)
-        ∙ get_or-map (flipped n items deterministic coins) (faults_of everywhere (unroll items)) k (fault_on 0 (in_front 0) letter.X) [] (omega (arith, less, as-many))))
+        ∙ get_or-map (flipped_by_fault n items deterministic coins) (faults_of everywhere (unroll items)) k (fault_on 0 (in_front 0) letter.X) [] (omega (arith, less, as-many))))
         (where-ascends _ 0 (bits_in items))
-    by_place (inr more) = subst IsAscending (sym (get_or_past rows k [] more)) tt
+    by_site (inr more) = subst IsAscending (sym (get_or_past rows k [] more)) tt
 
 -- one error and its row more
 pub rows-push : (faults : List (List ℕ)) (errors : List Error) (rows : List (List ℕ)) (e : Error) (r : List ℕ) → AreRowsOf faults errors rows → IsRowOf faults e r

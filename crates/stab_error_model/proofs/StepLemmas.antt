@@ -1,5 +1,5 @@
 -- Steps: the step of each error is one of the circuit's.
-use Rattle.stab_error_model.proofs.Names.{ℕ, ◌+◌, ◌<◌, ◌≤◌, subst, Bool, List, [], ◌∷◌, map, length, arith, All, None, flat_map, All-append, All-cons, All-map, All-nil, All-weaker, Items, Step, unroll, FaultPlace, Site, fault_on, faults_from, faults_of, faults_on, in_front, sites_at, first_fault, StepsInside, error_shown, letter_at, ErrorStands, Stands, Place, ErrorValue}
+use Rattle.stab_error_model.proofs.Names.{ℕ, ◌+◌, ◌<◌, ◌≤◌, subst, Bool, List, [], ◌∷◌, map, length, arith, All, None, flat_map, All-append, All-cons, All-map, All-nil, All-weaker, Items, Step, unroll, FaultPlace, Site, fault_on, faults_from, faults_of, faults_on, in_front, sites_at, first_fault, StepsInside, error_shown, fault_of_letter, ErrorStands, Stands, Place, ErrorValue}
 use Rattle.std.specs.Prelude.{Some}
 use Rattle.stab_gates.specs.declared.letter.Letter.TheVariants as letter
 use Rattle.stab_error_model.specs.declared.placed.Error.TheVariants as error
@@ -23,17 +23,17 @@ faults-inside everywhere end t (x ∷ xs) le =
 
 -- and so are errors
 
-place-inside : (end : ℕ) (p : Place) (faults : List FaultPlace) → All (λ f. f.step < end) faults → Stands p faults → p.step < end
-place-inside end p faults inside stands =
+site-inside : (end : ℕ) (p : Place) (faults : List FaultPlace) → All (λ f. f.step < end) faults → Stands p faults → p.step < end
+site-inside end p faults inside stands =
     let none : FaultPlace = fault_on 0 (in_front 0) letter.X in
-    let there = dropped-first p.row faults (letter_at p letter.X) none (letter_at p letter.Z ∷ stands.0) stands.1 in
+    let there = dropped-first p.row faults (fault_of_letter p letter.X) none (fault_of_letter p letter.Z ∷ stands.0) stands.1 in
     subst (λ f. f.step < end) there.1 (inside p.row none there.0)
 
 error-inside : (end : ℕ) (faults : List FaultPlace) → All (λ f. f.step < end) faults → (e : ErrorValue) → ErrorStands faults e → (first_fault (error_shown e)).step < end
-error-inside end faults inside (error.Letter f) stands = place-inside end f.place faults inside stands
-error-inside end faults inside (error.Letters f g) stands = place-inside end f.place faults inside stands.0
-error-inside end faults inside (error.Record number f None) stands = place-inside end f.place faults inside stands
-error-inside end faults inside (error.Record number f (Some g)) stands = place-inside end f.place faults inside stands.0
+error-inside end faults inside (error.Letter f) stands = site-inside end f.site faults inside stands
+error-inside end faults inside (error.Letters f g) stands = site-inside end f.site faults inside stands.0
+error-inside end faults inside (error.Record number f None) stands = site-inside end f.site faults inside stands
+error-inside end faults inside (error.Record number f (Some g)) stands = site-inside end f.site faults inside stands.0
 
 pub steps-inside : (everywhere : Bool) (items : Items) (errors : List ErrorValue) → All (ErrorStands (faults_of everywhere (unroll items))) errors → StepsInside items (map error_shown errors)
 steps-inside everywhere items errors stand =

@@ -1,7 +1,7 @@
 -- Unseen sets: logical errors of a table of errors are sets of errors that are unseen together, and the other way round.
 use Rattle.stab_error_model.proofs.Names.{◌≡◌, ℕ, ◌+◌, ◌<◌, ◌≤◌, ◌⊎◌, inl, inr, refl, sym, ap, ◌∙◌, subst, Bool, true, false, List, [], ◌∷◌, length, arith, Option, Some, None, Result, Ok, Err, IfOk, IsErrAnd, unwrap_or, All, Contains, ◌&&◌, slice_index_or, flat_map, cases_lt, get_or-map, get_or_default, length-map, All-nil, All-cons, All-head, All-tail, All-map, All-weaker, Contains-get_or, ◌⊕◌, Items, unroll, detectors_of, I, bits_in, fault_on, in_front, odd-where, IsLogicalError, IsLeast, HasNoneWithin, HasNone, HasSome, Answer, Heard, begins, Hears, up_to, IsExcludedBy, ReportsSearch, Error, letter, faults_in, ErrorTableState, IsErrorTable, flip_together, flipped_by, flip_each, AreUnseen, FlipsTwo, AreUnseenOf, NoneUnseen, NoneUnseenWithin, SomeUnseen, IsWithin, IsLeastSet, ReportsUnseen, error_at, errors_at_numbers, with_observable, IsLogicalOf}
 use Rattle.stab_regions.specs.Rows.{odd}
-use Rattle.stab_search.specs.Tables.{ErrorTable, row, flips}
+use Rattle.stab_search.specs.Tables.{ErrorTable, row, flipped_by_rows}
 use Rattle.stab_error_model.proofs.ObservedLemmas.{as-many-kept, from-kept, to-kept}
 use Rattle.stab_error_model.proofs.FlipLemmas.{odd-without, set, unset}
 
@@ -47,12 +47,12 @@ module _ (n : ℕ) (items : Items) (observable : Option ℕ) (t : ErrorTableStat
   -- and what rows name together
 
   each : (coins : ℕ → Bool) (ks : List ℕ) (i : ℕ) → All Inside ks → i < bits_in items → slice_index_or t.deterministic i false ≡ true
-      → flips rows ks i ≡ flip_each n items coins (errors_at_numbers t.errors ks) i
+      → flipped_by_rows rows ks i ≡ flip_each n items coins (errors_at_numbers t.errors ks) i
   each coins [] i less inside is_deterministic = refl
   each coins (k ∷ ks) i less inside is_deterministic =
       (λ m. row-names coins k i (All-head Inside k ks less) inside is_deterministic m ⊕ each coins ks i (All-tail Inside k ks less) inside is_deterministic m)
 
-  none : (ks : List ℕ) (i : ℕ) → All Inside ks → (i < bits_in items → slice_index_or t.deterministic i false ≡ false) → flips rows ks i ≡ false
+  none : (ks : List ℕ) (i : ℕ) → All Inside ks → (i < bits_in items → slice_index_or t.deterministic i false ≡ false) → flipped_by_rows rows ks i ≡ false
   none [] i less without = refl
   none (k ∷ ks) i less without = (λ m. row-without k i (All-head Inside k ks less) without m ⊕ none ks i (All-tail Inside k ks less) without m)
 
@@ -64,30 +64,30 @@ module _ (n : ℕ) (items : Items) (observable : Option ℕ) (t : ErrorTableStat
 
   -- a deterministic bit is flipped by runs if the rows name it
   pub together : (coins : ℕ → Bool) (ks : List ℕ) (i : ℕ) → All Inside ks → i < bits_in items → slice_index_or t.deterministic i false ≡ true
-      → flip_together n items coins (flat_map faults_in (errors_at_numbers t.errors ks)) i ≡ flips rows ks i
+      → flip_together n items coins (flat_map faults_in (errors_at_numbers t.errors ks)) i ≡ flipped_by_rows rows ks i
   together coins ks i less inside is_deterministic =
       table.add (errors_at_numbers t.errors ks) i (numbers-of ks less) inside ((table.are_deterministic.exact i inside).0 is_deterministic) coins
       ∙ sym (each coins ks i less inside is_deterministic)
 
   -- an observed number is that of a deterministic observable
 
-  pub deterministic-number : (ks : List ℕ) (i : ℕ) → All Inside ks → flips rows ks i ≡ true → (i < bits_in items) × (slice_index_or t.deterministic i false ≡ true)
-  deterministic-number ks i less named = by_place (cases_lt i (bits_in items))
+  pub deterministic-number : (ks : List ℕ) (i : ℕ) → All Inside ks → flipped_by_rows rows ks i ≡ true → (i < bits_in items) × (slice_index_or t.deterministic i false ≡ true)
+  deterministic-number ks i less named = by_site (cases_lt i (bits_in items))
     where
       by_bit : i < bits_in items → (b : Bool) → slice_index_or t.deterministic i false ≡ b → slice_index_or t.deterministic i false ≡ true
       by_bit inside true e = e
-      by_bit inside false e = absurd (false-or-true (flips rows ks i) named (none ks i less (λ k. e)))
+      by_bit inside false e = absurd (false-or-true (flipped_by_rows rows ks i) named (none ks i less (λ k. e)))
 
-      by_place : (i < bits_in items) ⊎ (bits_in items ≤ i) → (i < bits_in items) × (slice_index_or t.deterministic i false ≡ true)
-      by_place (inl inside) = (inside, by_bit inside (slice_index_or t.deterministic i false) refl)
-      by_place (inr past) = absurd (false-or-true (flips rows ks i) named (none ks i less (λ inside. absurd (omega (arith, inside, past)))))
+      by_site : (i < bits_in items) ⊎ (bits_in items ≤ i) → (i < bits_in items) × (slice_index_or t.deterministic i false ≡ true)
+      by_site (inl inside) = (inside, by_bit inside (slice_index_or t.deterministic i false) refl)
+      by_site (inr past) = absurd (false-or-true (flipped_by_rows rows ks i) named (none ks i less (λ inside. absurd (omega (arith, inside, past)))))
 
   -- logical errors are unseen
 
   pub logical-unseen : (graphlike : Bool) (ks : List ℕ) → IsLogicalOf observable t.table ks → (graphlike ≡ true → All (FlipsTwo n items) (errors_at_numbers t.errors ks))
       → AreUnseenOf graphlike observable n items t.errors (errors_at_numbers t.errors ks)
   logical-unseen graphlike ks logical two =
-      let named : flips rows ks (D + logical.number) ≡ true = subst (λ d. flips rows ks (d + logical.number) ≡ true) table.detectors logical.flipped in
+      let named : flipped_by_rows rows ks (D + logical.number) ≡ true = subst (λ d. flipped_by_rows rows ks (d + logical.number) ≡ true) table.detectors logical.flipped in
       let is = deterministic-number ks (D + logical.number) logical.inside named in
       record {
         of = numbers-of ks logical.inside;
@@ -131,7 +131,7 @@ module _ (n : ℕ) (items : Items) (observable : Option ℕ) (t : ErrorTableStat
     asked = unseen.asked;
     flipped =
         let inside : D + unseen.number < bits_in items = omega (arith, unseen.in_range) in
-        subst (λ d. flips rows ks (d + unseen.number) ≡ true) (sym table.detectors)
+        subst (λ d. flipped_by_rows rows ks (d + unseen.number) ≡ true) (sym table.detectors)
         (sym (together coins ks (D + unseen.number) less inside ((table.are_deterministic.exact (D + unseen.number) inside).1 unseen.deterministic))
         ∙ unseen.flipped coins);
   }
@@ -139,7 +139,7 @@ module _ (n : ℕ) (items : Items) (observable : Option ℕ) (t : ErrorTableStat
       coins : ℕ → Bool
       coins = λ k. false
 
-      by_bit : (d : ℕ) → d < D → (b : Bool) → slice_index_or t.deterministic d false ≡ b → flips rows ks d ≡ false
+      by_bit : (d : ℕ) → d < D → (b : Bool) → slice_index_or t.deterministic d false ≡ b → flipped_by_rows rows ks d ≡ false
       by_bit d before true e =
           let inside : d < bits_in items = omega (arith, before) in
           sym (together coins ks d less inside e)

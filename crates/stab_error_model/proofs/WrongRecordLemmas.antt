@@ -1,5 +1,5 @@
 -- Wrong records: the letters of one flip the bits that one more ! at the record flips.
-use Rattle.stab_error_model.proofs.Names.{◌≡◌, ℕ, zero, suc, ◌+◌, ◌-◌, ◌≤◌, ◌<◌, refl, sym, ap, ◌∙◌, subst, Bool, true, false, not, ◌&&◌, List, [], ◌∷◌, ◌++◌, append_assoc, length, drop, arith, All, lt-ltb, le-ltb, if◌then◌else◌, drop-drop, drop-append_seam, length-append, All-nil, All-cons, All-head, All-tail, All-append, All-map, Letter, I, X, Y, Z, Axis, ◌⊕◌, letters_anticommute, parity-false, Factor, letter_of, names_twice, ControlledPair, Kind, Items, done, next, block, Step, one, two, controlled, collapse, product, detector, observable, makes, records_of, HasDistinctQubits, steps_of, controlled_step, measured, rounds, unroll, detectors_of, observables_of, StepFits, flip_of, and-left, FaultPlace, in_front, following, fault_on, with_gates, bit, bits_in, IsDeterministic, flips, FaultFits, flips_together, FaultsAdd, DeterministicParities, DeterministicParityBits, PlacesFlipDeterministicParities, parity_region, parity_kept, parity_flips, parity_deterministic, diagonal, AreNegated, collapse-negated, product-negated, negated-front, kept-last, count-following, named_there, wrong-measured, wrong-reset, wrong-product, fits-front, fits-back, Error, letter, letters, wrong_record, letters_asked, pairs_asked, each_letter, each_product, product_at, wrong_product, errors_at, errors_from, ErrorLetters, flat_map, inverted_once, with_inverted}
+use Rattle.stab_error_model.proofs.Names.{◌≡◌, ℕ, zero, suc, ◌+◌, ◌-◌, ◌≤◌, ◌<◌, refl, sym, ap, ◌∙◌, subst, Bool, true, false, not, ◌&&◌, List, [], ◌∷◌, ◌++◌, append_assoc, length, drop, arith, All, lt-ltb, le-ltb, if◌then◌else◌, drop-drop, drop-append_seam, length-append, All-nil, All-cons, All-head, All-tail, All-append, All-map, Letter, I, X, Y, Z, Axis, ◌⊕◌, letters_anticommute, parity-false, Factor, letter_of, names_twice, ControlledPair, Kind, Items, done, next, block, Step, one, two, controlled, collapse, product, detector, observable, makes, records_of, HasDistinctQubits, steps_of, controlled_step, measured, rounds, unroll, detectors_of, observables_of, StepFits, flip_of, and-left, FaultPlace, in_front, following, fault_on, with_gates, bit, bits_in, IsDeterministic, flips, FaultFits, flips_together, FaultsAdd, DeterministicParities, DeterministicParityBits, SitesFlipDeterministicParities, parity_region, parity_kept, parity_flips, parity_deterministic, diagonal, AreNegated, collapse-negated, product-negated, negated-front, kept-last, count-following, named_there, wrong-measured, wrong-reset, wrong-product, fits-front, fits-back, Error, letter, letters, wrong_record, letters_asked, pairs_asked, each_letter, each_product, product_at, wrong_product, errors_at, errors_from, ErrorLetters, flat_map, inverted_once, with_inverted}
 use Rattle.stab_instructions.specs.declared.axis.Axis.TheVariants as axis
 use Rattle.stab_instructions.specs.declared.control.ControlledPair.TheVariants as pair
 use Rattle.stab_instructions.specs.declared.operation.Kind.TheVariants as kind
@@ -63,7 +63,7 @@ inverted-at m (y ∷ ys) x rest e makes_one =
 same-difference : (a b c d : Bool) → a ⊕ c ≡ d → b ≡ d ⊕ c → a ≡ b
 same-difference a b c d e f = grind arith
 
-module _ (n : ℕ) (items : Items) (fits : All (StepFits n) (unroll items)) (found : DeterministicParities) (bits : DeterministicParityBits) (places : PlacesFlipDeterministicParities)
+module _ (n : ℕ) (items : Items) (fits : All (StepFits n) (unroll items)) (found : DeterministicParities) (bits : DeterministicParityBits) (sites : SitesFlipDeterministicParities)
     (adds : FaultsAdd) where
   abbrev xs : List Step
   xs = unroll items
@@ -132,10 +132,10 @@ module _ (n : ℕ) (items : Items) (fits : All (StepFits n) (unroll items)) (fou
 
       -- what a letter in front of the step flips, and one after it
       flips-front : (k : Letter) (q : ℕ) (coins : ℕ → Bool) → q < n → flips n items coins (fault_on t (in_front q) k) i ≡ parity_flips n D i k q (x ∷ rest)
-      flips-front k q coins less = places n items i (fault_on t (in_front q) k) fits lt less whole coins ∙ ap (parity_flips n D i k q) drop-here
+      flips-front k q coins less = sites n items i (fault_on t (in_front q) k) fits lt less whole coins ∙ ap (parity_flips n D i k q) drop-here
 
       flips-following : (k : Letter) (q : ℕ) (coins : ℕ → Bool) → q < n → flips n items coins (fault_on t (following q) k) i ≡ parity_flips n D i k q rest
-      flips-following k q coins less = places n items i (fault_on t (following q) k) fits lt less whole coins ∙ ap (parity_flips n D i k q) drop-following
+      flips-following k q coins less = sites n items i (fault_on t (following q) k) fits lt less whole coins ∙ ap (parity_flips n D i k q) drop-following
 
       -- so faults that flip what names the record are one more !
       wrong-is : (fs : List FaultPlace) (y : Step) → All (FaultFits n xs) fs → y ≡ inverted_once x → makes x ≡ 1 → StepFits n y → AreNegated n D i named (y ∷ rest) (x ∷ rest)

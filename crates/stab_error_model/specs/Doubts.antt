@@ -15,15 +15,15 @@ abbrev pub plain_tags : List (List ℕ)
 plain_tags = [] ∷ codes "X" ∷ codes "Y" ∷ codes "Z" ∷ codes "XZ" ∷ codes "XYZ" ∷ codes "pairs" ∷ []
 
 -- a byte is X, Y or Z, in either case
-abbrev pub is_letter : ℕ → Bool
-is_letter b = list_any (λ c. to_ascii_lowercase b == c) (codes "xyz")
+abbrev pub is_axis_byte : ℕ → Bool
+is_axis_byte b = list_any (λ c. to_ascii_lowercase b == c) (codes "xyz")
 
--- a tag is almost one of those: it is none, and has such letters alone, or is `pairs` in another case
+-- a tag is almost one of those, but none of them: it has such letters alone, or is `pairs` in another case
 abbrev pub is_almost_plain : (tag : List ℕ) → Bool
 is_almost_plain tag =
-    if list_any (bytes_eq tag) plain_tags then false else (list_all is_letter tag || bytes_eq (map to_ascii_lowercase tag) (codes "pairs"))
+    if list_any (bytes_eq tag) plain_tags then false else (list_all is_axis_byte tag || bytes_eq (map to_ascii_lowercase tag) (codes "pairs"))
 
--- the first doubt about pairs of targets: two are one qubit, or the last has no other
+-- the first doubt about pairs of targets: both of a pair are one qubit, or the last target has no partner
 abbrev pub doubt_about_pairs : (qubits : List ℕ) → Option Doubt
 doubt_about_pairs [] = None
 doubt_about_pairs (q ∷ []) = Some LastTarget

@@ -19,7 +19,7 @@ use Rattle.stab_regions.specs.Faults.{in_front, following, FaultPlace, fault_on}
 use Rattle.stab_jobs.specs.declared.job.ErrorLetters.{ErrorLetters}
 use Rattle.stab_jobs.specs.declared.job.ErrorLetters.TheVariants.{All, XAndZ}
 
--- an error: a letter at a place; letters at two places, both at once; or the record of this number by itself: a letter in front of its
+-- an error: a letter at a site; letters at two sites, both at once; or the record of this number by itself: a letter in front of its
 -- measurement flips the outcome, and if the qubit isn't reset the same letter after it takes the flip of the qubit back
 pub data Error : Type 0 where
   letter : FaultPlace → Error
@@ -50,17 +50,17 @@ pairs_asked All =
     ∷ (Y, I) ∷ (Y, X) ∷ (Y, Y) ∷ (Y, Z) ∷ (Z, I) ∷ (Z, X) ∷ (Z, Y) ∷ (Z, Z) ∷ []
 pairs_asked XAndZ = (I, X) ∷ (I, Z) ∷ (X, I) ∷ (X, X) ∷ (Z, I) ∷ (Z, Z) ∷ []
 
--- each of some letters, at a place that takes a letter
+-- each of some letters, at a site that takes a letter
 abbrev pub each_letter : List Letter → (Letter → FaultPlace) → List Error
 each_letter ls at = map (λ l. letter (at l)) ls
 
--- a product at two places, in which I is no fault
+-- a product at two sites, in which I is no fault
 abbrev pub product_at : (first second : Letter → FaultPlace) → (l m : Letter) → Error
 product_at first second I m = letter (second m)
 product_at first second l I = letter (first l)
 product_at first second l m = letters (first l) (second m)
 
--- each product that is asked for, at two places
+-- each product that is asked for, at two sites
 abbrev pub each_product : ErrorLetters → (first second : Letter → FaultPlace) → List Error
 each_product ls first second = map (λ p. product_at first second p.0 p.1) (pairs_asked ls)
 

@@ -1,4 +1,4 @@
--- Laws of errors everywhere: a record wrong by itself is one more ! at its measurement, and any letters at any places flip what errors of the
+-- Laws of errors everywhere: a record wrong by itself is one more ! at its measurement, and any letters at any sites flip what errors of the
 -- list flip.
 -- Source: this project's own.
 use Rattle.std.specs.Prelude.{◌≡◌, ℕ, ◌-◌, ◌<◌, nat_lt, ◌⊎◌, Bool, true, not, List, [], ◌∷◌, All, Contains, if◌then◌else◌}
@@ -37,13 +37,13 @@ abbrev pub FlipAlike : (n : ℕ) → Items → (faults others : List FaultPlace)
 FlipAlike n items faults others =
     (i : ℕ) (coins : ℕ → Bool) → i < bits_in items → IsDeterministic n items i → flip_together n items coins faults i ≡ flip_together n items coins others i
 
--- a letter at any place flips nothing, or what one error flips, if there are those of all letters
+-- a letter at any site flips nothing, or what one error flips, if there are those of all letters
 abbrev pub LettersAreErrors : Type 0
 LettersAreErrors =
     (n : ℕ) (items : Items) (f : FaultPlace) → All (StepFits n) (unroll items) → FaultFits n (unroll items) f →
     FlipAlike n items (f ∷ []) [] ⊎ ((e : Error) × Contains (errors_of true letters_of.All items) e × FlipAlike n items (f ∷ []) (faults_in e))
 
--- letters at any places, such as those of a Pauli string at one, flip what some errors flip together
+-- letters at any sites, such as those of a Pauli string between two steps, flip what some errors flip together
 abbrev pub StringsAreErrors : Type 0
 StringsAreErrors =
     (n : ℕ) (letters : ErrorLetters) (items : Items) (faults : List FaultPlace) → All (StepFits n) (unroll items) → All (FaultFits n (unroll items)) faults →

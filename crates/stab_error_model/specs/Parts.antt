@@ -1,4 +1,4 @@
--- Parts: what takes the place of an error that flips more than two detectors, if graph-like errors are asked for.
+-- Parts: what replaces an error that flips more than two detectors, if graph-like errors are asked for.
 -- Source: C. Gidney, Stim: a fast stabilizer circuit simulator (2021), errors decomposed into graph-like ones.
 use Rattle.std.specs.Prelude.{◌≡◌, ℕ, ◌⊎◌, Bool, true, false, List, [], ◌∷◌, ◌++◌}
 use Rattle.stab_gates.specs.declared.letter.Letter.{Letter}
@@ -15,24 +15,24 @@ letter_parts X = X ∷ []
 letter_parts Y = X ∷ Z ∷ []
 letter_parts Z = Z ∷ []
 
--- these at its place, each an error by itself
+-- these at its site, each an error by itself
 abbrev pub fault_parts : FaultPlace → List Error
 fault_parts f = each_letter (letter_parts f.letter) (λ l. record f { letter = l })
 
--- the parts of an error: the X and the Z at each of its places; a wrong record has none
+-- the parts of an error: the X and the Z at each of its sites; a wrong record has none
 abbrev pub parts_of : Error → List Error
 parts_of (letter f) = fault_parts f
 parts_of (letters f g) = fault_parts f ++ fault_parts g
 parts_of (wrong_record number f back) = []
 
 -- an error that flips at most two detectors stays, and any other gives way to its parts
-abbrev pub IsSplit : (n : ℕ) → Items → Error → (given : List Error) → Type 0
-IsSplit n items e given = (FlipsTwo n items e × (given ≡ e ∷ [])) ⊎ ((FlipsTwo n items e → ⊥) × (given ≡ parts_of e))
+abbrev pub GivesParts : (n : ℕ) → Items → Error → (given : List Error) → Type 0
+GivesParts n items e given = (FlipsTwo n items e × (given ≡ e ∷ [])) ⊎ ((FlipsTwo n items e → ⊥) × (given ≡ parts_of e))
 
 -- the same of errors, in order
 abbrev pub AreSplit : (n : ℕ) → Items → (whole given : List Error) → Type 0
 AreSplit n items [] given = given ≡ []
-AreSplit n items (e ∷ es) given = (first rest : List Error) × IsSplit n items e first × AreSplit n items es rest × (given ≡ first ++ rest)
+AreSplit n items (e ∷ es) given = (first rest : List Error) × GivesParts n items e first × AreSplit n items es rest × (given ≡ first ++ rest)
 
 -- the errors that are searched: these themselves, or split if graph-like errors are asked for
 abbrev pub AreSearched : (graphlike : Bool) → (n : ℕ) → Items → (whole searched : List Error) → Type 0

@@ -9,13 +9,13 @@ use Rattle.stab_error_model.specs.declared.placed.PlacedLetter.{PlacedLetter}
 use Rattle.stab_error_model.specs.declared.placed.Error.{Error as ErrorValue}
 use Rattle.stab_error_model.specs.declared.placed.Error.TheVariants as error
 
--- a letter at a place
-abbrev pub letter_at : Place → Letter → FaultPlace
-letter_at p l = record { letter = l; qubit = p.qubit; before = p.before; step = p.step }
+-- a letter at a site
+abbrev pub fault_of_letter : Place → Letter → FaultPlace
+fault_of_letter p l = record { letter = l; qubit = p.qubit; before = p.before; step = p.step }
 
 -- the fault that a value stands for
 abbrev pub fault_shown : PlacedLetter → FaultPlace
-fault_shown f = letter_at f.place f.letter
+fault_shown f = fault_of_letter f.site f.letter
 
 -- the same, if there is one
 abbrev pub faults_shown : Option PlacedLetter → List FaultPlace

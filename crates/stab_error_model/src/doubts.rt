@@ -7,7 +7,7 @@ ghost use Rattle.stab_items.specs.Items.{before, done, listed};
 ghost use Rattle.stab_circuit.specs.Steps.{check_of, most_steps, unroll};
 ghost use Rattle.stab_items.specs.Views.{circuit_items};
 ghost use Rattle.stab_error_model.specs.Errors.{marks_by, marks_of};
-ghost use Rattle.stab_error_model.specs.Doubts.{doubt_about, doubt_about_pairs, doubtful, doubts_at, doubts_from, is_almost_plain, is_letter, plain_tags};
+ghost use Rattle.stab_error_model.specs.Doubts.{doubt_about, doubt_about_pairs, doubtful, doubts_at, doubts_from, is_almost_plain, is_axis_byte, plain_tags};
 
 use crate::marks::is_idle;
 use crate::tags::is_pairs;
@@ -20,9 +20,9 @@ use std::alloc::{AllocError, Global};
 /// Why a mark may be meant in another way.
 #[derive(Clone, Copy)]
 pub enum Doubt {
-    /// Its tag is almost one that says what is marked, and is none. So each letter is.
+    /// Its tag is almost one that says which letters are marked, but isn't one, so that each letter is marked.
     Tag,
-    /// It marks pairs of targets, and the last has no other. So that one is marked by itself.
+    /// It marks pairs of targets, and the last target has no partner, so that it is marked by itself.
     LastTarget,
     /// It marks pairs of targets, and two of one pair are the same qubit.
     SameQubit,
@@ -36,8 +36,8 @@ pub struct DoubtfulMark {
 }
 
 /// Whether a byte is X, Y or Z, in either case.
-fn is_letter(byte: u8) -> bool
-    ensures value { result ≡ is_letter byte }
+fn is_axis_byte(byte: u8) -> bool
+    ensures value { result ≡ is_axis_byte byte }
 {
     let lower = byte.to_ascii_lowercase();
     lower == b'x' || lower == b'y' || lower == b'z'
@@ -45,10 +45,10 @@ fn is_letter(byte: u8) -> bool
 
 /// Whether a tag has such letters alone.
 fn has_letters_alone(tag: &[u8]) -> bool
-    ensures value { result ≡ list_all is_letter tag.now }
+    ensures value { result ≡ list_all is_axis_byte tag.now }
 {
     'bytes: for k in 0..tag.len() {
-        if !is_letter(tag[k]) {
+        if !is_axis_byte(tag[k]) {
             return false;
         }
     }
@@ -144,7 +144,7 @@ fn doubt_targets(
     push_doubt(doubts, doubt_about(tag, qubits), step)
 }
 
-/// Puts the doubt about an instruction after others, if it marks places.
+/// Puts the doubt about an instruction after others, if it marks sites.
 fn doubt_kind(
     doubts: &mut Vec<DoubtfulMark>,
     kind: &Kind,
@@ -188,10 +188,10 @@ fn doubt_items(
     requires few { step + length (unroll (listed items.now)) ≤ most_steps }
     ensures doubts { OnOk result (doubts.new.items ≡ doubts.old.items ++ doubts_from step (listed items.now)) }
 {
-    let mut place = step;
+    let mut site = step;
     'items: for item in items {
-        doubt_item(doubts, item, place)?;
-        place += item.summary().steps as usize;
+        doubt_item(doubts, item, site)?;
+        site += item.summary().steps as usize;
     }
     Ok(())
 }

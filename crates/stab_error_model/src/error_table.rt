@@ -220,8 +220,8 @@ fn table_of(
 }
 
 /// The table of the errors of a circuit on n qubits, at most 1,024: those that it marks by the gate `I`, or
-/// those of noise everywhere. If graph-like errors are asked for, the X and the Z of its letters take the place of an error that flips
-/// more than two detectors.
+/// those of noise everywhere. If graph-like errors are asked for, the X and the Z of its letters replace an error that flips more
+/// than two detectors.
 ///
 /// Refused as `Circuit::check` refuses, else `OutOfMemory`, always with line 0.
 pub fn errors(

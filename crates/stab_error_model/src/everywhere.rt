@@ -7,7 +7,7 @@ ghost use Rattle.stab_circuit.specs.Steps.{check_of, most_steps, makes, unroll};
 ghost use Rattle.stab_run.specs.Runs.{flip_of};
 ghost use Rattle.stab_regions.specs.Faults.{following, fault_on, faults_of, faults_on};
 ghost use Rattle.stab_error_model.specs.Errors.{each_product, errors_at, errors_from, wrong_product, wrong_record};
-ghost use Rattle.stab_error_model.specs.Placed.{error_shown, faults_shown, letter_at};
+ghost use Rattle.stab_error_model.specs.Placed.{error_shown, faults_shown, fault_of_letter};
 ghost use Rattle.stab_error_model.specs.inner.Adding.{Adds, ErrorStands, HasFrom, Stands};
 ghost use Rattle.stab_error_model.specs.inner.Everywhere.{back_of, reset_errors, measured_errors, factor_errors, factor_faults, step_faults};
 
@@ -23,8 +23,8 @@ use std::alloc::{AllocError, Global};
 
 /// The letter that takes a flip of a qubit back after its measurement, unless the qubit is reset.
 fn taken_back(flip: Letter, following: Place, resets: bool) -> Option<PlacedLetter>
-    ensures value { faults_shown result ≡ back_of resets (letter_at following flip) }
-    ensures place { IfSome result (λ f. f.place ≡ following) }
+    ensures value { faults_shown result ≡ back_of resets (fault_of_letter following flip) }
+    ensures site { IfSome result (λ f. f.site ≡ following) }
 {
     if resets {
         None
@@ -40,7 +40,7 @@ fn add_reset(
     following: Place,
     resets: bool,
 ) -> Result<(), AllocError>
-    ensures adds { OnOk result (Adds (Stands following) (reset_errors letters.now (letter_at following) resets) errors.old.items errors.new.items) }
+    ensures adds { OnOk result (Adds (Stands following) (reset_errors letters.now (fault_of_letter following) resets) errors.old.items errors.new.items) }
 {
     if resets {
         add_letters(errors, letters, following)?;
@@ -48,7 +48,7 @@ fn add_reset(
     Ok(())
 }
 
-/// Adds the record of this number by itself, of a letter that is measured between two places.
+/// Adds the record of this number by itself, of a letter that is measured between two sites.
 fn add_record(
     errors: &mut Vec<Error>,
     letter: Letter,
@@ -57,7 +57,7 @@ fn add_record(
     resets: bool,
     number: usize,
 ) -> Result<(), AllocError>
-    ensures adds { OnOk result (Adds (λ faults. Stands front faults × Stands following faults) (wrong_record number (letter_at front (flip_of letter)) (back_of resets (letter_at following (flip_of letter))) ∷ []) errors.old.items errors.new.items) }
+    ensures adds { OnOk result (Adds (λ faults. Stands front faults × Stands following faults) (wrong_record number (fault_of_letter front (flip_of letter)) (back_of resets (fault_of_letter following (flip_of letter))) ∷ []) errors.old.items errors.new.items) }
 {
     let flip = flip(letter);
     let error = Error::Record {
@@ -69,7 +69,7 @@ fn add_record(
     Ok(())
 }
 
-/// Adds the errors at a measurement of a letter between two places, which makes the record of this number.
+/// Adds the errors at a measurement of a letter between two sites, which makes the record of this number.
 fn add_measured(
     errors: &mut Vec<Error>,
     letters: &[Letter],
@@ -79,7 +79,7 @@ fn add_measured(
     resets: bool,
     number: usize,
 ) -> Result<(), AllocError>
-    ensures adds { OnOk result (Adds (λ faults. Stands front faults × Stands following faults) (measured_errors letters.now letter (letter_at front) (letter_at following) resets number) errors.old.items errors.new.items) }
+    ensures adds { OnOk result (Adds (λ faults. Stands front faults × Stands following faults) (measured_errors letters.now letter (fault_of_letter front) (fault_of_letter following) resets number) errors.old.items errors.new.items) }
 {
     add_letters(errors, letters, front)?;
     add_record(errors, letter, front, following, resets, number)?;

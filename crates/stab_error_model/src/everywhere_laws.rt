@@ -14,9 +14,9 @@ pub fn wrong_records_are_inverted()
     faults_add();
 }
 
-/// The errors everywhere leave no Pauli out: letters at any places, such as a Pauli string at one, flip what
+/// The errors everywhere leave no Pauli out: letters at any sites, such as a Pauli string between two steps, flip what
 /// some of these errors flip together. A single letter flips nothing, or what one error flips. So errors at
-/// idling qubits, and at earlier places, add nothing.
+/// idling qubits, and at earlier sites, add nothing.
 pub fn everywhere_is_everywhere()
     ensures letters { LettersAreErrors }
     ensures strings { StringsAreErrors }

@@ -4,8 +4,8 @@
 //! In the order in which data flows; each module uses only those before it:
 //!
 //! - `letters`: of which letters errors are made.
-//! - `placed`: letters at places, and errors of them.
-//! - `error_lists`: errors at one or two places, added to others.
+//! - `placed`: letters at sites, and errors of them.
+//! - `error_lists`: errors at one or two sites, added to others.
 //! - `tags`, `marks`, `marked`: the errors that a circuit marks.
 //! - `doubts`: marks that may be meant in another way.
 //! - `everywhere`: the errors at each step.

@@ -34,8 +34,8 @@ fn add_targets(
     ensures adds { OnOk result (Adds (HasFrom row (target_faults step qubits.now)) (each_target letters.now step qubits.now) errors.old.items errors.new.items) }
 {
     'targets: for k in 0..qubits.len() {
-        let place = Place::in_front(qubits[k].number(), step + k, row + 2 * k);
-        add_letters(errors, letters, place)?;
+        let site = Place::in_front(qubits[k].number(), step + k, row + 2 * k);
+        add_letters(errors, letters, site)?;
     }
     Ok(())
 }

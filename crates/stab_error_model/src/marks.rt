@@ -1,4 +1,4 @@
-//! The instructions of a circuit that mark places for errors, in the order in which they are carried out.
+//! The instructions of a circuit that mark sites for errors, in the order in which they are carried out.
 ghost use Rattle.std.specs.Prelude.{◌≡◌, ◌≤◌, ◌+◌, ◌*◌, ◌++◌, [], map, length, OnOk, IfOk};
 ghost use Rattle.stab_items.specs.Items.{before, done, listed};
 ghost use Rattle.stab_circuit.specs.Steps.{unroll, steps_of, most_steps};
@@ -45,7 +45,7 @@ fn mark_targets<'a>(
     Ok(())
 }
 
-/// Puts an instruction after others, if it marks places.
+/// Puts an instruction after others, if it marks sites.
 fn mark_kind<'a>(
     marks: &mut Vec<Marks<'a>>,
     kind: &'a Kind,
@@ -95,16 +95,16 @@ fn mark_rounds<'a>(
     ensures marks { OnOk result (map marks_shown marks.new.items ≡ map marks_shown marks.old.items ++ marks_from step (instruction_rounds count (instructions (listed body.now)))) }
     ensures next { IfOk result (λ next. next ≡ step + count * length (unroll (listed body.now))) }
 {
-    let mut place = step;
+    let mut site = step;
     'rounds: for _ in 0..count {
-        let next = mark_items(marks, body, place)?;
+        let next = mark_items(marks, body, site)?;
         // A round without a step marks nothing, however often it comes.
-        if next == place {
+        if next == site {
             return Ok(step);
         }
-        place = next;
+        site = next;
     }
-    Ok(place)
+    Ok(site)
 }
 
 /// Puts the marks of items after others, and gives the number of the step after them.
@@ -118,9 +118,9 @@ pub(crate) fn mark_items<'a>(
     ensures marks { OnOk result (map marks_shown marks.new.items ≡ map marks_shown marks.old.items ++ marks_from step (instructions (listed items.now))) }
     ensures next { IfOk result (λ next. next ≡ step + length (unroll (listed items.now))) }
 {
-    let mut place = step;
+    let mut site = step;
     'items: for item in items {
-        place = mark_item(marks, item, place)?;
+        site = mark_item(marks, item, site)?;
     }
-    Ok(place)
+    Ok(site)
 }

@@ -1,4 +1,4 @@
-//! Errors that flip more than two detectors, and the parts that take their place.
+//! Errors that flip more than two detectors, and the parts that replace them.
 ghost use Rattle.std.specs.Prelude.{◌≡◌, List, [], ◌∷◌, ◌++◌, IfOk, OnOk};
 ghost use Rattle.stab_error_model.specs.declared.placed.Error.{Error as ErrorValue};
 ghost use Rattle.stab_error_model.specs.Placed.{error_shown, fault_shown};
@@ -27,11 +27,11 @@ fn letter_parts(letter: Letter) -> &'static [Letter]
     }
 }
 
-/// Adds the X and the Z of a letter, at its place.
+/// Adds the X and the Z of a letter, at its site.
 fn add_letter_parts(errors: &mut Vec<Error>, placed: PlacedLetter) -> Result<(), AllocError>
-    ensures adds { OnOk result (Adds (Stands placed.place) (fault_parts (fault_shown placed)) errors.old.items errors.new.items) }
+    ensures adds { OnOk result (Adds (Stands placed.site) (fault_parts (fault_shown placed)) errors.old.items errors.new.items) }
 {
-    add_letters(errors, letter_parts(placed.letter), placed.place)?;
+    add_letters(errors, letter_parts(placed.letter), placed.site)?;
     Ok(())
 }
 

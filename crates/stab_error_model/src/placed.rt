@@ -1,13 +1,13 @@
-//! Letters at places between steps, and errors of them.
+//! Letters at sites between steps, and errors of them.
 ghost use Rattle.std.specs.Prelude.{◌≡◌, List};
 ghost use Rattle.stab_regions.specs.Faults.{FaultPlace};
 ghost use Rattle.stab_error_model.specs.inner.Adding.{ErrorStands, Stands};
-ghost use Rattle.stab_error_model.specs.Placed.{error_shown, fault_shown, letter_at};
+ghost use Rattle.stab_error_model.specs.Placed.{error_shown, fault_shown, fault_of_letter};
 ghost use Rattle.stab_error_model.specs.Errors.{product_at};
 
 use stab_gates::Letter;
 
-/// A place for errors: a qubit in front of a step or after it.
+/// A site for errors: a qubit in front of a step or after it.
 #[derive(Clone, Copy)]
 pub(crate) struct Place {
     pub qubit: usize,
@@ -23,7 +23,7 @@ pub(crate) struct Place {
 #[derive(Clone, Copy)]
 pub struct PlacedLetter {
     pub letter: Letter,
-    pub(crate) place: Place,
+    pub(crate) site: Place,
 }
 
 /// What goes wrong at once.
@@ -31,7 +31,7 @@ pub struct PlacedLetter {
 pub enum Error {
     /// A letter.
     Letter(PlacedLetter),
-    /// Letters at two places.
+    /// Letters at two sites.
     Letters(PlacedLetter, PlacedLetter),
     /// The record of this number by itself: a letter in front of the measurement flips its outcome, and
     /// unless the qubit is reset, the same letter after it flips the qubit back.
@@ -67,21 +67,21 @@ impl PlacedLetter {
     pub fn qubit(self) -> usize
         ensures value { result ≡ (fault_shown self).qubit }
     {
-        self.place.qubit
+        self.site.qubit
     }
 
     /// How many steps are in front of it.
     pub fn before(self) -> usize
         ensures value { result ≡ (fault_shown self).before }
     {
-        self.place.before
+        self.site.before
     }
 
     /// The number of the step that it is at.
     pub fn step(self) -> usize
         ensures value { result ≡ (fault_shown self).step }
     {
-        self.place.step
+        self.site.step
     }
 }
 
@@ -90,11 +90,11 @@ impl Place {
     ghost use Rattle.stab_gates.specs.declared.letter.Letter.{Letter};
     ghost use Rattle.stab_circuit.specs.Steps.{most_steps};
     ghost use Rattle.stab_regions.specs.Faults.{fault_on, in_front as site_in_front, following as site_after};
-    ghost use Rattle.stab_error_model.specs.Placed.{fault_shown, letter_at};
+    ghost use Rattle.stab_error_model.specs.Placed.{fault_shown, fault_of_letter};
 
     /// A qubit in front of a step, with its row.
     pub fn in_front(qubit: usize, step: usize, row: usize) -> Place
-        ensures value { (l : Letter) → letter_at result l ≡ fault_on step (site_in_front qubit) l }
+        ensures value { (l : Letter) → fault_of_letter result l ≡ fault_on step (site_in_front qubit) l }
         ensures row { result.row ≡ row }
     {
         Place {
@@ -108,7 +108,7 @@ impl Place {
     /// A qubit after a step, with its row.
     pub fn following(qubit: usize, step: usize, row: usize) -> Place
         requires few { step ≤ most_steps }
-        ensures value { (l : Letter) → letter_at result l ≡ fault_on step (site_after qubit) l }
+        ensures value { (l : Letter) → fault_of_letter result l ≡ fault_on step (site_after qubit) l }
         ensures row { result.row ≡ row }
     {
         Place {
@@ -121,18 +121,15 @@ impl Place {
 
     /// A letter there.
     pub fn with(self, letter: Letter) -> PlacedLetter
-        ensures value { result ≡ record { letter = letter; place = self } }
+        ensures value { result ≡ record { letter = letter; site = self } }
     {
-        PlacedLetter {
-            letter,
-            place: self,
-        }
+        PlacedLetter { letter, site: self }
     }
 }
 
-/// The error of a product at two places, in which I is none.
+/// The error of a product at two sites, in which I is no letter.
 pub(crate) fn product_at(first: Place, second: Place, pair: (Letter, Letter)) -> Error
-    ensures value { error_shown result ≡ product_at (letter_at first) (letter_at second) pair.0 pair.1 }
+    ensures value { error_shown result ≡ product_at (fault_of_letter first) (fault_of_letter second) pair.0 pair.1 }
     ensures stands { (faults : List FaultPlace) → Stands first faults → Stands second faults → ErrorStands faults result }
 {
     match pair {

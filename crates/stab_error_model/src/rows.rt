@@ -23,19 +23,19 @@ fn row_at(table: &FaultTable, number: usize) -> &[u32]
     }
 }
 
-/// What X flips at a place.
-fn by_x(table: &FaultTable, place: Place) -> &[u32]
-    ensures value { result.now ≡ row table.now.rows place.row }
+/// What X flips at a site.
+fn by_x(table: &FaultTable, site: Place) -> &[u32]
+    ensures value { result.now ≡ row table.now.rows site.row }
 {
-    row_at(table, place.row)
+    row_at(table, site.row)
 }
 
-/// What Z flips at a place.
-fn by_z(table: &FaultTable, place: Place) -> &[u32]
-    ensures value { result.now ≡ row table.now.rows (place.row + 1) }
+/// What Z flips at a site.
+fn by_z(table: &FaultTable, site: Place) -> &[u32]
+    ensures value { result.now ≡ row table.now.rows (site.row + 1) }
 {
-    if place.row < table.len() {
-        row_at(table, place.row + 1)
+    if site.row < table.len() {
+        row_at(table, site.row + 1)
     } else {
         &[]
     }
@@ -62,7 +62,7 @@ fn merged(alloc: Global, left: &[u32], right: &[u32]) -> Result<Vec<u32>, AllocE
     Ok(numbers)
 }
 
-/// What a letter at a place flips.
+/// What a letter at a site flips.
 fn letter_row(
     alloc: Global,
     table: &FaultTable,
@@ -72,16 +72,16 @@ fn letter_row(
     ensures ascending { IfOk result (λ v. IsAscending v.items) }
     ensures odd { IfOk result (λ v. (i : ℕ) → odd i v.items ≡ letter_names i table.now.rows placed) }
 {
-    let place = placed.place;
+    let site = placed.site;
     match placed.letter {
         Letter::I => Ok(Vec::new(alloc)),
-        Letter::X => copied(alloc, by_x(table, place)),
-        Letter::Y => merged(alloc, by_x(table, place), by_z(table, place)),
-        Letter::Z => copied(alloc, by_z(table, place)),
+        Letter::X => copied(alloc, by_x(table, site)),
+        Letter::Y => merged(alloc, by_x(table, site), by_z(table, site)),
+        Letter::Z => copied(alloc, by_z(table, site)),
     }
 }
 
-/// What two letters at places flip together.
+/// What two letters at sites flip together.
 fn letters_row(
     alloc: Global,
     table: &FaultTable,

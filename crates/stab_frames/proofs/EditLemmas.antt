@@ -1,4 +1,4 @@
--- Edits that put Pauli gates in the place of others: the run of the edited circuit is the old one, flipped.
+-- Edits that replace Pauli gates by others: the run of the edited circuit is the old one, flipped.
 use Rattle.stab_frames.proofs.Names.{◌≡◌, ℕ, ◌<◌, refl, ◌∙◌, ap, Bool, List, [], ◌∷◌, ◌++◌, map, All-nil, All-cons, All-head, All-tail, All-append, Letter, Step, one, gate_of, RunOutput, origin, nothing, joined, point_after, outputs, StepFits, lengths_of, Matches, flipped_output, unflipped, identity_frame, same_coins, changed, frame_over, flips_over, edit_frame, IsFlippedRun, FrontsFlip, FrontsGoOn, FrontsTakePaulis, PauliFronts, PauliEditsFlip, CoinsFlip, CheckpointsTakeFrames}
 use Rattle.std.specs.Prelude.{All}
 use Rattle.stab_frames.proofs.FlipLemmas.{length-flipped, length-flipped_additions}

@@ -9,7 +9,7 @@ single-anticommute n q l f size lt =
     ∙ one_letter-anticommute n q l f size lt
     ∙ letters_anticommute-comm l (get_or f q I)
 
--- with a string into which a letter is put in the place of I
+-- with a string into which a letter is put instead of I
 anticommute-set : (f p : List Letter) (q : ℕ) (l : Letter) → length p ≡ length f → q < length p → get_or p q I ≡ I
     → strings_anticommute f (set p q l) ≡ letters_anticommute (get_or f q I) l ⊕ strings_anticommute f p
 anticommute-set [] p q l e lt blank = absurd (omega (arith, e))

@@ -1,7 +1,7 @@
 -- Free outcomes: how many of them there are, strings of them, and how often their coins are asked for.
 use Rattle.stab_frames.proofs.Names.{◌≡◌, ℕ, zero, suc, ◌+◌, ◌-◌, ◌<◌, ◌≤◌, refl, sym, ◌∙◌, ap, Bool, true, false, List, [], ◌∷◌, length, take, drop, get_or, arith, Option, Some, None, slice_get, if◌then◌else◌, slice_get-get_or, take-add, Letter, ones, ones-append, pivot_at, PropagationState, IsPlaced, AsksFree, IsMissing}
 
--- how many are free
+-- how many are random
 
 pub ones-split : (a b : ℕ) (bits : List Bool) → ones (take (a + b) bits) ≡ ones (take a bits) + ones (take b (drop a bits))
 ones-split a b bits = ap ones (take-add a b bits) ∙ ones-append (take a bits) (take b (drop a bits))
@@ -34,7 +34,7 @@ pub placed-next : (free : List Bool) (flag : Bool) (old new : PropagationState) 
 placed-next free flag old new placed e coin number =
     number ∙ ap (λ k. k + ones (flag ∷ [])) placed ∙ ones-next free old.coin flag e ∙ ap (λ k. ones (take k free)) (sym coin)
 
--- the pivot of an outcome that was fixed, and of a free one whose string was kept
+-- the pivot of an outcome that was fixed, and of a random one whose string was kept
 
 pub pivot-none : (strings : List (List Letter)) (free : List Bool) (coin : ℕ) → get_or free coin false ≡ false → pivot_at strings free coin ≡ None
 pivot-none strings free coin e = ap (λ b. if b then slice_get strings (ones (take coin free)) else None) e

@@ -1,4 +1,4 @@
--- Runs of two circuits that differ by Pauli gates at one place.
+-- Runs of two circuits that differ by Pauli gates at one position.
 use Rattle.stab_frames.proofs.Names.{◌≡◌, ℕ, ◌<◌, refl, sym, ◌∙◌, ap, subst, Bool, false, List, [], ◌∷◌, ◌++◌, length, map, replicate, length-replicate, All-head, All-tail, Letter, string_product, member, IsStabiliserGroup, group-zeros, Step, one, State, start, gate_of, run, Point, RunOutput, origin, nothing, joined, next_point, point_after, outputs, with_additions, StepFits, Matches, flipped, flipped_output, unflipped, Frame, PointsDifferBy, frame_of, RunPivots, changed, frame_over, flips_over, AreEnough, letters_on, AreFronts, joined-nothing, after-append, outputs-append, run-state, records-are-records}
 use Rattle.std.specs.Prelude.{All}
 use Rattle.stab_frames.proofs.FlipLemmas.{flipped-joined, joined-matches, flipped-none, unflipped-output, unflipped-matches, additions-flipped}

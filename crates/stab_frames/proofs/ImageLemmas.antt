@@ -13,7 +13,7 @@ pair-image g letters a b l m x y el em ex ey = λ i.
     ((ey ∙ (λ j. letter_at (pair_letters g (el j) (em j)).letters 1)) i)
 
 -- what a gate on two qubits makes of the letters there, by the letter that it controls: this is put on the second if the first has an X part,
--- and Z on the first if the second anticommutes with it. Without one the letters change places
+-- and Z on the first if the second anticommutes with it. Without one the letters are exchanged
 
 abbrev pub first_by : Option Letter → (l m : Letter) → Letter
 first_by (Some c) l m = letter_product l (letter_where (letters_anticommute m c) Z)

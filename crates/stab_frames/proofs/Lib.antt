@@ -17,6 +17,7 @@ pub mod WeightLemmas
 pub mod StillLemmas
 pub mod OverLemmas
 pub mod TreatedLemmas
+pub mod AlikeLemmas
 pub mod TrueLemmas
 pub mod PivotAtLemmas
 pub mod FreeLemmas

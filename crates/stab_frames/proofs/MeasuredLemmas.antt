@@ -4,7 +4,7 @@ use Rattle.stab_pauli.specs.Paulis.{product}
 use Rattle.stab_frames.proofs.SignLemmas.{sign-sign, sign-twice, product-sign_left, product-sign_right}
 use Rattle.stab_frames.proofs.PropagatedPointLemmas.{conjugated-over, conjugated-comm, conjugated-stabiliser}
 
--- what is free stays free
+-- what is random stays random
 free-sides : (u v : Signed → Bool) (q : Signed) (x : Bool) → v q ≡ u (with_sign x q) → v (minus q) ≡ u (with_sign x (minus q)) → is_free_by v q ≡ is_free_by u q
 free-sides u v q false e g = λ i. not (e i) && not (g i)
 free-sides u v q true e g =
@@ -17,7 +17,7 @@ pub conjugated-free : (n : ℕ) (f : List Letter) (u v : Signed → Bool) → Is
     → is_free_by v q ≡ is_free_by u q
 conjugated-free n f u v h q l = free-sides u v q (strings_anticommute f q.letters) (h q l) (h (minus q) l)
 
--- on the other coin each outcome is flipped, fixed or free, if the letters anticommute with what is measured
+-- on the other coin each outcome is flipped, fixed or random, if the letters anticommute with what is measured
 
 pub opposite : (m k coin : Bool) → (m ≡ true → k ≡ false) → (if k then false else (if m then true else not coin)) ≡ not (if m then false else (if k then true else coin))
 opposite true true coin distinct = let f : true ≡ false = distinct refl in cc
@@ -97,7 +97,7 @@ module _ (n : ℕ) (f : List Letter) (u v : Signed → Bool) (h : IsConjugated n
       else (if (h (minus q) lq ∙ ap (λ b. u (with_sign b (minus q))) e ∙ ap u (sign-twice true q)) i then true else not coin))
       ∙ opposite (u q) (u (minus q)) coin (group.one_sign q lq)
 
-  -- a free outcome is the coin in both
+  -- a random outcome is the coin in both
   outcome-free : (s : List Letter) → IsPivot n u q s → (coin other : Bool) → (outcome_by u q coin ≡ coin) × (outcome_by v q other ≡ other)
   outcome-free s e coin other =
       let free : is_free_by u q ≡ true = pivoted-free n u group q lq s e in

@@ -2,7 +2,7 @@
 use Rattle.stab_frames.proofs.Names.{◌≡◌, ℕ, ◌+◌, ◌-◌, ◌<◌, ◌≤◌, refl, sym, ◌∙◌, ap, subst, Bool, false, List, [], ◌∷◌, ◌++◌, append_assoc, drop, get_or, arith, take-append-drop, Letter, ◌⊕◌, parity-comm, Signed, single, Event, is_free, Step, one, two, controlled, collapse, product, detector, observable, string_of, outcome_at, Point, coins_of, all_coins_of, given, next_point, outputs, free-outcome, pivot_at, PropagationState, frame_at, PropagatesToOthers, outcome_of, differing, IsDrawn, AreDrawn, AreDetermined, GoesOver}
 use Rattle.stab_frames.proofs.PropagatedLemmas.{first-flag, determined-enough}
 
--- an outcome gives the coin of a free one
+-- an outcome gives the coin of a random one
 
 measured-determined : (coins others olds : ℕ → Bool) (free : List Bool) (m : Signed) (trace : List Event) (c : ℕ) → get_or free c false ≡ is_free trace m
     → olds c ≡ outcome_at coins m trace c → IsDrawn free (differing olds others) (λ t. others t ⊕ coins t) c

@@ -24,7 +24,7 @@ get-take (suc n) [] i lt = refl
 get-take (suc n) (x ∷ xs) zero lt = refl
 get-take (suc n) (x ∷ xs) (suc i) lt = get-take n xs i (omega arith)
 
--- fewer are free before one that is free than are free in all
+-- fewer are random before one that is random than are random in all
 pub ones-before : (free : List Bool) (t : ℕ) → get_or free t false ≡ true → ones (take t free) < ones free
 ones-before [] t e = cc
 ones-before (true ∷ free) zero e = omega arith
@@ -52,11 +52,11 @@ pivot-equal strings others free flags t u flag same =
 
 kept-get : (most : ℕ) (strings more : List (List Letter)) (count i : ℕ) → length strings ≡ min count most → i < count
     → slice_get (take most (strings ++ more)) i ≡ slice_get strings i
-kept-get most strings more count i e lt = by_place (cases_lt i (length strings))
+kept-get most strings more count i e lt = by_position (cases_lt i (length strings))
   where
-    by_place : (i < length strings) ⊎ (length strings ≤ i) → slice_get (take most (strings ++ more)) i ≡ slice_get strings i
-    by_place (inl near) = get-take most (strings ++ more) i (omega arith) ∙ get-append strings more i near
-    by_place (inr past) =
+    by_position : (i < length strings) ⊎ (length strings ≤ i) → slice_get (take most (strings ++ more)) i ≡ slice_get strings i
+    by_position (inl near) = get-take most (strings ++ more) i (omega arith) ∙ get-append strings more i near
+    by_position (inr past) =
         slice_get_past (take most (strings ++ more)) i (omega (arith, length-take most (strings ++ more)))
         ∙ sym (slice_get_past strings i past)
 
@@ -83,23 +83,23 @@ pub pivot-fixed : (strings : List (List Letter)) (free : List Bool) → pivot_at
 pivot-fixed strings free =
     ap (λ b. if b then slice_get strings (ones (take (length free) (free ++ false ∷ []))) else None) (flag-here free false)
 
--- and if it was free the string that was put after the others, or none if no more are kept
+-- and if it was random the string that was put after the others, or none if no more are kept
 pub pivot-free : (P : List Letter → Type 0) (most : ℕ) (strings : List (List Letter)) (s : List Letter) (free : List Bool)
     → length strings ≡ min (ones free) most → P s → IfSome (pivot_at (take most (strings ++ s ∷ [])) (free ++ true ∷ []) (length free)) P
 pivot-free P most strings s free e is =
     subst (λ o. IfSome o P) (sym (ap (λ b. if b then slice_get (take most (strings ++ s ∷ [])) (ones (take (length free) (free ++ true ∷ []))) else None) (flag-here free true)
-    ∙ ap (λ bits. slice_get (take most (strings ++ s ∷ [])) (ones bits)) (front-here free true))) (by_place (cases_lt (length strings) most))
+    ∙ ap (λ bits. slice_get (take most (strings ++ s ∷ [])) (ones bits)) (front-here free true))) (by_position (cases_lt (length strings) most))
   where
-    by_place : (length strings < most) ⊎ (most ≤ length strings) → IfSome (slice_get (take most (strings ++ s ∷ [])) (ones free)) P
-    by_place (inl more) =
+    by_position : (length strings < most) ⊎ (most ≤ length strings) → IfSome (slice_get (take most (strings ++ s ∷ [])) (ones free)) P
+    by_position (inl more) =
         let i : ones free ≡ length strings + 0 = omega (arith, e, more) in
         subst (λ o. IfSome o P)
         (sym (get-take most (strings ++ s ∷ []) (ones free) (omega (arith, e, more)) ∙ ap (slice_get (strings ++ s ∷ [])) i ∙ get-following strings (s ∷ []) 0)) is
-    by_place (inr full) =
+    by_position (inr full) =
         subst (λ o. IfSome o P)
         (sym (slice_get_past (take most (strings ++ s ∷ [])) (ones free) (omega (arith, length-take most (strings ++ s ∷ []), e, full)))) tt
 
--- outcomes after as many free ones as strings are kept have no pivots
+-- outcomes after as many random ones as strings are kept have no pivots
 
 pub if-none : (b : Bool) (o : Option (List Letter)) → o ≡ None → (if b then o else None) ≡ None
 if-none true o e = e

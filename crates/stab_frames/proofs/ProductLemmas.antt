@@ -24,37 +24,37 @@ module _ (first : ℕ) (string old : List Letter) where
         ∙ er ∙ ap (λ x. letter_product x (get_or string (first + b) I)) (el ∙ propagated.left b lb one)
 
     inside-next : (j : ℕ) → j < 64 → chooses next j ≡ true → first + j < length old
-    inside-next j lj chosen = by_place (cases_order j b)
+    inside-next j lj chosen = by_position (cases_order j b)
       where
         distinct : j ≢ b → first + j < length old
         distinct ne = propagated.inside j lj (sym (kept j ne lj) ∙ chosen)
 
-        by_place : (j ≡ b) ⊎ ((j < b) ⊎ (b < j)) → first + j < length old
-        by_place (inl e) = clash (chooses next b) (ap (chooses next) (sym e) ∙ chosen) gone
-        by_place (inr (inl lt)) = distinct (omega arith)
-        by_place (inr (inr gt)) = distinct (omega arith)
+        by_position : (j ≡ b) ⊎ ((j < b) ⊎ (b < j)) → first + j < length old
+        by_position (inl e) = clash (chooses next b) (ap (chooses next) (sym e) ∙ chosen) gone
+        by_position (inr (inl lt)) = distinct (omega arith)
+        by_position (inr (inr gt)) = distinct (omega arith)
 
     done-next : (j : ℕ) → j < 64 → chooses next j ≡ false → get_or new (first + j) I ≡ letter_product (get_or old (first + j) I) (get_or string (first + j) I)
-    done-next j lj none = by_place (cases_order j b)
+    done-next j lj none = by_position (cases_order j b)
       where
         distinct : j ≢ b → get_or new (first + j) I ≡ letter_product (get_or old (first + j) I) (get_or string (first + j) I)
         distinct ne = other (first + j) (omega arith) ∙ propagated.done j lj (sym (kept j ne lj) ∙ none)
 
-        by_place : (j ≡ b) ⊎ ((j < b) ⊎ (b < j)) → get_or new (first + j) I ≡ letter_product (get_or old (first + j) I) (get_or string (first + j) I)
-        by_place (inl e) = subst (λ i. get_or new (first + i) I ≡ letter_product (get_or old (first + i) I) (get_or string (first + i) I)) (sym e) here
-        by_place (inr (inl lt)) = distinct (omega arith)
-        by_place (inr (inr gt)) = distinct (omega arith)
+        by_position : (j ≡ b) ⊎ ((j < b) ⊎ (b < j)) → get_or new (first + j) I ≡ letter_product (get_or old (first + j) I) (get_or string (first + j) I)
+        by_position (inl e) = subst (λ i. get_or new (first + i) I ≡ letter_product (get_or old (first + i) I) (get_or string (first + i) I)) (sym e) here
+        by_position (inr (inl lt)) = distinct (omega arith)
+        by_position (inr (inr gt)) = distinct (omega arith)
 
     left-next : (j : ℕ) → j < 64 → chooses next j ≡ true → get_or new (first + j) I ≡ get_or old (first + j) I
-    left-next j lj chosen = by_place (cases_order j b)
+    left-next j lj chosen = by_position (cases_order j b)
       where
         distinct : j ≢ b → get_or new (first + j) I ≡ get_or old (first + j) I
         distinct ne = other (first + j) (omega arith) ∙ propagated.left j lj (sym (kept j ne lj) ∙ chosen)
 
-        by_place : (j ≡ b) ⊎ ((j < b) ⊎ (b < j)) → get_or new (first + j) I ≡ get_or old (first + j) I
-        by_place (inl e) = clash (chooses next b) (ap (chooses next) (sym e) ∙ chosen) gone
-        by_place (inr (inl lt)) = distinct (omega arith)
-        by_place (inr (inr gt)) = distinct (omega arith)
+        by_position : (j ≡ b) ⊎ ((j < b) ⊎ (b < j)) → get_or new (first + j) I ≡ get_or old (first + j) I
+        by_position (inl e) = clash (chooses next b) (ap (chooses next) (sym e) ∙ chosen) gone
+        by_position (inr (inl lt)) = distinct (omega arith)
+        by_position (inr (inr gt)) = distinct (omega arith)
 
     others-next : (q : ℕ) → (q < first) ⊎ (first + 64 ≤ q) → get_or new q I ≡ get_or old q I
     others-next q (inl lt) = other q (omega arith) ∙ propagated.others q (inl lt)
@@ -69,7 +69,7 @@ module _ (first : ℕ) (string old : List Letter) where
       others = others-next;
     }
 
--- all letters before a place are multiplied, and none from there on
+-- all letters before a position are multiplied, and none from there on
 pub record IsMultipliedTo (k : ℕ) (string old now : List Letter) : Type 0 where
   pub size : length now ≡ length old
   pub done : (q : ℕ) → q < k → get_or now q I ≡ letter_product (get_or old q I) (get_or string q I)
@@ -80,13 +80,13 @@ pub multiplied-word : (w : ℕ) (string old now new : List Letter) → IsMultipl
     → IsMultipliedTo (64 * (w + 1)) string old new
 multiplied-word w string old now new so then = record {
   size = then.size ∙ so.size;
-  done = λ q lt. by_place q lt (cases_lt q (64 * w));
+  done = λ q lt. by_position q lt (cases_lt q (64 * w));
   left = λ q le. then.others q (inr (omega arith)) ∙ so.left q (omega arith);
 }
   where
-    by_place : (q : ℕ) → q < 64 * (w + 1) → (q < 64 * w) ⊎ (64 * w ≤ q) → get_or new q I ≡ letter_product (get_or old q I) (get_or string q I)
-    by_place q lt (inl early) = then.others q (inl early) ∙ so.done q early
-    by_place q lt (inr late) =
+    by_position : (q : ℕ) → q < 64 * (w + 1) → (q < 64 * w) ⊎ (64 * w ≤ q) → get_or new q I ≡ letter_product (get_or old q I) (get_or string q I)
+    by_position q lt (inl early) = then.others q (inl early) ∙ so.done q early
+    by_position q lt (inr late) =
         subst (λ i. get_or new i I ≡ letter_product (get_or old i I) (get_or string i I)) (let e : 64 * w + (q - 64 * w) ≡ q = omega arith in e)
         (then.within (q - 64 * w) (omega arith)
         ∙ ap (λ x. letter_product x (get_or string (64 * w + (q - 64 * w)) I)) (so.left (64 * w + (q - 64 * w)) (omega arith)))

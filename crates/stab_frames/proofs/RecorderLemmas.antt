@@ -67,7 +67,7 @@ keeps-full n coins xs kept old new full run ys at numbered is =
 
 -- one step
 
--- a measurement whose outcome is fixed, and one whose outcome is free
+-- a measurement whose outcome is fixed, and one whose outcome is random
 module _ (n : ℕ) (coins : ℕ → Bool) (x : Step) (m : Signed) (kept following : PivotsState) (old new : ProgramState) (measured : measured_by n x ≡ Some m)
     (size : length m.letters ≡ n) (gives : (p : Point) → (given n coins x p).free ≡ is_free p.trace m ∷ []) (most : following.most ≡ kept.most)
     (run : IsRun n coins (x ∷ []) old new) where

@@ -68,7 +68,7 @@ by_frame-paulis n coins l (q ∷ qs) fits a =
     (by_frame-pauli n coins l q (All-head (λ q. q < n) q qs fits) a)
     (by_frame-paulis n coins l qs (All-tail (λ q. q < n) q qs fits) next))
 
--- some Pauli gates in the place of others
+-- some Pauli gates instead of others
 
 pub by_frame-exchanged : (n : ℕ) (coins : ℕ → Bool) (l m : Letter) (qs rs : List ℕ) → All (λ q. q < n) qs → All (λ q. q < n) rs → (a : Point)
     → PointsDifferBy n (frame_of (string_product (letters_on n l qs) (letters_on n m rs)) (length a.records))

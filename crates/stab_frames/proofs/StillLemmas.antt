@@ -5,15 +5,15 @@ use Rattle.stab_frames.proofs.WeightLemmas.{weight-none}
 -- records after others that are 0
 
 pub looked_up-base : (base : ℕ) (bits : List Bool) (k : ℕ) → looked_up (replicate base false ++ bits) k ≡ looked_up bits k
-looked_up-base base bits k = by_place (cases_lt (length bits) k)
+looked_up-base base bits k = by_position (cases_lt (length bits) k)
   where
-    by_place : (length bits < k) ⊎ (k ≤ length bits) → looked_up (replicate base false ++ bits) k ≡ looked_up bits k
-    by_place (inl far) =
+    by_position : (length bits < k) ⊎ (k ≤ length bits) → looked_up (replicate base false ++ bits) k ≡ looked_up bits k
+    by_position (inl far) =
         looked_up-far (replicate base false) bits k far
         ∙ looked_up-zeros base (k - length bits)
         ∙ sym (looked_up-zeros 0 (k - length bits))
         ∙ sym (looked_up-far [] bits k far)
-    by_place (inr near) = looked_up-near (replicate base false) bits k near
+    by_position (inr near) = looked_up-near (replicate base false) bits k near
 
 pub parity-base : (base : ℕ) (bits : List Bool) (ks : List ℕ) → parity (replicate base false ++ bits) ks ≡ parity bits ks
 parity-base base bits [] = refl

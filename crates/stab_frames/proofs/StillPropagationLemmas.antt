@@ -1,5 +1,7 @@
--- Still propagations: a frame after measurements with which it commutes.
-use Rattle.stab_frames.proofs.Names.{◌≡◌, ℕ, suc, ◌+◌, ◌-◌, ◌<◌, ◌≤◌, refl, sym, ◌∙◌, ap, subst, Bool, true, false, ◌&&◌, List, [], ◌∷◌, ◌++◌, append-nil, length, take, drop, replicate, map, All, arith, list_any, take_all, length-replicate, length-take, All-tail, All-head, Letter, single, MeasureTarget, Measurement, letter_of, measured, Addition, joined-nothing, joined-assoc, ones, flip_of, joined, StepFits, or-left, or-right, times_where, PropagationState, IsPlaced, GoesOver, none_flipped, touches_target}
+-- Still propagations: a frame after measurements with which it commutes, and what it has flipped, flipped again.
+use Rattle.stab_frames.proofs.Names.{◌≡◌, ℕ, zero, suc, ◌+◌, ◌-◌, ◌<◌, ◌≤◌, refl, sym, ◌∙◌, ap, subst, Bool, true, false, ◌&&◌, List, [], ◌∷◌, ◌++◌, append-nil, length, take, drop, replicate, map, All, arith, list_any, take_all, length-replicate, length-take, All-tail, All-head, Letter, single, MeasureTarget, Measurement, letter_of, measured, Addition, joined-nothing, joined-assoc, ones, flip_of, joined, StepFits, or-left, or-right, times_where, PropagationState, IsPlaced, GoesOver, none_flipped, touches_target}
+use Rattle.stab_run.specs.Cuts.{rest_of}
+use Rattle.stab_run.specs.declared.records.Lengths.{Lengths}
 use Rattle.stab_frames.proofs.FactorLemmas.{single-anticommute}
 use Rattle.stab_frames.proofs.FreeLemmas.{ones-split}
 use Rattle.stab_frames.proofs.MeasuredPropagatedLemmas.{passed-alike}
@@ -49,6 +51,37 @@ still-view letters records more outcomes others detectors free additions coin nu
       number = number + ef i;
     })
     ∙ ap (λ (v : PropagationState). still_after k (v.number + ones (take k (drop v.coin free))) v) e
+
+-- and if what it has flipped since is flipped again
+
+zeros-rest : (k : ℕ) (bits : List Bool) → replicate (length (drop k bits)) false ≡ drop k (replicate (length bits) false)
+zeros-rest zero bits = refl
+zeros-rest (suc k) [] = refl
+zeros-rest (suc k) (bit ∷ bits) = zeros-rest k bits
+
+pub again-view : (letters : List Letter) (records more outcomes others detectors tests : List Bool) (additions sums : List Addition) (coin number coins : ℕ) (from : Lengths) (w : PropagationState)
+    → ◌≡◌ {A = PropagationState}
+    (record { letters = letters; flips = record { records = records; free = replicate (length outcomes) false; outcomes = outcomes; detectors = detectors; additions = additions }; coin = coin; number = number })
+    w
+    → more ≡ records ++ drop from.records records → others ≡ outcomes ++ drop from.free outcomes
+    → tests ≡ detectors ++ drop from.detectors detectors → sums ≡ additions ++ drop from.additions additions
+    → ◌≡◌ {A = PropagationState}
+    (record { letters = letters; flips = record { records = more; free = replicate (length others) false; outcomes = others; detectors = tests; additions = sums }; coin = coin + coins; number = number })
+    (record w { flips = joined w.flips (rest_of from w.flips); coin = w.coin + coins })
+again-view letters records more outcomes others detectors tests additions sums coin number coins from w e em eo et es =
+    (λ i. record {
+      letters = letters;
+      flips = record {
+        records = em i;
+        free = (ap (λ bits. replicate (length bits) false) eo ∙ zeros-append outcomes (drop from.free outcomes) ∙ ap (λ bits. replicate (length outcomes) false ++ bits) (zeros-rest from.free outcomes)) i;
+        outcomes = eo i;
+        detectors = et i;
+        additions = es i;
+      };
+      coin = coin + coins;
+      number = number;
+    })
+    ∙ ap (λ (v : PropagationState). record v { flips = joined v.flips (rest_of from v.flips); coin = v.coin + coins }) e
 
 -- over measurements with which it commutes, one of them and all
 

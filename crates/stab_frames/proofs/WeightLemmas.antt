@@ -1,4 +1,4 @@
--- Weights: what a letter put at a place makes of one, and strings of weight 0.
+-- Weights: what a letter put at a position makes of one, and strings of weight 0.
 use Rattle.stab_frames.proofs.Names.{◌≡◌, ℕ, zero, suc, ◌+◌, ◌<◌, ◌≤◌, refl, ap, List, [], ◌∷◌, length, replicate, get_or, set, arith, Letter, I, X, Y, Z, letter_weight, string_weight}
 
 pub weight-set : (letters : List Letter) (q : ℕ) (l : Letter) → q < length letters

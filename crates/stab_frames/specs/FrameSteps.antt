@@ -14,7 +14,7 @@ use Rattle.stab_frames.specs.Frames.{plus, Frame, times_where}
 use Rattle.stab_frames.specs.RunPivots.{RunPivots}
 
 -- whether an outcome is flipped, by its pivot, whether the coins differ, and whether the frame anticommutes with what is measured: a fixed
--- one if it anticommutes, a free one if the coins differ
+-- one if it anticommutes, a random one if the coins differ
 abbrev pub flip_by : Option (List Letter) → Bool → Bool → Bool
 flip_by None change anticommuting = anticommuting
 flip_by (Some s) change anticommuting = change
@@ -54,7 +54,7 @@ letters_after n pivots (observable j ks) coin f = f.letters
 abbrev pub one_flipped : Bool → Bool → RunOutput
 one_flipped recorded flip = record nothing { records = when recorded flip; free = false ∷ []; outcomes = flip ∷ [] }
 
--- which bits of what a step gives are flipped; which outcomes are free is the same
+-- which bits of what a step gives are flipped; which outcomes are random is the same
 abbrev pub flips_given : ℕ → RunPivots → Step → ℕ → Frame → RunOutput
 flips_given n pivots (one g q) coin f = nothing
 flips_given n pivots (two g a b) coin f = nothing

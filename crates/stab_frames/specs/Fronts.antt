@@ -30,7 +30,7 @@ pub record IsFlippedRun (n : ℕ) (coins others : ℕ → Bool) (old new : List 
 abbrev pub with_letters : List Step → Letter → List ℕ → List Step
 with_letters front l qs = front ++ map (one (gate_of l)) qs
 
--- the frame after such letters, to that after others in their place, or none
+-- the frame after such letters, to that after others instead of them, or after none
 abbrev pub edit_frame : ℕ → (ℕ → Bool) → List Step → Letter → List ℕ → Letter → List ℕ → Frame
 edit_frame n coins front l qs m rs = frame_of (string_product (letters_on n l qs) (letters_on n m rs)) (length (point_after n coins front origin).records)
 

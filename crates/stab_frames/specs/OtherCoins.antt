@@ -19,7 +19,7 @@ coins_from d coins t = coins (d + t)
 abbrev pub pivots_between : (ℕ → Option (List Letter)) → (ℕ → Bool) → (ℕ → Bool) → RunPivots
 pivots_between strings coins others = pivots_of strings (λ t. others t ⊕ coins t)
 
--- from a point, with these coins, a run passes steps: its flags there are these from its coin on, pivots of its free
+-- from a point, with these coins, a run passes steps: its flags there are these from its coin on, pivots of its random
 -- outcomes are recorded, and these are its outcomes there
 pub record HasGoneOver (n : ℕ) (coins : ℕ → Bool) (strings : ℕ → Option (List Letter)) (free bits : List Bool) (xs : List Step) (k : ℕ) (a : Point) : Type 0 where
   pub coin : a.coin ≡ k

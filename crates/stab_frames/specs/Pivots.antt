@@ -17,7 +17,7 @@ pub record PivotsState : Type 0 where
   pub most : ℕ
   pub strings : List (List Letter)
 
--- the pivot of a coin number, by the pivots and the run's flags: if the outcome was free, the string of its place among the free ones, if it was kept
+-- the pivot of a coin number, by the pivots and the run's flags: if the outcome was random, the string at its position among these, if it was kept
 abbrev pub pivot_at : List (List Letter) → List Bool → ℕ → Option (List Letter)
 pivot_at strings free t = if slice_index_or free t false then slice_get strings (ones (take t free)) else None
 

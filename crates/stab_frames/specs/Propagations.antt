@@ -10,7 +10,7 @@ use Rattle.stab_frames.specs.Frames.{Frame}
 use Rattle.stab_frames.specs.RunPivots.{RunPivots, same_coins}
 use Rattle.stab_frames.specs.FrameSteps.{frame_over, flips_over}
 
--- a frame on its way: its letters, what it has flipped since it began, the number of the next coin, and how many outcomes before that were free
+-- a frame on its way: its letters, what it has flipped since it began, the number of the next coin, and how many outcomes before that were random
 pub record PropagationState : Type 0 where
   pub letters : List Letter
   pub flips : RunOutput
@@ -21,7 +21,7 @@ pub record PropagationState : Type 0 where
 abbrev pub frame_at : ℕ → PropagationState → Frame
 frame_at base w = record { letters = w.letters; flips = replicate base false ++ w.flips.records }
 
--- how many outcomes were free follows from the flags
+-- how many outcomes were random follows from the flags
 abbrev pub IsPlaced : List Bool → PropagationState → Type 0
 IsPlaced free w = w.number ≡ ones (take w.coin free)
 

@@ -58,14 +58,14 @@ CheckpointsTakeFrames =
     (member (point_after n (changed coins pivots.changes) (new ++ back) origin).trace)
     × (lengths_of (outputs n (changed coins pivots.changes) (new ++ back) origin) ≡ lengths_of (outputs n coins (old ++ back) origin))
 
--- Pauli gates in the place of others, after the same steps, make such fronts
+-- Pauli gates instead of others, after the same steps, make such fronts
 abbrev pub PauliFronts : Type 0
 PauliFronts =
     (n : ℕ) (coins : ℕ → Bool) (front : List Step) (l m : Letter) (qs rs : List ℕ) → All (λ q. q < n) qs → All (λ q. q < n) rs →
     AreFronts n coins coins (with_letters front l qs) (with_letters front m rs)
     (edit_frame n coins front l qs m rs) (unflipped (outputs n coins front origin))
 
--- so an edit that puts Pauli gates in the place of others, puts some in or takes some out, flips the run
+-- so an edit that replaces Pauli gates by others, puts some in or takes some out, flips the run
 abbrev pub PauliEditsFlip : Type 0
 PauliEditsFlip =
     (n : ℕ) (coins : ℕ → Bool) (strings : ℕ → Option (List Letter)) (front back : List Step) (l m : Letter) (qs rs : List ℕ) →

@@ -8,7 +8,7 @@ use Rattle.stab_pauli.specs.Paulis.{Signed, strings_anticommute}
 use Rattle.stab_tableau.specs.Rules.{is_free_by}
 use Rattle.stab_tableau.specs.Pivots.{IsPivot}
 
--- by coin number: a pivot, if the outcome was free, and none if it was fixed; and whether the
+-- by coin number: a pivot, if the outcome was random, and none if it was fixed; and whether the
 -- coin of the other run differs
 pub record RunPivots : Type 0 where
   pub strings : ℕ → Option (List Letter)
@@ -36,6 +36,6 @@ IsPivotOf n member measured None = is_free_by member measured ≡ false
 IsPivotOf n member measured (Some letters) = IsPivot n member measured letters
 
 -- it is enough for a frame: right, unless the coins differ exactly if the frame anticommutes with what is measured, for then
--- each outcome, fixed or free, is flipped as the frame has it
+-- each outcome, fixed or random, is flipped as the frame has it
 abbrev pub IsEnough : ℕ → (Signed → Bool) → Signed → List Letter → Bool → Option (List Letter) → Type 0
 IsEnough n member measured f change pivot = change ⊕ strings_anticommute f measured.letters ≡ true → IsPivotOf n member measured pivot

@@ -1,4 +1,4 @@
--- Starts: what a circuit has in the place of something else, for a frame to begin after it.
+-- Starts: what a circuit has instead of something else, for a frame to begin after it.
 -- Source: this project's own.
 use Rattle.std.specs.Prelude.{ℕ, List, [], ◌∷◌, replicate}
 use Rattle.stab_gates.specs.declared.letter.Letter.{Letter}

@@ -6,10 +6,10 @@ use stab_run::Addition;
 use std::alloc::AllocError;
 
 /// A bit of a list, and 0 past its end.
-pub fn bit_at(bits: &[bool], place: usize) -> bool
-    ensures value { result ≡ slice_index_or bits.now place false }
+pub fn bit_at(bits: &[bool], position: usize) -> bool
+    ensures value { result ≡ slice_index_or bits.now position false }
 {
-    bits.get(place).copied().unwrap_or(false)
+    bits.get(position).copied().unwrap_or(false)
 }
 
 /// How many bits are 1.
@@ -23,20 +23,20 @@ pub fn count_ones(bits: &[bool]) -> usize
     count
 }
 
-/// Appends bits, inverted if the flips are 1. If there are no more flips they are as they are.
+/// Appends bits, each inverted if its flip is 1. Bits after the last flip are not inverted.
 pub fn append_flipped(to: &mut Vec<bool>, bits: &[bool], flips: &[bool]) -> Result<(), AllocError>
     ensures value { OnOk result (to.new.items ≡ to.old.items ++ flipped bits.now flips.now) }
 {
     let count = flips.len().min(bits.len());
-    for place in 0..count {
-        to.push(flips[place] ^ bits[place])?;
+    for position in 0..count {
+        to.push(flips[position] ^ bits[position])?;
     }
     let (_, rest) = bits.split_at(count);
     to.extend_from_slice(rest)?;
     Ok(())
 }
 
-/// Appends additions, whose bits are inverted if those of the flips are 1.
+/// Appends additions, the bit of each inverted if that of its flip is 1.
 pub fn append_flipped_additions(
     to: &mut Vec<Addition>,
     additions: &[Addition],
@@ -45,10 +45,10 @@ pub fn append_flipped_additions(
     ensures value { OnOk result (to.new.items ≡ to.old.items ++ flipped_additions additions.now flips.now) }
 {
     let count = flips.len().min(additions.len());
-    for place in 0..count {
+    for position in 0..count {
         to.push(Addition {
-            observable: additions[place].observable,
-            bit: flips[place].bit ^ additions[place].bit,
+            observable: additions[position].observable,
+            bit: flips[position].bit ^ additions[position].bit,
         })?;
     }
     let (_, rest) = additions.split_at(count);
@@ -56,7 +56,7 @@ pub fn append_flipped_additions(
     Ok(())
 }
 
-/// The elements of a list from one place to another.
+/// The elements of a list from one position to another.
 pub fn between<T>(items: &[T], from: usize, to: usize) -> &[T]
     ensures value { result.now ≡ drop from (take to items.now) }
 {

@@ -1,11 +1,11 @@
-//! Which coins differ where a frame meets free outcomes.
+//! Which coins differ where a frame meets random outcomes.
 
 ghost use Rattle.std.specs.Prelude.{◌≡◌, ℕ, ◌+◌, ◌^◌, ◌<◌, ◌≤◌, Bool, true, false};
 ghost use Rattle.stab_frames.specs.inner.Draws.{never};
 
 use stab_run::Coins;
 
-/// Which coins of another run differ from those of the run that a frame comes from. If an outcome is free, it is flipped
+/// Which coins of another run differ from those of the run that a frame comes from. If an outcome is random, it is flipped
 /// exactly if its coin differs.
 pub trait Draw: Copy {
     // Whether a coin differs: by the other run's coins and the coin's number.
@@ -13,7 +13,7 @@ pub trait Draw: Copy {
     // The other run's coins have numbers this much greater.
     ghost ahead: { Self → ℕ };
 
-    /// Whether the coin of a free outcome differs. It asks for the other run's coin there, or for none.
+    /// Whether the coin of a random outcome differs. It asks for the other run's coin there, or for none.
     fn change<C: Coins>(&self, coins: &mut C, coin: usize) -> bool
         requires few { ahead self.now + coin < 2 ^ 63 }
         ensures value { result ≡ changes self.now (C.sequence coins.old) coin }

@@ -27,11 +27,11 @@ use std::alloc::AllocError;
 // A frame touches few of the steps on its way: this many steps are looked at at once.
 const PART: usize = 32;
 
-// Fewer pairs or measurements than this are sooner passed one by one.
+// Fewer pairs or measurements than this are passed faster one by one.
 const FEW: usize = 4;
 
 /// Propagates a frame over steps to a run with these coins, and says over how many it
-/// did: not over one whose string is missing, at which it stops. All of them are counted, also those after it.
+/// did: it stops at a step whose string is missing. All steps are counted, also those after it.
 pub fn propagate_instruction<D: Draw, C: Coins>(
     propagation: &mut Propagation,
     known: Known<D>,
@@ -132,7 +132,7 @@ fn touches(letters: &[Letter], pair: ControlledPair) -> bool
     }
 }
 
-// Looks at all pairs, also after one that is touched: so it has no branch on the letters.
+// Looks at all pairs, also after one that is touched, so that it has no branch on the letters.
 fn touches_some(letters: &[Letter], pairs: &[ControlledPair]) -> bool
     requires fits { All (PairFits (length letters.now)) pairs.now }
     ensures value { result ≡ list_any (touches_pair letters.now) pairs.now }
@@ -315,8 +315,8 @@ fn propagate_detectors(
     ensures goes { OnOk result (GoesFreely (length propagation.old.letters) (map detector (lookbacks_of detectors.entry)) propagation.old propagation.new) }
 {
     *by_frame += detectors.len() as u64;
-    for place in 0..detectors.len() {
-        propagate_detector(propagation, detectors.get(place))?;
+    for position in 0..detectors.len() {
+        propagate_detector(propagation, detectors.get(position))?;
     }
     Ok(())
 }

@@ -1,5 +1,5 @@
-//! What gates make of letters, whatever their signs. The table of the gates on a qubit is `Images::of`, and that of the gates on two is
-//! `controlled_letter`: what becomes of a frame's letters, of lanes of letters and of strings seen backwards follows from these.
+//! What gates make of letters, whatever their signs. The table of the gates on a qubit is `GateImages::of` of `stab_tableau`, and that of
+//! the gates on two is `controlled_letter`: what becomes of a frame's letters, of lanes of letters and of strings seen backwards follows from these.
 ghost use Rattle.std.specs.Prelude.{◌≡◌};
 ghost use Rattle.stab_gates.specs.declared.letter.Letter.TheVariants.{X, Z};
 ghost use Rattle.stab_tableau.specs.Gates.{letter_image, letter_at, pair_letters};
@@ -7,7 +7,7 @@ ghost use Rattle.stab_frames.specs.Images.{has_both, exchanges as exchanges_of, 
 ghost use Rattle.stab_frames.specs.inner.Weights.{letter_weight};
 
 use stab_pauli::Letter;
-use stab_tableau::{Gate, PairGate};
+use stab_tableau::{Gate, GateImages, PairGate};
 
 /// What a gate on a qubit makes of X and of Z there. With them it makes of every letter what it makes of its X part, times what it
 /// makes of its Z part.
@@ -18,21 +18,17 @@ pub struct Images {
 }
 
 impl Images {
-    /// The table of the gates on a qubit.
+    /// Those of a gate.
     #[inline(always)]
     pub fn of(gate: Gate) -> Images
         ensures x { result.of_x ≡ (letter_image gate X).letter }
         ensures z { result.of_z ≡ (letter_image gate Z).letter }
     {
-        let (of_x, of_z) = match gate {
-            Gate::I | Gate::X | Gate::Y | Gate::Z => (Letter::X, Letter::Z),
-            Gate::H | Gate::SqrtY | Gate::SqrtYDag => (Letter::Z, Letter::X),
-            Gate::S | Gate::SDag => (Letter::Y, Letter::Z),
-            Gate::SqrtX | Gate::SqrtXDag => (Letter::X, Letter::Y),
-            Gate::CXyz => (Letter::Y, Letter::X),
-            Gate::CZyx => (Letter::Z, Letter::Y),
-        };
-        Images { of_x, of_z }
+        let images = GateImages::of(gate);
+        Images {
+            of_x: images.of_x.letter,
+            of_z: images.of_z.letter,
+        }
     }
 
     /// Whether X becomes Y.
@@ -64,12 +60,12 @@ impl Images {
 pub fn image(gate: Gate, letter: Letter) -> Letter
     ensures value { result ≡ (letter_image gate letter).letter }
 {
-    let images = Images::of(gate);
+    let images = GateImages::of(gate);
     match letter {
         Letter::I => Letter::I,
-        Letter::X => images.of_x,
-        Letter::Y => images.of_x.times(images.of_z),
-        Letter::Z => images.of_z,
+        Letter::X => images.of_x.letter,
+        Letter::Y => images.of_y.letter,
+        Letter::Z => images.of_z.letter,
     }
 }
 

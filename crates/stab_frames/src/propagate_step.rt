@@ -37,7 +37,7 @@ pub struct Known<'a, D> {
 }
 
 /// Propagates a frame over a step to a run with these coins, and says whether it did:
-/// not if the string of a free outcome is missing, and then the frame is as before. The step is counted either way.
+/// not if the string of a random outcome is missing, and then the frame is as before. The step is counted either way.
 pub fn propagate_step<D: Draw, C: Coins>(
     propagation: &mut Propagation,
     known: Known<D>,

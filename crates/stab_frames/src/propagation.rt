@@ -1,17 +1,17 @@
-ghost use Rattle.std.specs.Prelude.{◌≡◌, ◌≤◌, take, drop};
+ghost use Rattle.std.specs.Prelude.{◌≡◌, ◌≤◌, ◌++◌, take, drop, OnOk};
 ghost use Rattle.stab_run.specs.Records.{ones};
 
 use crate::bits::count_ones;
 use crate::letters::weight_of;
 use stab_pauli::{Letter, Pauli, masks};
-use stab_run::Addition;
+use stab_run::{Addition, Lengths};
 use std::alloc::{AllocError, Global};
 use std::marker::Model;
 
 /// A frame on its way over the steps of a run: its letters, one a qubit, and what it has flipped
 /// since it began.
 ///
-/// Contracts see these, the number of the next coin, and how many outcomes before it were free.
+/// Contracts see these, the number of the next coin, and how many outcomes before it were random.
 pub struct Propagation {
     letters: Vec<Letter>,
     // How many letters are not I.
@@ -21,7 +21,7 @@ pub struct Propagation {
     outcomes: Vec<bool>,
     detectors: Vec<bool>,
     additions: Vec<Addition>,
-    // None of the newest records is flipped, as many as this.
+    // At least this many of the newest records are not flipped.
     still: usize,
     coin: usize,
     number: usize,
@@ -68,6 +68,7 @@ impl Propagation {
     ghost use Rattle.stab_pauli.specs.Paulis.{single, string_product};
     ghost use Rattle.stab_run.specs.Records.{ones};
     ghost use Rattle.stab_run.specs.Points.{nothing, joined};
+    ghost use Rattle.stab_run.specs.Cuts.{lengths_of, rest_of};
     ghost use Rattle.stab_frames.specs.Propagations.{frame_at, IsGone};
     ghost use Rattle.stab_frames.specs.inner.Propagates.{none_flipped};
     ghost use Rattle.stab_frames.specs.inner.Products.{AreMultiplied};
@@ -119,8 +120,8 @@ impl Propagation {
         }
     }
 
-    // A string has few letters that are not I, so this goes from one to the next, by a mask of them.
-    /// Multiplies 64 letters of a string on, from 64 * word on.
+    /// Multiplies 64 letters of a string on, from 64 * word on. Few of them are not I, so it goes from one of these to the next,
+    /// by a mask.
     #[inline(always)]
     fn multiply_word(&mut self, string: &Pauli, word: usize)
         requires some { 64 * word < length string.now.letters }
@@ -145,9 +146,37 @@ impl Propagation {
         requires same_length { length others.now ≡ length records.now }
         ensures value { OnOk result (self.new ≡ record self.old { flips = record self.old.flips { records = self.old.flips.records ++ flipped records.now others.now } }) }
     {
-        for place in 0..records.len() {
-            self.flip_record(others[place] ^ records[place])?;
+        for position in 0..records.len() {
+            self.flip_record(others[position] ^ records[position])?;
         }
+        Ok(())
+    }
+
+    /// How much it has flipped, or not: there is an outcome for each flag.
+    pub fn lengths(&self) -> Lengths
+        ensures value { result ≡ lengths_of self.now.flips }
+        ensures each { length self.now.flips.outcomes ≡ length self.now.flips.free }
+    {
+        Lengths {
+            records: self.records.len(),
+            free: self.outcomes.len(),
+            detectors: self.detectors.len(),
+            additions: self.additions.len(),
+        }
+    }
+
+    /// Flips again what it flipped after these lengths, and passes this many coins.
+    pub fn flip_again(&mut self, from: Lengths, coins: usize) -> Result<(), AllocError>
+        requires few { self.old.coin + coins < 2 ^ 63 }
+        ensures value { OnOk result (self.new ≡ record self.old { flips = joined self.old.flips (rest_of from self.old.flips); coin = self.old.coin + coins }) }
+        ensures letters { self.new.letters ≡ self.old.letters }
+    {
+        self.still = 0;
+        repeat_from(&mut self.records, from.records)?;
+        repeat_from(&mut self.outcomes, from.free)?;
+        repeat_from(&mut self.detectors, from.detectors)?;
+        repeat_from(&mut self.additions, from.additions)?;
+        self.coin += coins;
         Ok(())
     }
 
@@ -201,14 +230,14 @@ impl Propagation {
         self.coin
     }
 
-    /// How many outcomes before the next coin's were free.
+    /// How many outcomes before the next coin's were random.
     pub fn number(&self) -> usize
         ensures value { result ≡ self.now.number }
     {
         self.number
     }
 
-    /// Whether the letters are I and none of the newest records is flipped, as many as this.
+    /// Whether the letters are I and none of this many newest records is flipped.
     pub fn is_gone(&self, window: usize) -> bool
         ensures gone { result ≡ true → (base : ℕ) → IsGone (length self.now.letters) window (frame_at base self.now) }
     {
@@ -267,7 +296,7 @@ impl Propagation {
         Ok(())
     }
 
-    /// Passes the next coin, whose outcome was free or not.
+    /// Passes the next coin, whose outcome was random or not.
     pub(crate) fn skip_coin(&mut self, free: bool)
         requires few { self.old.coin < 2 ^ 63 }
         ensures value { self.new ≡ record self.old { coin = self.old.coin + 1; number = self.old.number + ones (free ∷ []) } }
@@ -292,11 +321,22 @@ impl Propagation {
     }
 }
 
-/// How many bits from a place on are 1, among as many as this.
+/// How many of this many bits from a position on are 1.
 fn ones_from(bits: &[bool], from: usize, count: usize) -> usize
     ensures value { result ≡ ones (take count (drop from bits.now)) }
     ensures few { result ≤ count }
 {
     let rest = bits.split_at(from.min(bits.len())).1;
     count_ones(rest.split_at(count.min(rest.len())).0)
+}
+
+/// Appends what a list has from a position on.
+fn repeat_from<T: Copy>(items: &mut Vec<T>, from: usize) -> Result<(), AllocError>
+    ensures value { OnOk result (items.new.items ≡ items.old.items ++ drop from items.old.items) }
+{
+    let count = items.len();
+    if from < count {
+        items.extend_from_within(from..count)?;
+    }
+    Ok(())
 }

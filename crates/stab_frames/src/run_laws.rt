@@ -25,7 +25,7 @@ pub fn checkpoints_take_frames()
     ensures law { CheckpointsTakeFrames }
 {}
 
-/// So an edit that puts Pauli gates in the place of others, puts some in or takes some out, gives
+/// So an edit that replaces Pauli gates by others, puts some in or takes some out, gives
 /// the old run, flipped.
 pub fn pauli_edits_flip()
     ensures law { PauliEditsFlip }

@@ -26,7 +26,7 @@ pub use Rattle.stab_instructions.specs.Limits.{most_observables, most_lookback}
 pub use Rattle.stab_instructions.specs.Lines.{is_byte, is_digit, is_spacing, trimmed, starts_with_byte, ends_with_byte, is_brace, trimmed_front, Shape, after_tag, shaped, has_byte, is_letter, is_name_byte, without_brace}
 unfoldable pub use Rattle.stab_instructions.specs.Lines.{may_follow, shape_of, content_of, bracketed}
 pub use Rattle.stab_instructions.specs.Lookbacks.{IsLookback}
-pub use Rattle.stab_instructions.specs.Meanings.{shape_meaning, is_close, targets_alone, opened, only_count, coordinates_of}
+pub use Rattle.stab_instructions.specs.Meanings.{shape_meaning, is_close, targets_alone, opening_of, only_count, coordinates_of}
 unfoldable pub use Rattle.stab_instructions.specs.Meanings.{kind_of, named_line, meaning_of, block_of, observable_include_of}
 unfoldable pub use Rattle.stab_instructions.specs.Names.{name_of}
 pub use Rattle.stab_instructions.specs.Prints.{each_after, after_space, arguments_text, kind_arguments, targets_text, factor_text, tag_text}

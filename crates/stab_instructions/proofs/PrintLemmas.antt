@@ -12,7 +12,7 @@ each_after-append s t (x ∷ xs) ys =
     ∙ ap (λ l. s ++ l) (sym (append_assoc (t x) (each_after s t xs) (each_after s t ys)))
     ∙ sym (append_assoc s (t x ++ each_after s t xs) (each_after s t ys))
 
--- what is before a place, the text there, and what follows
+-- what is before a position, the text there, and what follows
 pub each_after_place : {A : Type 0} (s : List ℕ) (t : A → List ℕ) (xs : List A) (i : ℕ) (x : A) → i < length xs → x ≡ get_or xs i x
     → each_after s t (take i xs) ++ (s ++ (t x ++ each_after s t (drop (i + 1) xs))) ≡ each_after s t xs
 each_after_place s t xs i x h e =

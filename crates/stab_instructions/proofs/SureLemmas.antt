@@ -1,5 +1,5 @@
 -- What is known of all that a line is read as.
-use Rattle.stab_instructions.proofs.Names.{◌≡◌, ◌≢◌, ◌<◌, ◌≤◌, refl, sym, subst, ℕ, List, [], ◌∷◌, Bool, true, false, not, nat_lt, ◌==◌, ◌&&◌, ◌||◌, length, drop, take, Option, None, Some, Result, Ok, Err, if◌then◌else◌, arith, list_all, list_any, prefix_len, slice_split, take_while, nat_tests, Refusal, BadArguments, BadTarget, BadLine, most_qubits, most_observables, Axis, Factor, Control, ControlTarget, Instruction, Name, Blank, Close, Open, ◌>>=◌, each, Shape, is_byte, bracketed, after_tag, shaped, shape_of, starts_with_byte, ends_with_byte, has_byte, is_name_byte, is_letter, is_brace, may_follow, without_brace, words, is_blank, arguments_of, is_some_word, is_number, value, IsLookback, name_of, first_axis, unmarked, is_factor, factor_on, factor_of, names_twice, on_different, product_of, control_of, by_turns, pair_of, paired, controlled_of, qubit_of, measure_target_of, lookback_of, is_lookback, count_of, pairs_of, is_coordinate_byte, coordinate_of, number_of, observable_of, targets_alone, coordinates_of, kind_of, observable_include_of, only_count, opened, block_of, named_line, shape_meaning, is_close, meaning_of}
+use Rattle.stab_instructions.proofs.Names.{◌≡◌, ◌≢◌, ◌<◌, ◌≤◌, refl, sym, subst, ℕ, List, [], ◌∷◌, Bool, true, false, not, nat_lt, ◌==◌, ◌&&◌, ◌||◌, length, drop, take, Option, None, Some, Result, Ok, Err, if◌then◌else◌, arith, list_all, list_any, prefix_len, slice_split, take_while, nat_tests, Refusal, BadArguments, BadTarget, BadLine, most_qubits, most_observables, Axis, Factor, Control, ControlTarget, Instruction, Name, Blank, Close, Open, ◌>>=◌, each, Shape, is_byte, bracketed, after_tag, shaped, shape_of, starts_with_byte, ends_with_byte, has_byte, is_name_byte, is_letter, is_brace, may_follow, without_brace, words, is_blank, arguments_of, is_some_word, is_number, value, IsLookback, name_of, first_axis, unmarked, is_factor, factor_on, factor_of, names_twice, on_different, product_of, control_of, by_turns, pair_of, paired, controlled_of, qubit_of, measure_target_of, lookback_of, is_lookback, count_of, pairs_of, is_coordinate_byte, coordinate_of, number_of, observable_of, targets_alone, coordinates_of, kind_of, observable_include_of, only_count, opening_of, block_of, named_line, shape_meaning, is_close, meaning_of}
 use Rattle.stab_instructions.specs.declared.control.Control.TheVariants as control
 use Rattle.stab_instructions.specs.declared.control.ControlledPair.TheVariants as pair
 use Rattle.stab_instructions.specs.declared.name.Instruction.TheVariants as instruction
@@ -260,7 +260,7 @@ only_sure [] f = tt
 only_sure (c ∷ []) f = f.0
 only_sure (c ∷ d ∷ more) f = tt
 
-opened_sure : (s : Shape) (o : Option ℕ) → HasTag s → IsSomeCount o → IsSure IsGoodLine (opened s o)
+opened_sure : (s : Shape) (o : Option ℕ) → HasTag s → IsSomeCount o → IsSure IsGoodLine (opening_of s o)
 opened_sure s (Some n) t c = sure_if IsGoodLine s.opens _ _ (λ e. sure_ok IsGoodLine (Open n s.tag) (c, t)) (λ e. sure_err IsGoodLine _)
 opened_sure s None t c = sure_err IsGoodLine _
 

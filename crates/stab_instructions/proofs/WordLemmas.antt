@@ -27,7 +27,7 @@ digits_of word h = and_right (is_some_word word) (list_all is_digit word) h
 pub eighteen_digits : (word : List ℕ) → is_number word ≡ true → length word ≤ 18 → value word < 10 ^ 18
 eighteen_digits word h few = digits_value_short decimal_model word 18 (digits_of word h) few
 
--- the digits before a place and the one there
+-- the digits before a position and the one there
 pub value-snoc : (n : ℕ) (ds : List ℕ) (d : ℕ) → value_from n (ds ++ d ∷ []) ≡ value_from n ds * 10 + (d - 48)
 value-snoc n [] d = refl
 value-snoc n (x ∷ ds) d = value-snoc (n * 10 + (x - 48)) ds d

@@ -67,13 +67,13 @@ only_count (count ∷ []) = count
 only_count counts = None
 
 -- a block's opening, if there is a count and a brace
-abbrev pub opened : Shape → Option ℕ → Result Line Refusal
-opened s (Some count) = if s.opens then Ok (line.Open count s.tag) else Err BadBlock
-opened s None = Err BadBlock
+abbrev pub opening_of : Shape → Option ℕ → Result Line Refusal
+opening_of s (Some count) = if s.opens then Ok (line.Open count s.tag) else Err BadBlock
+opening_of s None = Err BadBlock
 
 -- the opening of a block
 unfoldable pub block_of : Shape → Result Line Refusal
-block_of s = targets_alone count_of s >>= λ counts. opened s (only_count counts)
+block_of s = targets_alone count_of s >>= λ counts. opening_of s (only_count counts)
 
 -- what a name, its arguments and its targets mean
 unfoldable pub named_line : Shape → Name → Result Line Refusal

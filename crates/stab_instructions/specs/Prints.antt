@@ -61,7 +61,7 @@ kind_arguments kind.Tick = []
 abbrev pub pair_text : ℕ × ℕ → List ℕ
 pair_text pair = decimal pair.0 ++ (codes " " ++ decimal pair.1)
 
--- the mark of an inverted target
+-- the ! of an inverted target
 abbrev pub mark_text : Bool → List ℕ
 mark_text true = codes "!"
 mark_text false = []

@@ -12,7 +12,7 @@ use Rattle.stab_instructions.specs.Words.{is_number}
 use Rattle.stab_instructions.specs.Axes.{first_axis}
 use Rattle.stab_instructions.specs.Targets.{qubit_of}
 
--- without the mark ! in front if there is one
+-- without the ! in front if there is one
 abbrev pub unmarked : List ℕ → List ℕ
 unmarked word = if starts_with_byte word 33 then drop 1 word else word
 

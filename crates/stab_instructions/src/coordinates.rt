@@ -2,7 +2,7 @@ use crate::sequence::Sequence;
 use std::alloc::{AllocError, Global};
 use std::marker::Model;
 
-/// How many bytes are in place.
+/// How many bytes are kept without memory of their own.
 const SHORT: usize = 22;
 
 /// Coordinates, each as it was written.

@@ -4,10 +4,10 @@ use crate::range::Lookbacks;
 use std::alloc::{AllocError, Global};
 use std::marker::Model;
 
-/// How many bytes of coordinates are in place.
+/// How many bytes of coordinates are kept without memory of their own.
 pub const SHORT_COORDINATES: usize = 13;
 
-/// How many records are in place.
+/// How many records are kept without memory of their own.
 pub const FEW_RECORDS: usize = 2;
 
 /// The records of a detector, and the coordinates before them.

@@ -1,4 +1,4 @@
-//! The names of all instructions: the one place in the source where they are.
+//! The names of all instructions: they are nowhere else in the source.
 //!
 //! A row is what an instruction is, the name that is printed, and after `or` its other names. `name`
 //! makes tests of these rows, and `print` the names that it writes: a test of each name as a constant

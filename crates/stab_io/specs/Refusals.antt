@@ -6,48 +6,48 @@ use Rattle.stab_io.specs.declared.refusal.Refusal.TheVariants.{UnsupportedName, 
 use Rattle.stab_io.specs.declared.refusal.Fault.{Fault}
 
 -- the number that a refusal is printed with
-abbrev pub number_of : Refusal → ℕ
-number_of UnsupportedName = 1
-number_of BadArguments = 2
-number_of BadTarget = 3
-number_of BadPairing = 4
-number_of BadBlock = 5
-number_of QubitOutOfRange = 6
-number_of ObservableOutOfRange = 7
-number_of LookbackTooFar = 8
-number_of TooManySteps = 9
-number_of TooDeep = 10
-number_of BadLine = 11
-number_of PlaceOutOfRange = 12
-number_of BadCommand = 13
-number_of TooLong = 14
-number_of ReadFault = 15
-number_of WriteFault = 16
-number_of NotABlock = 17
-number_of NotDeterministic = 18
-number_of OutOfMemory = 20
+abbrev pub refusal_number : Refusal → ℕ
+refusal_number UnsupportedName = 1
+refusal_number BadArguments = 2
+refusal_number BadTarget = 3
+refusal_number BadPairing = 4
+refusal_number BadBlock = 5
+refusal_number QubitOutOfRange = 6
+refusal_number ObservableOutOfRange = 7
+refusal_number LookbackTooFar = 8
+refusal_number TooManySteps = 9
+refusal_number TooDeep = 10
+refusal_number BadLine = 11
+refusal_number PlaceOutOfRange = 12
+refusal_number BadCommand = 13
+refusal_number TooLong = 14
+refusal_number ReadFault = 15
+refusal_number WriteFault = 16
+refusal_number NotABlock = 17
+refusal_number NotDeterministic = 18
+refusal_number OutOfMemory = 20
 
 -- the name that a refusal is printed with
-abbrev pub name_of : Refusal → List ℕ
-name_of UnsupportedName = codes "UnsupportedName"
-name_of BadArguments = codes "BadArguments"
-name_of BadTarget = codes "BadTarget"
-name_of BadPairing = codes "BadPairing"
-name_of BadBlock = codes "BadBlock"
-name_of QubitOutOfRange = codes "QubitOutOfRange"
-name_of ObservableOutOfRange = codes "ObservableOutOfRange"
-name_of LookbackTooFar = codes "LookbackTooFar"
-name_of TooManySteps = codes "TooManySteps"
-name_of TooDeep = codes "TooDeep"
-name_of BadLine = codes "BadLine"
-name_of PlaceOutOfRange = codes "PlaceOutOfRange"
-name_of BadCommand = codes "BadCommand"
-name_of TooLong = codes "TooLong"
-name_of ReadFault = codes "ReadFault"
-name_of WriteFault = codes "WriteFault"
-name_of NotABlock = codes "NotABlock"
-name_of NotDeterministic = codes "NotDeterministic"
-name_of OutOfMemory = codes "OutOfMemory"
+abbrev pub refusal_name : Refusal → List ℕ
+refusal_name UnsupportedName = codes "UnsupportedName"
+refusal_name BadArguments = codes "BadArguments"
+refusal_name BadTarget = codes "BadTarget"
+refusal_name BadPairing = codes "BadPairing"
+refusal_name BadBlock = codes "BadBlock"
+refusal_name QubitOutOfRange = codes "QubitOutOfRange"
+refusal_name ObservableOutOfRange = codes "ObservableOutOfRange"
+refusal_name LookbackTooFar = codes "LookbackTooFar"
+refusal_name TooManySteps = codes "TooManySteps"
+refusal_name TooDeep = codes "TooDeep"
+refusal_name BadLine = codes "BadLine"
+refusal_name PlaceOutOfRange = codes "PlaceOutOfRange"
+refusal_name BadCommand = codes "BadCommand"
+refusal_name TooLong = codes "TooLong"
+refusal_name ReadFault = codes "ReadFault"
+refusal_name WriteFault = codes "WriteFault"
+refusal_name NotABlock = codes "NotABlock"
+refusal_name NotDeterministic = codes "NotDeterministic"
+refusal_name OutOfMemory = codes "OutOfMemory"
 
 -- the fault of a refusal that belongs to no line
 abbrev pub whole : Refusal → Fault

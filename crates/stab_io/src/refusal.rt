@@ -57,7 +57,7 @@ pub enum Refusal {
     /// 16: the output failed.
     #[error("the output failed")]
     WriteFault,
-    /// 17: a number of a path before its last is the place of an item that isn't a block.
+    /// 17: a number of a path before its last is the position of an item that isn't a block.
     #[error("the path leads into an item that is not a block")]
     NotABlock,
     /// 18: a detector's or observable's bit depends on the random bits, and it must not.
@@ -70,11 +70,11 @@ pub enum Refusal {
 
 impl Refusal {
     ghost use Rattle.std.specs.Prelude.{◌≡◌};
-    ghost use Rattle.stab_io.specs.Refusals.{number_of, name_of};
+    ghost use Rattle.stab_io.specs.Refusals.{refusal_number, refusal_name};
 
     /// The number that the refusal is printed with: 1 to 18, or 20.
     pub fn number(self) -> u8
-        ensures value { result ≡ number_of self }
+        ensures value { result ≡ refusal_number self }
     {
         match self {
             Refusal::UnsupportedName => 1,
@@ -101,7 +101,7 @@ impl Refusal {
 
     /// The name that the refusal is printed with.
     pub fn name(self) -> &'static str
-        ensures value { result.now ≡ name_of self }
+        ensures value { result.now ≡ refusal_name self }
     {
         match self {
             Refusal::UnsupportedName => "UnsupportedName",

@@ -109,7 +109,7 @@ split_parts round (b ∷ bs) place xs count tag body found lt = by_item (slice_g
     by_item (Some (operation op)) f same = absurd (cc)
     by_item (Some (repeat c t inside)) f same = ap (λ r. with_item b xs (rebuilt c t r)) (same (entries inside) f)
 
--- the last part put in place of the block, with each one before it put in there, are a split
+-- the last part, which replaces the block, and each part before it, put in there, are a split
 pub replaced_by_last : (place : Path) (x : OneItem) (xs ys : List OneItem) → edited (Replace place x) xs ≡ Ok ys → changed_in (parts_at place.place (x ∷ [])) place.blocks xs ≡ Ok ys
 replaced_by_last place x xs ys e =
     sym (same_changed (changed (Replace place x)) (parts_at place.place (x ∷ [])) (λ l. one_part place x l) place.blocks xs) ∙ (sym (edit_changed (Replace place x) place.blocks xs) ∙ e)

@@ -9,7 +9,7 @@ use Rattle.stab_items.proofs.ChangeLemmas.{got_set}
 depth-around : (front back : List OneItem) (x : OneItem) → depth (listed (front ++ x ∷ back)) ≡ max (depth (listed front)) (max (depth_of x) (depth (listed back)))
 depth-around front back x = depth-append front (x ∷ back) ∙ ap (λ n. max (depth (listed front)) n) (depth-before x (listed back))
 
--- an item in place of one that is as deep
+-- an item instead of one that is as deep
 in_stead : (front back : List OneItem) (x y : OneItem) → depth_of x ≤ depth_of y → depth (listed (front ++ x ∷ back)) ≤ depth (listed (front ++ y ∷ back))
 in_stead front back x y h = omega (arith, depth-around front back x, depth-around front back y)
 

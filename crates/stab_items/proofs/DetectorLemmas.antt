@@ -30,25 +30,25 @@ front_of_part (suc n) zero ys = refl
 front_of_part (suc n) (suc m) [] = refl
 front_of_part (suc n) (suc m) (y ∷ ys) = ap (λ l. y ∷ l) (front_of_part n m ys)
 
-front_from : {X : Type 0} (xs seen ds : List X) (place most n : ℕ) → seen ≡ take most (drop place xs) → ds ≡ take n seen
-    → drop place xs ≡ ds ++ drop (place + length ds) xs
-front_from xs seen ds place most n part e =
-    let is : take n (take most (drop place xs)) ≡ ds = sym (e ∙ ap (take n) part) in
-    front_of_part n most (drop place xs)
-    ∙ ap (λ l. l ++ drop (length l) (drop place xs)) is
-    ∙ ap (λ l. ds ++ l) (drop-drop (length ds) place xs)
+front_from : {X : Type 0} (xs seen ds : List X) (position most n : ℕ) → seen ≡ take most (drop position xs) → ds ≡ take n seen
+    → drop position xs ≡ ds ++ drop (position + length ds) xs
+front_from xs seen ds position most n part e =
+    let is : take n (take most (drop position xs)) ≡ ds = sym (e ∙ ap (take n) part) in
+    front_of_part n most (drop position xs)
+    ∙ ap (λ l. l ++ drop (length l) (drop position xs)) is
+    ∙ ap (λ l. ds ++ l) (drop-drop (length ds) position xs)
 
 -- past them in the innermost block
 pub detectors_taken : (w : Walk) (seen : List OneItem) (ds : Detectors) (most : ℕ) → drop w.within (kind_steps w.kind) ≡ []
-    → seen ≡ take most (drop w.top.place w.top.items.now) → ds.items.now ≡ take (length (lookbacks_of ds)) seen
+    → seen ≡ take most (drop w.top.position w.top.items.now) → ds.items.now ≡ take (length (lookbacks_of ds)) seen
     → walk_left w ≡ map detector (lookbacks_of ds) ++ walk_left (past_items w (length (lookbacks_of ds)))
 detectors_taken w seen ds most given part e =
     let xs = w.top.items.now in
     let n = length (lookbacks_of ds) in
-    let following = unroll (listed (drop (w.top.place + n) xs)) in
-    let cut : drop w.top.place xs ≡ ds.items.now ++ drop (w.top.place + n) xs =
-    front_from xs seen ds.items.now w.top.place most n part e
-    ∙ ap (λ k. ds.items.now ++ drop (w.top.place + k) xs) (sym (length-map ds.items.now lookbacks_at)) in
-    let here : unroll (listed (drop w.top.place xs)) ≡ map detector (lookbacks_of ds) ++ following =
-    ap (λ l. unroll (listed l)) cut ∙ steps-append ds.items.now (drop (w.top.place + n) xs) ∙ ap (λ l. l ++ following) (detector_steps ds.items.now ds.all) in
+    let following = unroll (listed (drop (w.top.position + n) xs)) in
+    let cut : drop w.top.position xs ≡ ds.items.now ++ drop (w.top.position + n) xs =
+    front_from xs seen ds.items.now w.top.position most n part e
+    ∙ ap (λ k. ds.items.now ++ drop (w.top.position + k) xs) (sym (length-map ds.items.now lookbacks_at)) in
+    let here : unroll (listed (drop w.top.position xs)) ≡ map detector (lookbacks_of ds) ++ following =
+    ap (λ l. unroll (listed l)) cut ∙ steps-append ds.items.now (drop (w.top.position + n) xs) ∙ ap (λ l. l ++ following) (detector_steps ds.items.now ds.all) in
     items_taken w n (map detector (lookbacks_of ds)) given here

@@ -7,7 +7,7 @@ use Rattle.stab_items.proofs.PieceLemmas.{lengths-block_end, lengths-block_after
 abbrev steps : List OneItem → List Step
 steps xs = unroll (listed xs)
 
--- the steps after the item at a place, counted
+-- the steps after the item at a position, counted
 pub counted_after : (place k : ℕ) (xs rest : List OneItem) (x : OneItem) (following : List OneItem) (s : Summary) → k ≡ min place (length xs) → rest ≡ drop k xs → rest ≡ x ∷ following
     → s ≡ summary_of (listed following) → s.steps ≡ min (length (steps (drop (place + 1) xs))) 1048577
 counted_after place k xs rest x following s at back is e =
@@ -15,7 +15,7 @@ counted_after place k xs rest x following s at back is e =
     let next : drop (place + 1) xs ≡ following = sym (drop-drop 1 place xs) ∙ ap (drop 1) left in
     ap (λ t. t.steps) e ∙ ap (λ l. min (length (steps l)) 1048577) (sym next)
 
--- a list of few steps has few after a place, which are counted
+-- a list of few steps has few after a position, which are counted
 few_after : (place s : ℕ) (xs : List OneItem) → s ≡ min (length (steps (drop place xs))) 1048577 → length (steps xs) ≤ 1048576 → s ≡ length (steps (drop place xs) ++ [])
 few_after place s xs e few =
     let all = ap length (steps_split place xs) in
@@ -164,7 +164,7 @@ pub many_within : (path : Path) (b : ℕ) (bs : List ℕ) (xs : List OneItem) �
 many_within path b bs xs e many x found =
     subst (λ ps. 1048576 < length ps) (sym (pieces-block path (path.place + 1) b bs xs e)) (many x (sym (ap (λ l. item_in l path.place xs) e) ∙ found))
 
--- the same of an item and a place that are these
+-- the same of an item and a position that are these
 pub many_at : {g h : Option OneItem} {p q : ℕ} (bs : List ℕ) → g ≡ h → p ≡ q
     → ((x : OneItem) → found_inside (item_in bs p) g ≡ Ok x → 1048576 < length (block_pieces (p + 1) bs p g []))
     → (x : OneItem) → found_inside (item_in bs q) h ≡ Ok x → 1048576 < length (block_pieces (q + 1) bs q h [])

@@ -108,7 +108,7 @@ summed_around edit blocks w xs front back j s e small f g far h =
     ∙ ap (λ l. Ok (followed_by (summary_of (listed (take j.first xs))) (followed_by j.put (summary_of (listed l))))) g
     ∙ summed_judged edit blocks w xs j e small (subst (λ l. (summary_of (listed l)).window ≤ 16777215) g far)
 
--- the steps before a place in nested blocks
+-- the steps before a position in nested blocks
 no_steps : (bs : List ℕ) (p : ℕ) → steps_in bs p [] ≡ []
 no_steps [] zero = refl
 no_steps [] (suc p) = refl
@@ -156,7 +156,7 @@ begins_block b p n bs blocks tag xs body e f h inside =
     ap (λ l. unroll (listed l)) (got_split xs b (repeat n tag (listed body)) f) ∙ steps-append (take b xs) (repeat n tag (listed body) ∷ drop (suc b) xs) in
     subst (λ l. BeginsWith l (unroll (listed xs))) (sym (steps_block b p n bs blocks tag xs body e f)) (subst (BeginsWith (front ++ within)) (sym all) whole)
 
--- what leaves a list if a block is edited is the block, with no fewer steps than are before a place within it
+-- what leaves a list if a block is edited is the block, with no fewer steps than are before a position within it
 
 taken_one : (xs : List OneItem) (b : ℕ) (x : OneItem) → slice_get xs b ≡ Some x → drop b (take (suc b) xs) ≡ x ∷ []
 taken_one [] b x e = absurd (cc)

@@ -1,4 +1,4 @@
--- Parts in place of an item, and the split that they come to.
+-- Parts that replace an item, and the split that they come to.
 use Rattle.stab_items.proofs.Names.{◌≡◌, ◌≤◌, ◌<◌, refl, ap, sym, ◌∙◌, subst, ℕ, ◌+◌, ◌-◌, suc, zero, Bool, true, false, List, [], ◌∷◌, ◌++◌, length, arith, append_assoc, nat_lt, if◌then◌else◌, All, Option, Some, None, Result, Ok, Err, slice_get, length-append, All-nil, All-cons, All-head, All-tail, All-append, Refusal, PlaceOutOfRange, OutOfMemory, Fault, whole, IsCallFault, Insert, Replace, Delete, Items, OneItem, operation, repeat, listed, entries, depth, depth_of, Path, item_there, found_inside, item_in, item_at, with_item, rebuilt, edited_inside, edited, edit_refusal, taken, rounds_as_block, parts_of_block, parts_of_item, with_parts, split_in, split, refused_by, split_refusal, with_parts_at, AreAsDeep, AreBefore}
 use Rattle.stab_items.proofs.ChangeLemmas.{replaced_by_last, inserted_before, are_split}
 use Rattle.stab_items.proofs.DepthLemmas.{shallow_allowed, insert_allowed, replace_allowed, inserted_there, replaced_there}
@@ -49,7 +49,7 @@ some_parts round item parts e =
     let p = are_parts round item parts e in
     omega (arith, ap length p.are, length-append (rounds_as_block round p.tag p.body) (repeat 1 p.tag p.body ∷ rounds_as_block (p.count - (round + 1)) p.tag p.body))
 
--- parts in place of the item at a path are a split
+-- parts that replace the item at a path are a split
 pub parts_are_split : (path : Path) (round : ℕ) (item : OneItem) (parts xs ys : List OneItem) → item_at path xs ≡ Ok item → parts_of_item round (Some item) ≡ Ok parts
     → with_parts_at path parts xs ≡ Ok ys → split path round xs ≡ Ok ys
 parts_are_split path round item parts xs ys found e put =

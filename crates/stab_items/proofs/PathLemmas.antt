@@ -20,11 +20,11 @@ path_is path bs p e =
     let is = last_is path.blocks bs path.place p e in
     λ i. record { blocks = is.0 i; place = is.1 i }
 
--- the text of a block's place
+-- the text of a block's position
 abbrev pub block_text : ℕ → List ℕ
 block_text place = decimal place ++ codes "/"
 
--- the text of the places of some blocks, and of a place in them
+-- the text of the positions of some blocks, and of a position in them
 abbrev pub places_text : List ℕ → ℕ → List ℕ
 places_text bs p = flat_map block_text bs ++ decimal p
 

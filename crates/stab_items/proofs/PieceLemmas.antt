@@ -29,7 +29,7 @@ rounds-pieces (suc (suc n)) gates body lead round h some following =
     ∙ append_assoc lead (interleaved gates (round lead)) (interleaved gates rest)
     ∙ ap (λ l. lead ++ l) (sym (interleaved-append gates (round lead) rest))
 
--- in the last of these blocks, which all have rounds, these steps are between a place and an end
+-- in the last of these blocks, which all have rounds, these steps are between a position and an end
 abbrev pub Stands : List Step → (end : ℕ) → List ℕ → (place : ℕ) → List OneItem → Type 0
 Stands gates end [] place xs = steps (take end xs) ≡ steps (take place xs) ++ gates
 Stands gates end (b ∷ bs) place xs = (0 < rounds_in (slice_get xs b)) × Stands gates end bs place (inner (slice_get xs b))

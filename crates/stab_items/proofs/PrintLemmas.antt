@@ -30,7 +30,7 @@ printed_block d count tag body =
     ap (λ l. line_text (record { depth = d; content = open_text count tag }) ++ l)
     (text_of-append (printed_lines (suc d) body) (close ∷ []) ∙ ap (λ l. printed_in (suc d) body ++ l) (append-nil (line_text close)))
 
--- what is before a place, the item there, and what follows
+-- what is before a position, the item there, and what follows
 items_at : (xs : List OneItem) (i : ℕ) (x : OneItem) → i < length xs → x ≡ get_or xs i x
     → join (listed (take i xs)) (join (before x done) (listed (drop (i + 1) xs))) ≡ listed xs
 items_at xs i x h e =

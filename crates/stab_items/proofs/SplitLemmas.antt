@@ -82,7 +82,7 @@ block_alike count tag old new a = record {
   named = λ f. ap (λ n. max n 0) (a.named f);
 }
 
--- a list with parts in the place of an item
+-- a list with parts instead of an item
 parts_in_place : (place : ℕ) (round : ℕ) (xs ys : List OneItem) (g : Option OneItem) → slice_get xs place ≡ g → with_parts place xs (parts_of_item round g) ≡ Ok ys → AreAlike (listed xs) (listed ys)
 parts_in_place place round xs ys None found e = absurd (cc)
 parts_in_place place round xs ys (Some (operation op)) found e = absurd (cc)

@@ -6,7 +6,7 @@ cut zero xs = refl
 cut (suc n) [] = refl
 cut (suc n) (x ∷ xs) = ap (λ ys. x ∷ ys) (cut n xs)
 
--- the steps of targets from a place on begin with those of a part of the targets
+-- the steps of targets from a position on begin with those of a part of the targets
 pub part-steps : {X : Type 0} (f : X → Step) (xs seen part : List X) (place most : ℕ) (steps : List Step) → steps ≡ map f xs → seen ≡ xs → part ≡ take most (drop place seen)
     → drop place steps ≡ map f part ++ drop (place + length (map f part)) steps
 part-steps f xs seen part place most steps is same e =
@@ -18,7 +18,7 @@ part-steps f xs seen part place most steps is same e =
     ∙ ap (λ p. p ++ drop (length p) ys) front
     ∙ ap (λ rest. map f part ++ rest) (drop-drop (length (map f part)) place (map f xs)))
 
--- the steps of an instruction from a place on
+-- the steps of an instruction from a position on
 pub none_given : (l : List Step) (n : ℕ) → None ≡ slice_get l n → drop n l ≡ []
 none_given [] zero e = refl
 none_given [] (suc n) e = refl

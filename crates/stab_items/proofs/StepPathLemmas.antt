@@ -27,7 +27,7 @@ length-paths place (block count tag body rest) =
     ∙ ap (λ m. length (rounds count (unroll body)) + m) (length-paths (place + 1) rest)
     ∙ sym (length-append (rounds count (unroll body)) (unroll rest))
 
--- the items before a place, and those from it on
+-- the items before a position, and those from it on
 
 paths_before : (place : ℕ) (x : OneItem) (rest : Items) → paths_from place (before x rest) ≡ paths_from place (before x done) ++ paths_from (place + 1) rest
 paths_before place (operation op) rest =
@@ -60,7 +60,7 @@ paths-append place (x ∷ xs) ys =
     ∙ sym (append_assoc (paths_from place (before x done)) (paths_from (place + 1) (listed xs)) following)
     ∙ ap (λ l. l ++ following) (sym (paths_before place x (listed xs)))
 
--- the paths from a step on, by the items from a place on
+-- the paths from a step on, by the items from a position on
 pub paths_from_place : (xs : List OneItem) (place rest step : ℕ) → place ≤ length xs → length (unroll (listed (take place xs))) + rest ≡ step
     → drop rest (paths_from place (listed (drop place xs))) ≡ drop step (paths_of (listed xs))
 paths_from_place xs place rest step h e =
@@ -73,7 +73,7 @@ paths_from_place xs place rest step h e =
     ∙ ap (λ n. drop n (front ++ paths_from place (listed (drop place xs)))) at
     ∙ drop-append-add front (paths_from place (listed (drop place xs))) rest)
 
--- the item at a place
+-- the item at a position
 
 pub some_item : (xs : List OneItem) (p n : ℕ) → n < length (unroll (listed (drop p xs))) → p < length xs
 some_item [] zero n h = absurd (omega (arith, h))
@@ -107,7 +107,7 @@ block_steps x n kept tag body is small some few =
 pub operation_steps : (x : OneItem) (op : Operation) → x ≡ operation op → length (unroll (before x done)) ≡ length (steps_of op.kind)
 operation_steps x op is = ap (λ y. length (unroll (before y done))) is ∙ ap length (append-nil (steps_of op.kind))
 
--- the item at a place has the steps that are not after it
+-- the item at a position has the steps that are not after it
 pub within_item : (xs : List OneItem) (p w : ℕ) (x : OneItem) → p < length xs → x ≡ get_or xs p x → w + length (unroll (listed (drop (p + 1) xs))) < length (unroll (listed (drop p xs))) → w < length (unroll (before x done))
 within_item xs p w x h e k = omega (arith, k, steps_at xs p x h e)
 
@@ -186,7 +186,7 @@ around_replicate : (bs : List ℕ) (n : ℕ) (path : Path) → map (around bs) (
 around_replicate bs zero path = refl
 around_replicate bs (suc n) path = ap (λ l. around bs path ∷ l) (around_replicate bs n path)
 
--- the paths are those of a list in some blocks, from a step within the item at a place on, and then others
+-- the paths are those of a list in some blocks, from a step within the item at a position on, and then others
 pub record Reached (all : List Path) (bs : List ℕ) (xs : List OneItem) (p w : ℕ) : Type 0 where
   pub others : List Path
   pub same : all ≡ map (around bs) (drop w (paths_from p (listed (drop p xs)))) ++ others

@@ -16,7 +16,7 @@ sum_joined all xs ys s t r e a b f small =
     ap (λ q. followed_by q t) a.value ∙ ap (followed_by (summary_of (listed xs))) b.value ∙ sym (summary-join (listed xs) (listed ys) near) ∙ ap summary_of (sym (listed-append xs ys)) in
     sum_is (xs ++ ys) all r (sym e) (f ∙ joined) small (good_append xs ys a.good b.good)
 
--- the items from a place on, those before another place first
+-- the items from a position on, those before another position first
 pub from_joined : (first place : ℕ) (xs : List OneItem) → drop first xs ≡ drop first (take place xs) ++ drop (max first place) xs
 from_joined zero place xs =
     let same : place ≡ max 0 place = omega arith in

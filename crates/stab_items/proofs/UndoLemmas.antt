@@ -2,7 +2,7 @@
 use Rattle.stab_items.proofs.Names.{◌≡◌, ◌<◌, refl, ap, sym, ◌∙◌, subst, ℕ, ◌+◌, suc, true, List, [], ◌∷◌, ◌++◌, length, take, drop, set, arith, nat_lt, if◌then◌else◌, Option, Some, None, Result, Ok, Err, set_split, take-append-drop, length-take-le, length-append, remove, slice_get, slice_get_within, Refusal, PlaceOutOfRange, Items, OneItem, repeat, listed, entries, Edit, Insert, Replace, Delete, with_item, rebuilt, edited_inside, changed, edited_in, edited, inner, taken_at, taken_in, taken, Path}
 use Rattle.stab_items.proofs.EditLemmas.{entries-listed, listed-entries, changed_split, got_split, Rebuilds, rebuilds}
 
--- lists around a place
+-- lists around a position
 
 get-at : (f : List OneItem) (x : OneItem) (r : List OneItem) → slice_get (f ++ x ∷ r) (length f) ≡ Some x
 get-at [] x r = refl

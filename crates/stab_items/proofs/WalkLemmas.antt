@@ -14,7 +14,7 @@ weight_before : (x : OneItem) (rest : Items) → weight (before x rest) ≡ weig
 weight_before (operation op) rest = omega arith
 weight_before (repeat count tag body) rest = omega arith
 
--- the items from a place on
+-- the items from a position on
 pub items_from : (xs : List OneItem) (p : ℕ) (x : OneItem) → p < length xs → x ≡ get_or xs p x → listed (drop p xs) ≡ before x (listed (drop (p + 1) xs))
 items_from xs p x h e =
     let next' : suc p ≡ p + 1 = omega arith in
@@ -23,7 +23,7 @@ items_from xs p x h e =
 -- the levels
 
 abbrev pub past_one : Level → Level
-past_one t = record { items = t.items; place = t.place + 1; rounds = t.rounds }
+past_one t = record { items = t.items; position = t.position + 1; rounds = t.rounds }
 
 pub levels_left-push : (more : List Step) (ls : List Level) (l : Level) → levels_left more (ls ++ l ∷ []) ≡ level_left l ++ levels_left more ls
 levels_left-push more [] l = refl
@@ -65,44 +65,44 @@ no_steps (s ∷ ss) h = absurd (omega arith)
 
 -- past an item of the innermost block
 
-pub taken_left : (t : Level) (more : List Step) (x : OneItem) → t.place < length t.items.now → x ≡ get_or t.items.now t.place x
+pub taken_left : (t : Level) (more : List Step) (x : OneItem) → t.position < length t.items.now → x ≡ get_or t.items.now t.position x
     → level_left t ++ more ≡ unroll (before x done) ++ (level_left (past_one t) ++ more)
 taken_left t more x h e =
     let xs = t.items.now in
-    let others = unroll (listed (drop (t.place + 1) xs)) in
-    ap (λ l. (unroll l ++ rounds t.rounds (unroll (listed xs))) ++ more) (items_from xs t.place x h e)
-    ∙ ap (λ l. (l ++ rounds t.rounds (unroll (listed xs))) ++ more) (unroll_before x (listed (drop (t.place + 1) xs)))
+    let others = unroll (listed (drop (t.position + 1) xs)) in
+    ap (λ l. (unroll l ++ rounds t.rounds (unroll (listed xs))) ++ more) (items_from xs t.position x h e)
+    ∙ ap (λ l. (l ++ rounds t.rounds (unroll (listed xs))) ++ more) (unroll_before x (listed (drop (t.position + 1) xs)))
     ∙ ap (λ l. l ++ more) (append_assoc (unroll (before x done)) others (rounds t.rounds (unroll (listed xs))))
     ∙ append_assoc (unroll (before x done)) (level_left (past_one t)) (more)
 
-pub taken_weight : (t : Level) (x : OneItem) → t.place < length t.items.now → x ≡ get_or t.items.now t.place x
+pub taken_weight : (t : Level) (x : OneItem) → t.position < length t.items.now → x ≡ get_or t.items.now t.position x
     → level_weight t ≡ weight (before x done) + level_weight (past_one t)
 taken_weight t x h e =
     let xs = t.items.now in
-    let here : weight (listed (drop t.place xs)) ≡ weight (before x done) + weight (listed (drop (t.place + 1) xs)) =
-    ap weight (items_from xs t.place x h e) ∙ weight_before x (listed (drop (t.place + 1) xs)) in
+    let here : weight (listed (drop t.position xs)) ≡ weight (before x done) + weight (listed (drop (t.position + 1) xs)) =
+    ap weight (items_from xs t.position x h e) ∙ weight_before x (listed (drop (t.position + 1) xs)) in
     omega (arith, here)
 
 abbrev pub past_item : Walk → Walk
 past_item w = record { kind = w.kind; within = w.within; top = past_one w.top; around = w.around }
 
-pub taken : (w : Walk) (x : OneItem) → IsWalk w → w.top.place < length w.top.items.now → x ≡ get_or w.top.items.now w.top.place x → Takes w (past_item w) x
+pub taken : (w : Walk) (x : OneItem) → IsWalk w → w.top.position < length w.top.items.now → x ≡ get_or w.top.items.now w.top.position x → Takes w (past_item w) x
 taken w x walks h e = (
   taken_left w.top (levels_left [] w.around.items) x h e,
   omega (arith, taken_weight w.top x h e),
-  omega (arith, walks.shallow, depth_at w.top.items.now w.top.place x h e),
+  omega (arith, walks.shallow, depth_at w.top.items.now w.top.position x h e),
 )
 
 -- into a block, which comes ahead of the level outside
 
 pub entered_left : (others : List Step) (t : Level) (ls new : List Level) (body : Bor (List OneItem)) (more : ℕ) → new ≡ ls ++ t ∷ []
-    → level_left (record { items = body; place = 0; rounds = more }) ++ levels_left others new ≡ (unroll (listed body.now) ++ rounds more (unroll (listed body.now))) ++ (level_left t ++ levels_left others ls)
+    → level_left (record { items = body; position = 0; rounds = more }) ++ levels_left others new ≡ (unroll (listed body.now) ++ rounds more (unroll (listed body.now))) ++ (level_left t ++ levels_left others ls)
 entered_left others t ls new body more pushed =
     let bs = unroll (listed body.now) in
     ap (λ l. (bs ++ rounds more bs) ++ l) (ap (levels_left others) pushed ∙ levels_left-push others ls t)
 
 pub entered_weight : (t : Level) (ls new : List Level) (body : Bor (List OneItem)) (more : ℕ) → new ≡ ls ++ t ∷ []
-    → level_weight (record { items = body; place = 0; rounds = more }) + levels_weight new ≡ weight_at body.now 0 more + (level_weight t + levels_weight ls)
+    → level_weight (record { items = body; position = 0; rounds = more }) + levels_weight new ≡ weight_at body.now 0 more + (level_weight t + levels_weight ls)
 entered_weight t ls new body more pushed = omega (arith, ap levels_weight pushed, levels_weight-push ls t)
 
 pub entered : (w u : Walk) → IsWalk w → u.around.items ≡ w.around.items ++ w.top ∷ [] → vec_capacity u.around ≡ vec_capacity w.around
@@ -118,22 +118,22 @@ entered w u h pushed same room =
 
 -- to the next round
 
-pub ended_left : (t : Level) → length t.items.now ≤ t.place → level_left t ≡ rounds t.rounds (unroll (listed t.items.now))
-ended_left t h = ap (λ l. unroll (listed l) ++ rounds t.rounds (unroll (listed t.items.now))) (drop_all t.place t.items.now h)
+pub ended_left : (t : Level) → length t.items.now ≤ t.position → level_left t ≡ rounds t.rounds (unroll (listed t.items.now))
+ended_left t h = ap (λ l. unroll (listed l) ++ rounds t.rounds (unroll (listed t.items.now))) (drop_all t.position t.items.now h)
 
-pub next_round : (t : Level) (more : List Step) → length t.items.now ≤ t.place → 0 < t.rounds
-    → level_left (record { items = t.items; place = 0; rounds = t.rounds - 1 }) ++ more ≡ level_left t ++ more
+pub next_round : (t : Level) (more : List Step) → length t.items.now ≤ t.position → 0 < t.rounds
+    → level_left (record { items = t.items; position = 0; rounds = t.rounds - 1 }) ++ more ≡ level_left t ++ more
 next_round t more h some = ap (λ l. l ++ more) (sym (more_rounds t.rounds (unroll (listed t.items.now)) some) ∙ sym (ended_left t h))
 
-pub next_round_less : (t : Level) (n : ℕ) → length t.items.now ≤ t.place → 0 < t.rounds
-    → level_weight (record { items = t.items; place = 0; rounds = t.rounds - 1 }) + n < level_weight t + n
+pub next_round_less : (t : Level) (n : ℕ) → length t.items.now ≤ t.position → 0 < t.rounds
+    → level_weight (record { items = t.items; position = 0; rounds = t.rounds - 1 }) + n < level_weight t + n
 next_round_less t n h some =
     let xs = t.items.now in
-    omega (arith, ap (λ l. weight (listed l)) (drop_all t.place xs h), more_times t.rounds (1 + weight (listed xs)) some)
+    omega (arith, ap (λ l. weight (listed l)) (drop_all t.position xs h), more_times t.rounds (1 + weight (listed xs)) some)
 
 -- out of the innermost block
 
-pub left_out : (more : List Step) (t l : Level) (ls new : List Level) → length t.items.now ≤ t.place → t.rounds ≤ 0 → ls ≡ new ++ l ∷ []
+pub left_out : (more : List Step) (t l : Level) (ls new : List Level) → length t.items.now ≤ t.position → t.rounds ≤ 0 → ls ≡ new ++ l ∷ []
     → level_left l ++ levels_left more new ≡ level_left t ++ levels_left more ls
 left_out more t l ls new h last popped =
     let none : t.rounds ≡ 0 = omega arith in
@@ -158,7 +158,7 @@ no_levels [] h = refl
 no_levels (l ∷ ls) h = absurd (omega arith)
 
 -- what is left at the end of the outermost list
-pub at_end : (more : List Step) (t : Level) (ls : List Level) → length t.items.now ≤ t.place → t.rounds ≤ 0 → length ls ≤ 0 → level_left t ++ levels_left more ls ≡ more
+pub at_end : (more : List Step) (t : Level) (ls : List Level) → length t.items.now ≤ t.position → t.rounds ≤ 0 → length ls ≤ 0 → level_left t ++ levels_left more ls ≡ more
 at_end more t ls h last empty =
     let none : t.rounds ≡ 0 = omega arith in
     ap (λ q. level_left t ++ levels_left more q) (no_levels ls (omega (arith, empty)))
@@ -166,13 +166,13 @@ at_end more t ls h last empty =
 
 -- what is left at the beginning
 
-pub begun_at : (items : Bor (List OneItem)) (place : ℕ) (ls : List Level) → ls ≡ [] → level_left (record { items = items; place = place; rounds = 0 }) ++ levels_left [] ls ≡ unroll (listed (drop place items.now))
-begun_at items place ls none =
-    ap (λ q. level_left (record { items = items; place = place; rounds = 0 }) ++ levels_left [] q) none
-    ∙ append-nil (unroll (listed (drop place items.now)) ++ [])
-    ∙ append-nil (unroll (listed (drop place items.now)))
+pub begun_at : (items : Bor (List OneItem)) (position : ℕ) (ls : List Level) → ls ≡ [] → level_left (record { items = items; position = position; rounds = 0 }) ++ levels_left [] ls ≡ unroll (listed (drop position items.now))
+begun_at items position ls none =
+    ap (λ q. level_left (record { items = items; position = position; rounds = 0 }) ++ levels_left [] q) none
+    ∙ append-nil (unroll (listed (drop position items.now)) ++ [])
+    ∙ append-nil (unroll (listed (drop position items.now)))
 
-pub begun_left : (items : Bor (List OneItem)) (ls : List Level) → ls ≡ [] → level_left (record { items = items; place = 0; rounds = 0 }) ++ levels_left [] ls ≡ unroll (listed items.now)
+pub begun_left : (items : Bor (List OneItem)) (ls : List Level) → ls ≡ [] → level_left (record { items = items; position = 0; rounds = 0 }) ++ levels_left [] ls ≡ unroll (listed items.now)
 begun_left items ls none = begun_at items 0 ls none
 
 -- an instruction that has no more steps

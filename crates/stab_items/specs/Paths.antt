@@ -4,7 +4,7 @@ use Rattle.std.specs.Prelude.{ℕ, List, [], ◌∷◌, ◌++◌, map}
 use Rattle.std.specs.List.{join_with_byte}
 use Rattle.std.specs.Fmt.{decimal}
 
--- a path: the places of the blocks around, the outermost first, and a place in the innermost list
+-- a path: the positions of the blocks around, the outermost first, and a position in the innermost list
 pub record Path : Type 0 where
   pub blocks : List ℕ
   pub place : ℕ

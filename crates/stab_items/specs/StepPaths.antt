@@ -5,11 +5,11 @@ use Rattle.stab_items.specs.Items.{Items, done, next, block}
 use Rattle.stab_items.specs.Steps.{steps_of, unroll}
 use Rattle.stab_items.specs.Paths.{Path}
 
--- the path of a place in the outermost list
+-- the path of a position in the outermost list
 abbrev pub outside : ℕ → Path
 outside place = record { blocks = []; place = place }
 
--- a path within the block at a place
+-- a path within the block at a position
 abbrev pub within : ℕ → Path → Path
 within place path = record { blocks = place ∷ path.blocks; place = path.place }
 
@@ -18,7 +18,7 @@ abbrev pub path_rounds : ℕ → List Path → List Path
 path_rounds zero paths = []
 path_rounds (suc n) paths = paths ++ path_rounds n paths
 
--- the paths of the items of the steps, if the first item has the given place
+-- the paths of the items of the steps, if the first item has the given position
 abbrev pub paths_from : ℕ → Items → List Path
 paths_from place done = []
 paths_from place (next op rest) = replicate (length (steps_of op.kind)) (outside place) ++ paths_from (place + 1) rest

@@ -40,7 +40,7 @@ pub data Step : Type 0 where
 abbrev pub measured : Measurement → MeasureTarget → Step
 measured m t = collapse (letter_of m.axis) t.qubit true t.inverted m.resets
 
--- whether a product's record is inverted: the parity of its factors' marks
+-- whether a product's record is inverted: whether an odd number of its factors have !
 abbrev pub is_inverted : List Factor → Bool
 is_inverted [] = false
 is_inverted (f ∷ fs) = f.inverted ⊕ is_inverted fs

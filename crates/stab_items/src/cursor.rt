@@ -7,10 +7,10 @@ use stab_io::Refusal;
 use std::alloc::Global;
 use std::marker::Model;
 
-/// The steps of an unrolled circuit from some place on. Contracts see the list of all its steps, and
+/// The steps of an unrolled circuit from some position on. Contracts see the list of all its steps, and
 /// that of the steps that are left.
 ///
-/// It keeps a place within nested blocks, and no list of steps.
+/// It keeps a position within nested blocks, and no list of steps.
 pub struct Cursor<'a> {
     items: &'a [Item],
     walk: Walk<'a>,

@@ -17,9 +17,9 @@ fn count_at_front(items: &[Item]) -> usize
     ensures within { result ≤ length items.now }
     ensures all { list_all detects (take result items.now) ≡ true }
 {
-    for (place, item) in items.iter().enumerate() {
+    for (position, item) in items.iter().enumerate() {
         if item.detector().is_none() {
-            return place;
+            return position;
         }
     }
     items.len()
@@ -44,12 +44,12 @@ impl<'a> Detectors<'a> {
         self.items.len()
     }
 
-    /// The numbers k of the `rec[-k]` of the detector at a place.
-    pub fn get(self, place: usize) -> &'a [u32]
-        requires within { place < length (lookbacks_of self) }
-        ensures value { result.now ≡ slice_index_or (lookbacks_of self.entry) place [] }
+    /// The numbers k of the `rec[-k]` of the detector at a position.
+    pub fn get(self, position: usize) -> &'a [u32]
+        requires within { position < length (lookbacks_of self) }
+        ensures value { result.now ≡ slice_index_or (lookbacks_of self.entry) position [] }
     {
-        match self.items[place].detector() {
+        match self.items[position].detector() {
             Some(lookbacks) => lookbacks,
             None => unreachable!(),
         }

@@ -73,34 +73,34 @@ fn controlled(axis: Axis, pair: &ControlledPair) -> Step<'static>
     }
 }
 
-fn gate_at(gate: Gate, qubits: &[Qubit], place: usize) -> Option<Step<'static>>
-    ensures value { shown_step result ≡ slice_get (map (one gate) qubits.now) place }
+fn gate_at(gate: Gate, qubits: &[Qubit], position: usize) -> Option<Step<'static>>
+    ensures value { shown_step result ≡ slice_get (map (one gate) qubits.now) position }
     ensures distinct { IfSome result (λ s. HasDistinctQubits (step_shown s)) }
-    ensures room { IfSome result (λ s. place + 1 < 2 ^ 64) }
+    ensures room { IfSome result (λ s. position + 1 < 2 ^ 64) }
 {
-    match qubits.get(place) {
+    match qubits.get(position) {
         Some(qubit) => Some(Step::One(gate, qubit.number())),
         None => None,
     }
 }
 
-fn controlled_at(axis: Axis, pairs: &[ControlledPair], place: usize) -> Option<Step<'static>>
-    ensures value { shown_step result ≡ slice_get (map (controlled_step axis) pairs.now) place }
+fn controlled_at(axis: Axis, pairs: &[ControlledPair], position: usize) -> Option<Step<'static>>
+    ensures value { shown_step result ≡ slice_get (map (controlled_step axis) pairs.now) position }
     ensures distinct { IfSome result (λ s. HasDistinctQubits (step_shown s)) }
-    ensures room { IfSome result (λ s. place + 1 < 2 ^ 64) }
+    ensures room { IfSome result (λ s. position + 1 < 2 ^ 64) }
 {
-    match pairs.get(place) {
+    match pairs.get(position) {
         Some(pair) => Some(controlled(axis, pair)),
         None => None,
     }
 }
 
-fn swap_at(pairs: &[Pair], place: usize) -> Option<Step<'static>>
-    ensures value { shown_step result ≡ slice_get (map (λ pair. two gate.Swap pair.0 pair.1) pairs.now) place }
+fn swap_at(pairs: &[Pair], position: usize) -> Option<Step<'static>>
+    ensures value { shown_step result ≡ slice_get (map (λ pair. two gate.Swap pair.0 pair.1) pairs.now) position }
     ensures distinct { IfSome result (λ s. HasDistinctQubits (step_shown s)) }
-    ensures room { IfSome result (λ s. place + 1 < 2 ^ 64) }
+    ensures room { IfSome result (λ s. position + 1 < 2 ^ 64) }
 {
-    match pairs.get(place) {
+    match pairs.get(position) {
         Some(pair) => {
             let first = pair.first().number();
             Some(Step::Two(PairGate::Swap, first, pair.second().number()))
@@ -112,24 +112,24 @@ fn swap_at(pairs: &[Pair], place: usize) -> Option<Step<'static>>
 fn measurement_at(
     measurement: Measurement,
     targets: &[MeasureTarget],
-    place: usize,
+    position: usize,
 ) -> Option<Step<'static>>
-    ensures value { shown_step result ≡ slice_get (map (measured_of measurement) targets.now) place }
+    ensures value { shown_step result ≡ slice_get (map (measured_of measurement) targets.now) position }
     ensures distinct { IfSome result (λ s. HasDistinctQubits (step_shown s)) }
-    ensures room { IfSome result (λ s. place + 1 < 2 ^ 64) }
+    ensures room { IfSome result (λ s. position + 1 < 2 ^ 64) }
 {
-    match targets.get(place) {
+    match targets.get(position) {
         Some(target) => Some(measured_step(measurement, *target)),
         None => None,
     }
 }
 
-fn reset_at(axis: Axis, qubits: &[Qubit], place: usize) -> Option<Step<'static>>
-    ensures value { shown_step result ≡ slice_get (map (λ q. collapse (letter_of axis) q false false true) qubits.now) place }
+fn reset_at(axis: Axis, qubits: &[Qubit], position: usize) -> Option<Step<'static>>
+    ensures value { shown_step result ≡ slice_get (map (λ q. collapse (letter_of axis) q false false true) qubits.now) position }
     ensures distinct { IfSome result (λ s. HasDistinctQubits (step_shown s)) }
-    ensures room { IfSome result (λ s. place + 1 < 2 ^ 64) }
+    ensures room { IfSome result (λ s. position + 1 < 2 ^ 64) }
 {
-    match qubits.get(place) {
+    match qubits.get(position) {
         Some(qubit) => Some(Step::Collapse {
             letter: axis.letter(),
             qubit: qubit.number(),
@@ -141,46 +141,46 @@ fn reset_at(axis: Axis, qubits: &[Qubit], place: usize) -> Option<Step<'static>>
     }
 }
 
-fn product_at(products: &[Product], place: usize) -> Option<Step<'_>>
-    ensures value { shown_step result ≡ slice_get (map measured_product_step products.now) place }
+fn product_at(products: &[Product], position: usize) -> Option<Step<'_>>
+    ensures value { shown_step result ≡ slice_get (map measured_product_step products.now) position }
     ensures distinct { IfSome result (λ s. HasDistinctQubits (step_shown s)) }
-    ensures room { IfSome result (λ s. place + 1 < 2 ^ 64) }
+    ensures room { IfSome result (λ s. position + 1 < 2 ^ 64) }
 {
-    match products.get(place) {
+    match products.get(position) {
         Some(product) => Some(measured_product(product)),
         None => None,
     }
 }
 
-/// The only step of an instruction, at the first place.
-fn only_at(step: Step<'_>, place: usize) -> Option<Step<'_>>
+/// The only step of an instruction, at the first position.
+fn only_at(step: Step<'_>, position: usize) -> Option<Step<'_>>
     requires distinct { HasDistinctQubits (step_shown step) }
-    ensures value { shown_step result ≡ slice_get (step_shown step.entry ∷ []) place }
+    ensures value { shown_step result ≡ slice_get (step_shown step.entry ∷ []) position }
     ensures distinct { IfSome result (λ s. HasDistinctQubits (step_shown s)) }
-    ensures room { IfSome result (λ s. place + 1 < 2 ^ 64) }
+    ensures room { IfSome result (λ s. position + 1 < 2 ^ 64) }
 {
-    if place == 0 { Some(step) } else { None }
+    if position == 0 { Some(step) } else { None }
 }
 
-/// The step of an instruction at a place among its steps.
-pub fn step_at(kind: &Kind, place: usize) -> Option<Step<'_>>
-    ensures value { shown_step result ≡ slice_get (steps_of kind.now) place }
+/// The step of an instruction at a position among its steps.
+pub fn step_at(kind: &Kind, position: usize) -> Option<Step<'_>>
+    ensures value { shown_step result ≡ slice_get (steps_of kind.now) position }
     ensures distinct { IfSome result (λ s. HasDistinctQubits (step_shown s)) }
-    ensures room { IfSome result (λ s. place + 1 < 2 ^ 64) }
+    ensures room { IfSome result (λ s. position + 1 < 2 ^ 64) }
 {
     match kind {
-        Kind::Gate(gate, qubits) => gate_at(*gate, qubits.as_slice(), place),
-        Kind::Controlled(axis, pairs) => controlled_at(*axis, pairs.as_slice(), place),
-        Kind::Swap(pairs) => swap_at(pairs.as_slice(), place),
+        Kind::Gate(gate, qubits) => gate_at(*gate, qubits.as_slice(), position),
+        Kind::Controlled(axis, pairs) => controlled_at(*axis, pairs.as_slice(), position),
+        Kind::Swap(pairs) => swap_at(pairs.as_slice(), position),
         Kind::Measure(measurement, targets) => {
-            measurement_at(*measurement, targets.as_slice(), place)
+            measurement_at(*measurement, targets.as_slice(), position)
         }
-        Kind::Reset(axis, qubits) => reset_at(*axis, qubits.as_slice(), place),
-        Kind::MeasureProducts(products) => product_at(products.as_slice(), place),
-        Kind::Detector(located) => { only_at(Step::Detector(located.records()), place) },
+        Kind::Reset(axis, qubits) => reset_at(*axis, qubits.as_slice(), position),
+        Kind::MeasureProducts(products) => product_at(products.as_slice(), position),
+        Kind::Detector(located) => { only_at(Step::Detector(located.records()), position) },
         Kind::ObservableInclude(observable, records) => {
             let number = observable.number();
-            only_at(Step::Observable(number, records.as_slice()), place)
+            only_at(Step::Observable(number, records.as_slice()), position)
         }
         Kind::Tick | Kind::QubitCoords(_) | Kind::ShiftCoords(_) => None,
     }

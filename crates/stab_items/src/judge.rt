@@ -46,14 +46,14 @@ pub(crate) struct Block<'a> {
     pub(crate) body: &'a [Item],
 }
 
-/// The block at a place.
+/// The block at a position of a list.
 pub(crate) fn block_at(items: &[Item], place: usize) -> Result<Block<'_>, Refusal>
     ensures value { IsBlockAt (slice_get items.now place) result }
 {
     block_of(items.get(place))
 }
 
-/// The block that the item at a place is, if there is one.
+/// The block that a found item is, if there is one.
 pub(crate) fn block_of(found: Option<&Item>) -> Result<Block<'_>, Refusal>
     ensures value { IsBlockAt (shown_item found.entry) result }
 {
@@ -192,7 +192,7 @@ pub(crate) fn judged_edit(
     edit_result_in(items, stretches, path.blocks(), edit)
 }
 
-/// How many steps are before a place in nested blocks of a list with these stretches, or 1,048,577
+/// How many steps are before a position in nested blocks of a list with these stretches, or 1,048,577
 /// if there are more.
 #[cycle(counting)]
 pub(crate) fn steps_in(items: &[Item], stretches: &[Stretch], blocks: &[usize], place: usize) -> u32
@@ -208,7 +208,7 @@ pub(crate) fn steps_in(items: &[Item], stretches: &[Stretch], blocks: &[usize], 
     }
 }
 
-/// How many steps are before a place in a block of a list and the blocks in it, or 1,048,577
+/// How many steps are before a position in a block of a list and the blocks in it, or 1,048,577
 /// if there are more; none if the list has no block there.
 #[cycle(counting)]
 fn steps_inside(items: &[Item], block: usize, others: &[usize], place: usize) -> u32

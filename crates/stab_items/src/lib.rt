@@ -18,7 +18,7 @@
 //! - `circuit`: circuits, editing one, splitting a round off a block, the item at a path, the item that a step belongs to,
 //!   the steps after each occurrence of an item in blocks, and the blocks of which the steps come again.
 //! - `same`: instructions and items that stand for the same steps.
-//! - `walk`, `cursor`: the unrolled steps of a circuit, from any place on.
+//! - `walk`, `cursor`: the unrolled steps of a circuit, from any position on.
 //!
 //! Source: Stim's circuit file format (.stim) without noise, in Stim's repository
 //! `doc/file_format_stim_circuit.md`. `docs/use/circuit-text.md` says where this differs. Paths and edits are this project's own.

@@ -7,11 +7,11 @@ use itoa::Buffer;
 use stab_io::{Output, Refusal, write_all};
 use std::marker::Model;
 
-/// Where an item is or an edit is made: the places of the blocks around, the outermost first, of
-/// which there are at most 16, and a place in the innermost list. Places are counted from 0.
+/// Where an item is or an edit is made: the positions of the blocks around it, the outermost first, of
+/// which there are at most 16, and a position in the innermost list. Positions are counted from 0.
 #[derive(Clone, Copy, Debug, PartialEq, Eq)]
 pub struct Path {
-    /// The blocks' places, and then zeros.
+    /// The blocks' positions, and then zeros.
     blocks: [usize; 16],
     depth: usize,
     place: usize,
@@ -53,7 +53,7 @@ impl Path {
         }
     }
 
-    /// The first number: a place in the outermost list.
+    /// The first number: a position in the outermost list.
     pub fn first(&self) -> usize
         ensures value { slice_get (numbers self.now) 0 ≡ Some result }
     {
@@ -64,14 +64,14 @@ impl Path {
         }
     }
 
-    /// The places of the blocks around, the outermost first.
+    /// The positions of the blocks around, the outermost first.
     pub fn blocks(&self) -> &[usize]
         ensures value { result.now ≡ self.now.blocks }
     {
         &self.blocks[..self.depth]
     }
 
-    /// The place in the innermost list.
+    /// The position in the innermost list.
     pub fn place(&self) -> usize
         ensures value { result ≡ self.now.place }
     {
@@ -87,7 +87,7 @@ fn write_number<O: Output>(out: &mut O, number: usize) -> Result<(), Refusal>
     write_all(out, digits.format(number).as_bytes())
 }
 
-/// Writes the place of a block, with a slash after it.
+/// Writes the position of a block, with a slash after it.
 fn write_block<O: Output>(out: &mut O, place: usize) -> Result<(), Refusal>
     ensures writes { WritesAll (O.seen out.old) (O.seen out.new) (decimal place ++ codes "/") result }
 {

@@ -1,4 +1,4 @@
-//! Instructions that stand for the same steps, and how many such begin two lists of items.
+//! Instructions that stand for the same steps, and how many of them two lists of items begin with.
 ghost use Rattle.std.specs.Prelude.{◌≡◌, ◌≤◌, ◌+◌, ◌∷◌, [], true, false, length, map, take, IfSome};
 ghost use Rattle.std.specs.Bool.{OnTrue};
 ghost use Rattle.stab_gates.specs.declared.gate.PairGate.TheVariants as gate;
@@ -86,8 +86,8 @@ fn are_products(products: &[Product], others: &[Product]) -> bool
     if products.len() != others.len() {
         return false;
     }
-    for (place, product) in products.iter().enumerate() {
-        let same = product.as_slice() == others[place].as_slice();
+    for (position, product) in products.iter().enumerate() {
+        let same = product.as_slice() == others[position].as_slice();
         if !same {
             return false;
         }
@@ -139,8 +139,8 @@ fn has_no_steps(kind: &Kind) -> bool
     )
 }
 
-/// Whether two instructions stand for the same steps. Those of different kinds are said to only
-/// if they have no steps.
+/// Whether two instructions stand for the same steps. Of those of different kinds it says so
+/// only if they have no steps.
 pub(crate) fn same_steps(kind: &Kind, other: &Kind) -> bool
     ensures same { OnTrue result (steps_of kind.now ≡ steps_of other.now) }
 {
@@ -197,11 +197,11 @@ pub(crate) fn count_same_items(items: &[Item], others: &[Item]) -> SameItems
 {
     let most = items.len().min(others.len());
     let mut steps = 0;
-    for place in 0..most {
-        match with_same(steps, &items[place], &others[place]) {
+    for position in 0..most {
+        match with_same(steps, &items[position], &others[position]) {
             Some(more) => steps = more,
             None => return SameItems {
-                items: place,
+                items: position,
                 steps,
             },
         }

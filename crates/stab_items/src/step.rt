@@ -25,7 +25,7 @@ pub enum Step<'a> {
     /// records.
     Product {
         factors: &'a [Factor],
-        /// Whether its record is the other bit: the parity of the factors' marks.
+        /// Whether its record is the other bit: whether an odd number of factors have `!`.
         inverted: bool,
     },
     /// A detector: the numbers k of its `rec[-k]`.

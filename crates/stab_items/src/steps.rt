@@ -41,41 +41,41 @@ impl<'a> Steps<'a> {
     }
 }
 
-/// The elements of a list from a place on, up to this many, or `None` if there are none.
-pub fn part<T>(list: &[T], place: usize, most: usize) -> Option<&[T]>
+/// The elements of a list from a position on, up to this many, or `None` if there are none.
+pub fn part<T>(list: &[T], position: usize, most: usize) -> Option<&[T]>
     requires some { 0 < most }
-    ensures value { IfSome result (λ p. p.now ≡ take most (drop place list.now)) }
-    ensures some { IfSome result (λ p. (0 < length p.now) × (length p.now ≤ most) × (place + length p.now < 2 ^ 64)) }
-    ensures none { IfNone result (length list.now ≤ place) }
+    ensures value { IfSome result (λ p. p.now ≡ take most (drop position list.now)) }
+    ensures some { IfSome result (λ p. (0 < length p.now) × (length p.now ≤ most) × (position + length p.now < 2 ^ 64)) }
+    ensures none { IfNone result (length list.now ≤ position) }
 {
-    if place >= list.len() {
+    if position >= list.len() {
         return None;
     }
-    let (_, rest) = list.split_at(place);
+    let (_, rest) = list.split_at(position);
     let (part, _) = rest.split_at(most.min(rest.len()));
     Some(part)
 }
 
-/// The steps of an instruction from a place among them on, up to this many, or `None` if it has no
+/// The steps of an instruction from a position among them on, up to this many, or `None` if it has no
 /// more.
-pub fn steps_from(kind: &Kind, place: usize, most: usize) -> Option<Steps<'_>>
+pub fn steps_from(kind: &Kind, position: usize, most: usize) -> Option<Steps<'_>>
     requires some { 0 < most }
-    ensures some { IfSome result (λ s. drop place (steps_of kind.now) ≡ steps_shown s ++ drop (place + length (steps_shown s)) (steps_of kind.now)) }
-    ensures within { IfSome result (λ s. (0 < length (steps_shown s)) × (length (steps_shown s) ≤ most) × (place + length (steps_shown s) < 2 ^ 64)) }
+    ensures some { IfSome result (λ s. drop position (steps_of kind.now) ≡ steps_shown s ++ drop (position + length (steps_shown s)) (steps_of kind.now)) }
+    ensures within { IfSome result (λ s. (0 < length (steps_shown s)) × (length (steps_shown s) ≤ most) × (position + length (steps_shown s) < 2 ^ 64)) }
     ensures distinct { IfSome result HaveDistinctQubits }
-    ensures none { IfNone result (drop place (steps_of kind.now) ≡ []) }
+    ensures none { IfNone result (drop position (steps_of kind.now) ≡ []) }
 {
     match kind {
         Kind::Gate(gate, qubits) => {
-            let part = part(qubits.as_slice(), place, most)?;
+            let part = part(qubits.as_slice(), position, most)?;
             Some(Steps::Gates(*gate, part))
         }
         Kind::Controlled(axis, pairs) => {
-            let part = part(pairs.as_slice(), place, most)?;
+            let part = part(pairs.as_slice(), position, most)?;
             Some(Steps::Pairs(*axis, part))
         }
         Kind::Measure(measurement, targets) => {
-            let part = part(targets.as_slice(), place, most)?;
+            let part = part(targets.as_slice(), position, most)?;
             Some(Steps::Measurements(*measurement, part))
         }
         Kind::Swap(_)
@@ -86,7 +86,7 @@ pub fn steps_from(kind: &Kind, place: usize, most: usize) -> Option<Steps<'_>>
         | Kind::Tick
         | Kind::QubitCoords(_)
         | Kind::ShiftCoords(_) => {
-            let step = step_at(kind, place)?;
+            let step = step_at(kind, position)?;
             Some(Steps::Single(step))
         }
     }

@@ -13,31 +13,31 @@ use crate::steps::{Steps, part, steps_from};
 use stab_instructions::Kind;
 use std::alloc::{AllocError, Global};
 
-/// A place in a list of items, and how many rounds of the list come after this one.
+/// A position in a list of items, and how many rounds of the list come after this one.
 #[derive(Clone, Copy)]
 pub struct Level<'a> {
     items: &'a [Item],
-    place: usize,
+    position: usize,
     rounds: u64,
 }
 
 impl<'a> Level<'a> {
     ghost use Rattle.stab_items.specs.inner.Walks.{IsItemOf};
 
-    /// The item at the place, unless the place is past the list.
+    /// The item at the position, unless that is past the list.
     fn item(self) -> Option<&'a Item>
         ensures value { IsItemOf self.entry result }
     {
-        self.items.get(self.place)
+        self.items.get(self.position)
     }
 }
 
-/// A place within nested blocks.
+/// A position within nested blocks.
 pub struct Walk<'a> {
     // The instruction that is under way, and how many of its steps were given.
     kind: Option<&'a Kind>,
     within: usize,
-    // The innermost block, apart from those around it, so that the common step leaves these alone.
+    // The innermost block. It isn't kept with those around it, so that the common step leaves these alone.
     top: Level<'a>,
     // The outermost list first.
     around: Vec<Level<'a>>,
@@ -62,12 +62,12 @@ impl<'a> Walk<'a> {
     ghost use Rattle.stab_items.specs.Cursors.{step_shown, lookbacks_of, steps_shown, HasDistinctQubits, HaveDistinctQubits};
     ghost use Rattle.stab_items.specs.inner.Walks.{kind_steps, ahead, walk_left, walk_weight, weight_at, IsItemOf, IsWalk, SameKind, Takes, GoesOn, Reaches};
 
-    /// A walk over items from a place on, with room for every level.
+    /// A walk over items from a position on, with room for every level.
     #[tactic(auto, using(crate::proofs::WalkLemmas::begun_at))]
-    pub fn new(alloc: Global, items: &'a [Item], place: usize) -> Result<Walk<'a>, AllocError>
+    pub fn new(alloc: Global, items: &'a [Item], position: usize) -> Result<Walk<'a>, AllocError>
         requires shallow { depth (listed items.now) ≤ 16 }
         ensures walks { IfOk result IsWalk }
-        ensures left { IfOk result (λ w. walk_left w ≡ unroll (listed (drop place items.now))) }
+        ensures left { IfOk result (λ w. walk_left w ≡ unroll (listed (drop position items.now))) }
         ensures none { IfOk result (λ w. w.kind ≡ None) }
     {
         let around = Vec::with_capacity(alloc, 16)?;
@@ -76,7 +76,7 @@ impl<'a> Walk<'a> {
             within: 0,
             top: Level {
                 items,
-                place,
+                position,
                 rounds: 0,
             },
             around,
@@ -95,7 +95,7 @@ impl<'a> Walk<'a> {
         self.within = 0;
         self.top = Level {
             items,
-            place: 0,
+            position: 0,
             rounds: 0,
         };
         self.around.clear();
@@ -114,7 +114,7 @@ impl<'a> Walk<'a> {
         Some(step)
     }
 
-    /// Goes past this item, which is at the place in the innermost block.
+    /// Goes past this item, which is at the position in the innermost block.
     fn take(&mut self, item: &'a Item)
         requires walks { IsWalk self.old }
         requires here { IsItemOf self.old.top (Some item) }
@@ -122,7 +122,7 @@ impl<'a> Walk<'a> {
         ensures same { SameKind self.old self.new }
         ensures taken { Takes self.old self.new item.now }
     {
-        self.top.place += 1;
+        self.top.position += 1;
     }
 
     /// Goes into a block, to the first of one round and this many more.
@@ -137,7 +137,7 @@ impl<'a> Walk<'a> {
         self.around.push_reserved(self.top);
         self.top = Level {
             items: body,
-            place: 0,
+            position: 0,
             rounds: more,
         };
     }
@@ -145,14 +145,14 @@ impl<'a> Walk<'a> {
     /// Goes to the next round of the innermost block, or out of it. False at the end of all.
     fn leave(&mut self) -> bool
         requires walks { IsWalk self.old }
-        requires done { length self.old.top.items.now ≤ self.old.top.place }
+        requires done { length self.old.top.items.now ≤ self.old.top.position }
         ensures walks { IsWalk self.new }
         ensures same { SameKind self.old self.new }
         ensures goes { GoesOn self.old self.new result }
     {
         if self.top.rounds > 0 {
             self.top.rounds -= 1;
-            self.top.place = 0;
+            self.top.position = 0;
             return true;
         }
         match self.around.pop() {
@@ -181,7 +181,7 @@ impl<'a> Walk<'a> {
         }
     }
 
-    /// Begins this item, which is at the place, after an instruction that has no more steps.
+    /// Begins this item, which is at the position, after an instruction that has no more steps.
     fn begin(&mut self, item: &'a Item)
         requires walks { IsWalk self.old }
         requires given { drop self.old.within (kind_steps self.old.kind) ≡ [] }
@@ -242,7 +242,7 @@ impl<'a> Walk<'a> {
         Some(steps)
     }
 
-    /// The detectors that are next in the innermost block, up to this many, unless this item, which is at the place, is none.
+    /// The detectors that are next in the innermost block, up to this many, unless this item, which is at the position, is none.
     fn detectors(&mut self, item: &'a Item, most: usize) -> Option<Detectors<'a>>
         requires walks { IsWalk self.old }
         requires some { 0 < most }
@@ -253,13 +253,13 @@ impl<'a> Walk<'a> {
         ensures none { IfNone result (self.new ≡ self.old) }
     {
         item.detector()?;
-        let ahead = part(self.top.items, self.top.place, most)?;
+        let ahead = part(self.top.items, self.top.position, most)?;
         let detectors = Detectors::at_front(ahead);
         let count = detectors.len();
         if count == 0 {
             return None;
         }
-        self.top.place += count;
+        self.top.position += count;
         Some(detectors)
     }
 

@@ -50,8 +50,8 @@ pub fn furthest_detector(least: u32, detectors: Detectors) -> u32
     ensures within { All (LooksWithin result) (map detector (lookbacks_of detectors.entry)) }
 {
     let mut window = least;
-    for place in 0..detectors.len() {
-        window = greatest(window, detectors.get(place));
+    for position in 0..detectors.len() {
+        window = greatest(window, detectors.get(position));
     }
     window
 }

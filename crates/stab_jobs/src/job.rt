@@ -24,7 +24,7 @@ pub enum ErrorLetters {
 /// Of which errors the distance of a circuit is asked for, and how far.
 #[derive(Clone, Copy, Debug, PartialEq, Eq)]
 pub struct DistanceOptions {
-    /// Errors everywhere, and not at the places that the circuit marks.
+    /// Errors everywhere, and not at the sites that the circuit marks.
     pub everywhere: bool,
     /// Of which letters they are made.
     pub letters: ErrorLetters,
@@ -95,7 +95,7 @@ pub enum Command {
     Deterministic {
         format: Format,
     },
-    /// Writes which detectors and observables each fault flips, at the places that the circuit marks
+    /// Writes which detectors and observables each fault flips, at the sites that the circuit marks
     /// or `everywhere`. A circuit in which one is not the same for all random bits is refused, unless
     /// `deterministic_only` leaves such bits out.
     Faults {
@@ -138,11 +138,11 @@ pub struct Job {
     pub command: Command,
     /// Where its coins come from.
     pub source: Source,
-    /// The file that its coins are read from, in place of a word.
+    /// The file that its coins are read from, instead of a word.
     pub coins_path: Option<String>,
-    /// The file that is read in place of standard input.
+    /// The file that is read instead of standard input.
     pub in_path: Option<String>,
-    /// The file that is written in place of standard output.
+    /// The file that is written instead of standard output.
     pub out_path: Option<String>,
     /// The place at which `Propagate` puts a string in, or no text.
     pub at: String,

@@ -19,4 +19,3 @@ pub use job::{
     Command, DistanceOptions, ErrorLetters, FaultLayout, Job, Question, SearchedLayout, Source,
 };
 pub use numbers::{QubitCount, Shots, Stride};
-pub use stab_search::SearchPart;

@@ -1,7 +1,7 @@
 -- One block multiplied by another, of the same slice of words or of its own.
 use Rattle.stab_pauli.proofs.Names.{◌≡◌, ℕ, ◌+◌, ◌*◌, ◌<◌, ◌≤◌, refl, sym, ◌∙◌, ap, List, ◌++◌, length, get_or, take, drop, inl, inr, arith, bit_xor, bit_and, zip2, chunk, put_chunk, mul-le-mul_left, take-append_seam, drop-append_seam, ext_get_or, take_all, get_or-zip2, length-zip2, length-chunk, get_or-chunk, length-put_chunk, get_or-put_chunk_below, get_or-put_chunk_at, get_or-put_chunk_above, Zero, phase_of_sign, words_odd, xor_words, strings_meet, row_letters, phase_of_sign-injective}
 use Rattle.stab_pauli.proofs.PackedLemmas.{packed_meet}
-use Rattle.stab_pauli.proofs.SwapLemmas.{Place, place}
+use Rattle.stab_pauli.proofs.SwapLemmas.{Place, position}
 use Rattle.stab_pauli.proofs.RowLemmas.{AddsUp-meet, IsPhaseBefore-more, IsPhaseBefore-all}
 
 -- a part of a part
@@ -85,25 +85,25 @@ module _ (a b s : ℕ) (ws others : List ℕ) (la : a + (s + s) ≤ length ws) (
   unfolding half
   half_size = length-put_chunk a ws first
 
-  by_place : (k : ℕ) → Place a s k → Place (a + s) s k → get_or (put_chunk (a + s) half second) k 0 ≡ get_or (put_chunk a ws whole) k 0
+  by_position : (k : ℕ) → Place a s k → Place (a + s) s k → get_or (put_chunk (a + s) half second) k 0 ≡ get_or (put_chunk a ws whole) k 0
   unfolding half
-  by_place k (inr (j, lt, e)) p = rw e
+  by_position k (inr (j, lt, e)) p = rw e
       (get_or-put_chunk_below (a + s) half second (a + j) 0 (omega arith)
       ∙ get_or-put_chunk_at a ws first j 0 (rw first_size lt) (rw first_size (omega arith))
       ∙ in_first j lt
       ∙ sym (get_or-put_chunk_at a ws whole j 0 (omega (arith, whole_size)) (omega (arith, whole_size))))
-  by_place k (inl p) (inr (j, lt, e)) =
+  by_position k (inl p) (inr (j, lt, e)) =
       let f : a + s + j ≡ a + (s + j) = omega arith in
       rw e
       (get_or-put_chunk_at (a + s) half second j 0 (rw second_size lt) (omega (arith, second_size, half_size))
       ∙ in_second j lt
       ∙ sym (get_or-put_chunk_at a ws whole (s + j) 0 (omega (arith, whole_size)) (omega (arith, whole_size)))
       ∙ ap (λ n. get_or (put_chunk a ws whole) n 0) (sym f))
-  by_place k (inl (inl lt)) (inl q) =
+  by_position k (inl (inl lt)) (inl q) =
       get_or-put_chunk_below (a + s) half second k 0 (omega arith) ∙ get_or-put_chunk_below a ws first k 0 lt
       ∙ sym (get_or-put_chunk_below a ws whole k 0 lt)
-  by_place k (inl (inr le)) (inl (inl lt)) = absurd (omega arith)
-  by_place k (inl (inr le)) (inl (inr more)) =
+  by_position k (inl (inr le)) (inl (inl lt)) = absurd (omega arith)
+  by_position k (inl (inr le)) (inl (inr more)) =
       get_or-put_chunk_above (a + s) half second k 0 (omega (arith, second_size)) ∙ get_or-put_chunk_above a ws first k 0 (omega (arith, first_size))
       ∙ sym (get_or-put_chunk_above a ws whole k 0 (omega (arith, whole_size)))
 
@@ -113,7 +113,7 @@ module _ (a b s : ℕ) (ws others : List ℕ) (la : a + (s + s) ≤ length ws) (
   product-halves =
       ext_get_or 0 (put_chunk (a + s) half second) (put_chunk a ws whole)
       (length-put_chunk (a + s) half second ∙ half_size ∙ sym (length-put_chunk a ws whole))
-      (λ k lt. by_place k (place a s k) (place (a + s) s k))
+      (λ k lt. by_position k (position a s k) (position (a + s) s k))
 
 -- whether the Z bits of a block meet the X bits of another
 pub block-meet : (a b : ℕ) (ws others x z other_x other_z : List ℕ) → a + 8 ≤ length ws → b + 8 ≤ length others

@@ -44,37 +44,37 @@ module _ (first mask : ℕ) (change : Bool → Signed → Signed) (old : Rows) w
         ∙ (λ i. change (sym (walked.among k lk one) i) (walked.left k lk one i))
 
     among-next : (j : ℕ) → j < 64 → chooses next j ≡ true → chooses mask j ≡ true
-    among-next j lj chosen = by_place (cases_order j k)
+    among-next j lj chosen = by_position (cases_order j k)
       where
         distinct : j ≢ k → chooses mask j ≡ true
         distinct ne = walked.among j lj (sym (kept j ne lj) ∙ chosen)
 
-        by_place : (j ≡ k) ⊎ ((j < k) ⊎ (k < j)) → chooses mask j ≡ true
-        by_place (inl e) = ap (chooses mask) e ∙ walked.among k lk one
-        by_place (inr (inl lt)) = distinct (omega arith)
-        by_place (inr (inr gt)) = distinct (omega arith)
+        by_position : (j ≡ k) ⊎ ((j < k) ⊎ (k < j)) → chooses mask j ≡ true
+        by_position (inl e) = ap (chooses mask) e ∙ walked.among k lk one
+        by_position (inr (inl lt)) = distinct (omega arith)
+        by_position (inr (inr gt)) = distinct (omega arith)
 
     done-next : (j : ℕ) → j < 64 → chooses next j ≡ false → row_at new (first + j) ≡ change (chooses mask j) (row_at old (first + j))
-    done-next j lj none = by_place (cases_order j k)
+    done-next j lj none = by_position (cases_order j k)
       where
         distinct : j ≢ k → row_at new (first + j) ≡ change (chooses mask j) (row_at old (first + j))
         distinct ne = other (first + j) (omega arith) ∙ walked.done j lj (sym (kept j ne lj) ∙ none)
 
-        by_place : (j ≡ k) ⊎ ((j < k) ⊎ (k < j)) → row_at new (first + j) ≡ change (chooses mask j) (row_at old (first + j))
-        by_place (inl e) = subst (λ i. row_at new (first + i) ≡ change (chooses mask i) (row_at old (first + i))) (sym e) here
-        by_place (inr (inl lt)) = distinct (omega arith)
-        by_place (inr (inr gt)) = distinct (omega arith)
+        by_position : (j ≡ k) ⊎ ((j < k) ⊎ (k < j)) → row_at new (first + j) ≡ change (chooses mask j) (row_at old (first + j))
+        by_position (inl e) = subst (λ i. row_at new (first + i) ≡ change (chooses mask i) (row_at old (first + i))) (sym e) here
+        by_position (inr (inl lt)) = distinct (omega arith)
+        by_position (inr (inr gt)) = distinct (omega arith)
 
     left-next : (j : ℕ) → j < 64 → chooses next j ≡ true → row_at new (first + j) ≡ row_at old (first + j)
-    left-next j lj chosen = by_place (cases_order j k)
+    left-next j lj chosen = by_position (cases_order j k)
       where
         distinct : j ≢ k → row_at new (first + j) ≡ row_at old (first + j)
         distinct ne = other (first + j) (omega arith) ∙ walked.left j lj (sym (kept j ne lj) ∙ chosen)
 
-        by_place : (j ≡ k) ⊎ ((j < k) ⊎ (k < j)) → row_at new (first + j) ≡ row_at old (first + j)
-        by_place (inl e) = clash (chooses next k) (ap (chooses next) (sym e) ∙ chosen) gone
-        by_place (inr (inl lt)) = distinct (omega arith)
-        by_place (inr (inr gt)) = distinct (omega arith)
+        by_position : (j ≡ k) ⊎ ((j < k) ⊎ (k < j)) → row_at new (first + j) ≡ row_at old (first + j)
+        by_position (inl e) = clash (chooses next k) (ap (chooses next) (sym e) ∙ chosen) gone
+        by_position (inr (inl lt)) = distinct (omega arith)
+        by_position (inr (inr gt)) = distinct (omega arith)
 
     others-next : (a : ℕ) → (a < first) ⊎ (first + 64 ≤ a) → row_at new a ≡ row_at old a
     others-next a (inl lt) = other a (omega arith) ∙ walked.others a (inl lt)
@@ -92,7 +92,7 @@ module _ (first mask : ℕ) (change : Bool → Signed → Signed) (old : Rows) w
 
 -- no letter of a row that is not there has an X part
 pub past-rows : (v : Rows) (a q : ℕ) → length v.rows ≤ a → has_x (get_or (row_at v a).letters q I) ≡ false
-past-rows v a q le = ap (λ (p : Signed). has_x (get_or p.letters q I)) (get_or_past v.rows a (identity v.qubits) le) ∙ ap has_x (by_place (cases_order q v.qubits))
+past-rows v a q le = ap (λ (p : Signed). has_x (get_or p.letters q I)) (get_or_past v.rows a (identity v.qubits) le) ∙ ap has_x (by_position (cases_order q v.qubits))
   where
     blank : q < v.qubits → get_or (identity v.qubits).letters q I ≡ I
     blank lt = get_or-replicate v.qubits q I I lt
@@ -100,25 +100,25 @@ past-rows v a q le = ap (λ (p : Signed). has_x (get_or p.letters q I)) (get_or_
     past : v.qubits ≤ q → get_or (identity v.qubits).letters q I ≡ I
     past beyond = get_or_past (identity v.qubits).letters q I (let l = length-replicate v.qubits I in omega arith)
 
-    by_place : (q ≡ v.qubits) ⊎ ((q < v.qubits) ⊎ (v.qubits < q)) → get_or (identity v.qubits).letters q I ≡ I
-    by_place (inl e) = past (omega arith)
-    by_place (inr (inl lt)) = blank lt
-    by_place (inr (inr gt)) = past (omega arith)
+    by_position : (q ≡ v.qubits) ⊎ ((q < v.qubits) ⊎ (v.qubits < q)) → get_or (identity v.qubits).letters q I ≡ I
+    by_position (inl e) = past (omega arith)
+    by_position (inr (inl lt)) = blank lt
+    by_position (inr (inr gt)) = past (omega arith)
 
 -- which of 64 rows have X or Y at a qubit, and where any has them, if only those before an end are looked at: there are no others
 module _ (v : Rows) (first end q : ℕ) (last : (k : ℕ) → k < 64 → end ≤ first + k → length v.rows ≤ first + k) where
   pub mask-with_x : (mask : ℕ) → mask < 2 ^ (end - first) → ((k : ℕ) → first + k < end → chooses mask k ≡ has_x (get_or (row_at v (first + k)).letters q I))
       → (k : ℕ) → k < 64 → chooses mask k ≡ has_x (get_or (row_at v (first + k)).letters q I)
-  mask-with_x mask short value k lk = by_place (cases_lt (first + k) end)
+  mask-with_x mask short value k lk = by_position (cases_lt (first + k) end)
     where
-      by_place : (first + k < end) ⊎ (end ≤ first + k) → chooses mask k ≡ has_x (get_or (row_at v (first + k)).letters q I)
-      by_place (inl lt) = value k lt
-      by_place (inr le) = unchosen-above mask (end - first) k short (omega arith) ∙ sym (past-rows v (first + k) q (last k lk le))
+      by_position : (first + k < end) ⊎ (end ≤ first + k) → chooses mask k ≡ has_x (get_or (row_at v (first + k)).letters q I)
+      by_position (inl lt) = value k lt
+      by_position (inr le) = unchosen-above mask (end - first) k short (omega arith) ∙ sym (past-rows v (first + k) q (last k lk le))
 
-  pub places-with_x : (places : ℕ) → ((k j : ℕ) → first + k < end → j < 64 → has_x (get_or (row_at v (first + k)).letters (64 * (q / 64) + j) I) ≡ true → chooses places j ≡ true)
-      → (k j : ℕ) → k < 64 → j < 64 → has_x (get_or (row_at v (first + k)).letters (64 * (q / 64) + j) I) ≡ true → chooses places j ≡ true
-  places-with_x places among k j lk lj one = by_place (cases_lt (first + k) end)
+  pub positions-with_x : (positions : ℕ) → ((k j : ℕ) → first + k < end → j < 64 → has_x (get_or (row_at v (first + k)).letters (64 * (q / 64) + j) I) ≡ true → chooses positions j ≡ true)
+      → (k j : ℕ) → k < 64 → j < 64 → has_x (get_or (row_at v (first + k)).letters (64 * (q / 64) + j) I) ≡ true → chooses positions j ≡ true
+  positions-with_x positions among k j lk lj one = by_position (cases_lt (first + k) end)
     where
-      by_place : (first + k < end) ⊎ (end ≤ first + k) → chooses places j ≡ true
-      by_place (inl lt) = among k j lt lj one
-      by_place (inr le) = clash (has_x (get_or (row_at v (first + k)).letters (64 * (q / 64) + j) I)) one (past-rows v (first + k) (64 * (q / 64) + j) (last k lk le))
+      by_position : (first + k < end) ⊎ (end ≤ first + k) → chooses positions j ≡ true
+      by_position (inl lt) = among k j lt lj one
+      by_position (inr le) = clash (has_x (get_or (row_at v (first + k)).letters (64 * (q / 64) + j) I)) one (past-rows v (first + k) (64 * (q / 64) + j) (last k lk le))

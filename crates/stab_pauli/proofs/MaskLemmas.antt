@@ -116,11 +116,11 @@ grown f a end mask more b some here front others value (suc k) lt =
 pub grown-eight : (f : ℕ → Bool) (a end mask more eight : ℕ) → 8 ≤ a → ((k : ℕ) → k < 8 → chooses eight k ≡ f (a - 8 + k))
     → ((k : ℕ) → k < 8 → chooses more k ≡ chooses eight k) → ((k : ℕ) → chooses more (k + 8) ≡ chooses mask k)
     → ((k : ℕ) → a + k < end → chooses mask k ≡ f (a + k)) → (k : ℕ) → a - 8 + k < end → chooses more k ≡ f (a - 8 + k)
-grown-eight f a end mask more eight some here front others value k lt = by_place (cases_lt k 8)
+grown-eight f a end mask more eight some here front others value k lt = by_position (cases_lt k 8)
   where
-    by_place : (k < 8) ⊎ (8 ≤ k) → chooses more k ≡ f (a - 8 + k)
-    by_place (inl early) = front k early ∙ here k early
-    by_place (inr late) =
+    by_position : (k < 8) ⊎ (8 ≤ k) → chooses more k ≡ f (a - 8 + k)
+    by_position (inl early) = front k early ∙ here k early
+    by_position (inr late) =
         ap (chooses more) (let e : k ≡ k - 8 + 8 = omega arith in e) ∙ others (k - 8) ∙ value (k - 8) (omega arith)
         ∙ ap f (let e : a + (k - 8) ≡ a - 8 + k = omega arith in e)
 

@@ -4,7 +4,7 @@ use Rattle.std.specs.Prelude.{◌-◌}
 use Rattle.stab_pauli.proofs.BitLemmas.{two_cases}
 use Rattle.stab_pauli.proofs.MaskLemmas.{clash}
 use Rattle.stab_pauli.proofs.BlankLemmas.{fits}
-use Rattle.stab_pauli.proofs.PlaceLemmas.{x_place, bits_letter, letter_at_place}
+use Rattle.stab_pauli.proofs.PlaceLemmas.{x_position, bits_letter, letter_at_position}
 use Rattle.stab_pauli.proofs.XPartLemmas.{before, blank_after}
 
 -- bits of a word after the first s
@@ -21,7 +21,7 @@ no_bit word s rest e none k le lt = moved_back word s k le ∙ ap (λ w. bit_at 
 pub next_bit-found : (word s rest : ℕ) → rest ≡ word / 2 ^ s → word < 2 ^ 64 → 0 < rest → rest < 2 ^ 64 → IsNextBit s word (s + trailing_zeros w64 rest)
 next_bit-found word s rest e small pos fits = record {
   from_there = omega arith;
-  in_range = by_place (before (s + trailing_zeros w64 rest) 64);
+  in_range = by_position (before (s + trailing_zeros w64 rest) 64);
   blank = λ j le lt. moved_back word s j le ∙ ap (λ w. bit_at w (j - s)) (sym e) ∙ found.2 (j - s) (omega arith);
   is_one = one;
 }
@@ -32,9 +32,9 @@ next_bit-found word s rest e small pos fits = record {
     one : bit_at word (s + trailing_zeros w64 rest) ≡ 1
     one = sym (bit_after word s (trailing_zeros w64 rest)) ∙ ap (λ w. bit_at w (trailing_zeros w64 rest)) (sym e) ∙ found.1
 
-    by_place : (s + trailing_zeros w64 rest < 64) ⊎ (64 ≤ s + trailing_zeros w64 rest) → s + trailing_zeros w64 rest < 64
-    by_place (inl lt) = lt
-    by_place (inr le) = absurd (let zero_there = bit_at_above word 64 (s + trailing_zeros w64 rest) small le in omega (arith, one, zero_there))
+    by_position : (s + trailing_zeros w64 rest < 64) ⊎ (64 ≤ s + trailing_zeros w64 rest) → s + trailing_zeros w64 rest < 64
+    by_position (inl lt) = lt
+    by_position (inr le) = absurd (let zero_there = bit_at_above word 64 (s + trailing_zeros w64 rest) small le in omega (arith, one, zero_there))
 
 -- letters of a word
 
@@ -68,15 +68,15 @@ letter_there x z bit one e = by_bits (two_cases (bit_at x bit) (bit_at-lt x bit)
 module _ (m : ℕ) (row : List ℕ) (from w at start : ℕ) (size : length row ≡ 8 * m) (lt : w < 4 * m) (ea : at ≡ 8 * (w / 4) + w % 4) (es : start ≡ from - 64 * w)
     (h : IsBlankFrom from (64 * w) (row_letters m row)) where
   letter_is : (j : ℕ) → 64 * w ≤ j → j < 64 * (w + 1) → get_or (row_letters m row) j I ≡ bits_letter (get_or row at 0) (get_or row (at + 4) 0) (j % 64)
-  letter_is j le lj = letter_at_place m row j at size (omega arith) (let here : at ≡ x_place j = omega arith in here)
+  letter_is j le lj = letter_at_position m row j at size (omega arith) (let here : at ≡ x_position j = omega arith in here)
 
   blank_to : (b : ℕ) → b ≤ 64 → ((k : ℕ) → start ≤ k → k < b → bit_at (bit_or (get_or row at 0) (get_or row (at + 4) 0)) k ≡ 0)
       → IsBlankFrom from (64 * w + b) (row_letters m row)
-  blank_to b lb none j le lj = by_place (before j (64 * w))
+  blank_to b lb none j le lj = by_position (before j (64 * w))
     where
-      by_place : (j < 64 * w) ⊎ (64 * w ≤ j) → get_or (row_letters m row) j I ≡ I
-      by_place (inl early) = h j le early
-      by_place (inr late) =
+      by_position : (j < 64 * w) ⊎ (64 * w ≤ j) → get_or (row_letters m row) j I ≡ I
+      by_position (inl early) = h j le early
+      by_position (inr late) =
           letter_is j late (omega arith) ∙ blank_letter (get_or row at 0) (get_or row (at + 4) 0) (j % 64) (none (j % 64) (omega arith) (omega arith))
 
   pub blank_word : ((k : ℕ) → start ≤ k → k < 64 → bit_at (bit_or (get_or row at 0) (get_or row (at + 4) 0)) k ≡ 0) → IsBlankFrom from (64 * (w + 1)) (row_letters m row)
@@ -99,7 +99,7 @@ module _ (m : ℕ) (row : List ℕ) (from w at start : ℕ) (size : length row �
 module _ (n m from : ℕ) (ws : List ℕ) (is : IsRow n m ws) where
   pub next_inside : (k : ℕ) → IsNextLetter from (256 * m) (row_letters m ws) k → IsNextLetter from n (take n (row_letters m ws)) k
   next_inside k next =
-      let lt : k < n = by_place (before k n) in
+      let lt : k < n = by_position (before k n) in
       record {
         from_there = next.from_there;
         in_range = lt;
@@ -107,9 +107,9 @@ module _ (n m from : ℕ) (ws : List ℕ) (is : IsRow n m ws) where
         here = λ e. next.here (sym (get_or-take n (row_letters m ws) k I lt) ∙ e);
       }
     where
-      by_place : (k < n) ⊎ (n ≤ k) → k < n
-      by_place (inl lt) = lt
-      by_place (inr le) = absurd (next.here (blank_after n m ws k is le))
+      by_position : (k < n) ⊎ (n ≤ k) → k < n
+      by_position (inl lt) = lt
+      by_position (inr le) = absurd (next.here (blank_after n m ws k is le))
 
   pub blank_inside : IsBlankFrom from (256 * m) (row_letters m ws) → IsBlankFrom from n (take n (row_letters m ws))
   blank_inside h j le lj = let f = fits n m is.blocks in get_or-take n (row_letters m ws) j I lj ∙ h j le (omega arith)

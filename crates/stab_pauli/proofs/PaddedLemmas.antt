@@ -68,8 +68,8 @@ pub alike : {n m : ℕ} {ws : List ℕ} {k : Phase} {v : Signed} {n' m' : ℕ} {
     → IsView n m ws k v → IsView n' m' ws' k' v' → length v.letters ≡ length v'.letters → IsFitting n m n' m' ws' k' v'
 alike mine theirs l = fitting_numbers mine.row.blocks (sym (length-view mine) ∙ l ∙ length-view theirs) theirs
 
-pub place_in_row : {n m : ℕ} {ws : List ℕ} {k : Phase} {v : Signed} → IsView n m ws k v → (q : ℕ) → q < length v.letters → q < 256 * m
-place_in_row {n} {m} view q lt =
+pub position_in_row : {n m : ℕ} {ws : List ℕ} {k : Phase} {v : Signed} → IsView n m ws k v → (q : ℕ) → q < length v.letters → q < 256 * m
+position_in_row {n} {m} view q lt =
     let f = fits n m view.row.blocks in
     let l = length-view view in
     omega arith

@@ -26,13 +26,13 @@ qubits_seen seen = ap (λ (r : Rows). r.qubits) seen.is
 pub in_seen : {n m : ℕ} {ws : List ℕ} {ps : List Phase} {v : Rows} → IsSeen n m ws ps v → (a : ℕ) → a < length v.rows → a < length ps
 in_seen seen a lt = subst (λ k. a < k) (rows_seen seen) lt
 
-pub place_seen : {n m : ℕ} {ws : List ℕ} {ps : List Phase} {v : Rows} → IsSeen n m ws ps v → (q : ℕ) → q < v.qubits → q < 256 * m
-place_seen {n} {m} seen q lt =
+pub position_seen : {n m : ℕ} {ws : List ℕ} {ps : List Phase} {v : Rows} → IsSeen n m ws ps v → (q : ℕ) → q < v.qubits → q < 256 * m
+position_seen {n} {m} seen q lt =
     let f = fits n m seen.lies.blocks in
     let e = qubits_seen seen in
     omega arith
 
--- a place among the words and powers, by their counted number
+-- a position among the words and powers, by their counted number
 pub counted_seen : {n m : ℕ} {ws : List ℕ} {ps : List Phase} {v : Rows} → IsSeen n m ws ps v → (a len : ℕ) → a < length v.rows → len ≡ length ps → a < len
 counted_seen seen a len lt e = subst (λ k. a < k) (rows_seen seen ∙ sym e) lt
 
@@ -56,7 +56,7 @@ letter_seen {n} {m} {ws} seen a q lt e es =
     ∙ sym (string-letter n m (chunk (8 * m * a) (8 * m) ws) mine.row q)
     ∙ ap (λ p. get_or p q I) mine.letters
 
--- another row in the place of one
+-- another row instead of one
 pub put_seen : {n m : ℕ} {ws : List ℕ} {ps : List Phase} {v : Rows} {new : List ℕ} {k : Phase} {p : Signed} → IsSeen n m ws ps v → (a : ℕ) → a < length ps
     → IsView n m new k p → IsSeen n m (put_chunk (8 * m * a) ws new) (set ps a k) (with_row v a p)
 put_seen {n} {m} {ws} {ps} {v} {new} {k} seen a lt view = record {
@@ -69,7 +69,7 @@ pub written_seen : {n m : ℕ} {ps : List Phase} {v : Rows} (ws words new : List
     → IsSeen n m (put_chunk k ws new) ps v → IsSeen n m (take len (words ++ drop (length words) ws)) ps v
 written_seen {n} {m} {ps} {v} ws words new k len e l seen = subst (λ w. IsSeen n m w ps v) (sym (written ws words new k len e l)) seen
 
--- the same words in their place
+-- the same words instead of these
 pub kept_words : {n m : ℕ} {ws : List ℕ} {ps : List Phase} {v : Rows} (k s : ℕ) → k + s ≤ length ws → IsSeen n m (put_chunk k ws (chunk k s ws)) ps v → IsSeen n m ws ps v
 kept_words {n} {m} {ws} {ps} {v} k s le seen = subst (λ w. IsSeen n m w ps v) (put_same k s ws le) seen
 
@@ -191,7 +191,7 @@ both_seen {n} {m} {ws} {ps} {v} {n'} {m'} {ws'} {ps'} {v'} mine theirs eq er = r
     es : length ps ≡ length ps'
     es = sym (rows_seen mine) ∙ er ∙ rows_seen theirs
 
--- rows that have changed places
+-- rows that were exchanged
 
 pub swapped_seen : {n m : ℕ} {ws : List ℕ} {ps : List Phase} {v : Rows} → IsSeen n m ws ps v → (a b : ℕ) → a < length ps → b < length ps
     → IsSeen n m (swapped_words (8 * m * a) (8 * m * b) (8 * m) ws) (set (set ps a (get_or ps b Zero)) b (get_or ps a Zero)) (swapped_rows v a b)

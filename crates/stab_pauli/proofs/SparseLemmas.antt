@@ -39,13 +39,13 @@ room-from gs ks b k at g w size e lt eg ew room =
     ap length (spread-from gs ks b k g w e lt eg ew) ∙ length-from g w (spread (drop (k + 1) gs) (drop (k + 1) ks) b) in
     omega (arith, l, room)
 
--- written over words 0, from a place on
+-- written over words 0, from a position on
 abbrev pub written : List ℕ → List ℕ → ℕ → List ℕ → List ℕ
 written [] ks at words = words
 written (g ∷ gs) [] at words = words
 written (g ∷ gs) (w ∷ ks) at words = written gs ks (at + g + 1) (set words (at + g) w)
 
--- this many are written, up to a place
+-- this many are written, up to a position
 pub record IsWriting (gs ks : List ℕ) (b : ℕ) (k at : ℕ) (initial words : List ℕ) : Type 0 where
   pub writes : written (drop k gs) (drop k ks) at words ≡ written gs ks 0 initial
   pub room : at + length (spread (drop k gs) (drop k ks) b) ≡ length words

@@ -140,7 +140,7 @@ words_odd-none k zero = refl
 words_odd-none k (suc n) = λ i. word_odd-none k i ⊕ words_odd-none k n i
 
 -- the blocks of p are multiplied by those of q except those that are left in the rest of the mask, and whether the bits of these
--- others met at an odd number of places
+-- others met at an odd number of positions
 pub record IsTimesBut (m rest : ℕ) (p q : List ℕ) (odd : Bool) (now : List ℕ) : Type 0 where
   pub size : length now ≡ length p
   pub within : (b : ℕ) → b < 64 → chooses rest b ≡ true → b < m
@@ -186,25 +186,25 @@ module _ (m : ℕ) (p q : List ℕ) (lp : length p ≡ 8 * m) (lq : length q ≡
     there b lb ne = ap (chunk (8 * b) 8) made ∙ block-other k b now product product_size (let s = walked.size in omega arith) ne
 
     within-next : (b : ℕ) → b < 64 → chooses next b ≡ true → b < m
-    within-next b lb chosen = by_place (same_or_not b k)
+    within-next b lb chosen = by_position (same_or_not b k)
       where
-        by_place : (b ≡ k) ⊎ (b ≢ k) → b < m
-        by_place (inl e) = let l = in_row in omega arith
-        by_place (inr ne) = walked.within b lb (sym (others b ne lb) ∙ chosen)
+        by_position : (b ≡ k) ⊎ (b ≢ k) → b < m
+        by_position (inl e) = let l = in_row in omega arith
+        by_position (inr ne) = walked.within b lb (sym (others b ne lb) ∙ chosen)
 
     done-next : (b : ℕ) → b < m → chooses next b ≡ false → chunk (8 * b) 8 new ≡ xor_words (chunk (8 * b) 8 p) (chunk (8 * b) 8 q)
-    done-next b lb none = by_place (same_or_not b k)
+    done-next b lb none = by_position (same_or_not b k)
       where
-        by_place : (b ≡ k) ⊎ (b ≢ k) → chunk (8 * b) 8 new ≡ xor_words (chunk (8 * b) 8 p) (chunk (8 * b) 8 q)
-        by_place (inl e) = subst (λ j. chunk (8 * j) 8 new ≡ xor_words (chunk (8 * j) 8 p) (chunk (8 * j) 8 q)) (sym e) here
-        by_place (inr ne) = there b lb ne ∙ walked.done b lb (sym (others b ne (omega arith)) ∙ none)
+        by_position : (b ≡ k) ⊎ (b ≢ k) → chunk (8 * b) 8 new ≡ xor_words (chunk (8 * b) 8 p) (chunk (8 * b) 8 q)
+        by_position (inl e) = subst (λ j. chunk (8 * j) 8 new ≡ xor_words (chunk (8 * j) 8 p) (chunk (8 * j) 8 q)) (sym e) here
+        by_position (inr ne) = there b lb ne ∙ walked.done b lb (sym (others b ne (omega arith)) ∙ none)
 
     left-next : (b : ℕ) → b < m → chooses next b ≡ true → chunk (8 * b) 8 new ≡ chunk (8 * b) 8 p
-    left-next b lb chosen = by_place (same_or_not b k)
+    left-next b lb chosen = by_position (same_or_not b k)
       where
-        by_place : (b ≡ k) ⊎ (b ≢ k) → chunk (8 * b) 8 new ≡ chunk (8 * b) 8 p
-        by_place (inl e) = clash (chooses next k) (ap (chooses next) (sym e) ∙ chosen) gone
-        by_place (inr ne) = there b lb ne ∙ walked.left b lb (sym (others b ne (omega arith)) ∙ chosen)
+        by_position : (b ≡ k) ⊎ (b ≢ k) → chunk (8 * b) 8 new ≡ chunk (8 * b) 8 p
+        by_position (inl e) = clash (chooses next k) (ap (chooses next) (sym e) ∙ chosen) gone
+        by_position (inr ne) = there b lb ne ∙ walked.left b lb (sym (others b ne (omega arith)) ∙ chosen)
 
     among : ℕ → ℕ → Bool
     among mask b = where_chosen (chooses mask b) (block_meets p q b)

@@ -1,12 +1,12 @@
--- Parts of a slice of words that change places.
+-- Parts of a slice of words that are exchanged.
 use Rattle.stab_pauli.proofs.Names.{◌≡◌, ℕ, ◌+◌, ◌-◌, ◌<◌, ◌≤◌, sym, ◌∙◌, ap, List, length, get_or, arith, inl, inr, ◌⊎◌, chunk, put_chunk, ext_get_or, cases_order, length-chunk, get_or-chunk, length-put_chunk, get_or-put_chunk_below, get_or-put_chunk_at, get_or-put_chunk_above, swapped_words}
 
 -- before a part, in it, or after it
 abbrev pub Place : ℕ → ℕ → ℕ → Type 0
 Place a s i = ((i < a) ⊎ (a + s ≤ i)) ⊎ ((j : ℕ) × (j < s) × (i ≡ a + j))
 
-pub place : (a s i : ℕ) → Place a s i
-place a s i = by_front (cases_order i a)
+pub position : (a s i : ℕ) → Place a s i
+position a s i = by_front (cases_order i a)
   where
     inside : a ≤ i → (i ≡ a + s) ⊎ ((i < a + s) ⊎ (a + s < i)) → Place a s i
     inside le (inl e) = inl (inr (omega arith))
@@ -56,7 +56,7 @@ pub swapped-more : (a b k m : ℕ) (ws : List ℕ) → a + (k + m) ≤ length ws
 swapped-more a b k m ws la lb h =
     ext_get_or 0 (swapped_words (a + k) (b + k) m now) (swapped_words a b (k + m) ws)
     (length-swapped (a + k) (b + k) m now ∙ ln ∙ sym (length-swapped a b (k + m) ws))
-    (λ i lt. at i (place a k i) (place b k i) (place (a + k) m i) (place (b + k) m i))
+    (λ i lt. at i (position a k i) (position b k i) (position (a + k) m i) (position (b + k) m i))
   where
     now : List ℕ
     now = swapped_words a b k ws

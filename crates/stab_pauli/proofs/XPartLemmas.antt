@@ -4,9 +4,9 @@ use Rattle.stab_pauli.proofs.BlankLemmas.{fits}
 use Rattle.stab_pauli.proofs.RowLemmas.{length-row}
 use Rattle.stab_pauli.proofs.PaddedLemmas.{length-string}
 use Rattle.std.specs.Prelude.{replicate, ◌-◌}
-use Rattle.stab_pauli.proofs.PlaceLemmas.{x_place, has_x_at_place}
+use Rattle.stab_pauli.proofs.PlaceLemmas.{x_position, has_x_at_position}
 
--- a place before k, or at k or later
+-- a position before k, or at k or later
 pub before : (j k : ℕ) → (j < k) ⊎ (k ≤ j)
 before j k = by_order (cases_order j k)
   where
@@ -18,13 +18,13 @@ before j k = by_order (cases_order j k)
 -- the letters of a word of zeros have no X part
 pub still-word : (m : ℕ) (row : List ℕ) (w at : ℕ) → length row ≡ 8 * m → w < 4 * m → at ≡ 8 * (w / 4) + w % 4 → get_or row at 0 ≡ 0
     → HasNoXBefore (64 * w) (row_letters m row) → HasNoXBefore (64 * (w + 1)) (row_letters m row)
-still-word m row w at e lt ea none h = λ j lj. by_place j lj (before j (64 * w))
+still-word m row w at e lt ea none h = λ j lj. by_position j lj (before j (64 * w))
   where
-    by_place : (j : ℕ) → j < 64 * (w + 1) → (j < 64 * w) ⊎ (64 * w ≤ j) → has_x (get_or (row_letters m row) j I) ≡ false
-    by_place j lj (inl early) = h j early
-    by_place j lj (inr late) =
-        let here : at ≡ x_place j = omega arith in
-        has_x_at_place m row j at e (omega arith) here
+    by_position : (j : ℕ) → j < 64 * (w + 1) → (j < 64 * w) ⊎ (64 * w ≤ j) → has_x (get_or (row_letters m row) j I) ≡ false
+    by_position j lj (inl early) = h j early
+    by_position j lj (inr late) =
+        let here : at ≡ x_position j = omega arith in
+        has_x_at_position m row j at e (omega arith) here
         ∙ ap (λ n. eqb (bit_at n (j % 64)) 1) none ∙ ap (λ n. eqb n 1) (bit_at-zero (j % 64))
 
 -- nor do those of a block whose X words are zeros
@@ -57,21 +57,21 @@ first-has_x : (m : ℕ) (row : List ℕ) (w at : ℕ) → length row ≡ 8 * m �
     → has_x (get_or (row_letters m row) (64 * w + trailing_zeros w64 (get_or row at 0)) I) ≡ true
 first-has_x m row w at e lt ea pos small =
     let t = lowest_in_word (get_or row at 0) pos small in
-    let here : at ≡ x_place (64 * w + trailing_zeros w64 (get_or row at 0)) = omega arith in
+    let here : at ≡ x_position (64 * w + trailing_zeros w64 (get_or row at 0)) = omega arith in
     let bit : (64 * w + trailing_zeros w64 (get_or row at 0)) % 64 ≡ trailing_zeros w64 (get_or row at 0) = omega arith in
-    has_x_at_place m row (64 * w + trailing_zeros w64 (get_or row at 0)) at e (omega arith) here
+    has_x_at_position m row (64 * w + trailing_zeros w64 (get_or row at 0)) at e (omega arith) here
     ∙ ap (λ n. eqb (bit_at (get_or row at 0) n) 1) bit ∙ ap (λ n. eqb n 1) (bit_at-trailing_zeros w64 (get_or row at 0) pos small).1
 
 first-none : (m : ℕ) (row : List ℕ) (w at : ℕ) → length row ≡ 8 * m → w < 4 * m → at ≡ 8 * (w / 4) + w % 4 → 0 < get_or row at 0 → get_or row at 0 < 2 ^ 64
     → HasNoXBefore (64 * w) (row_letters m row) → HasNoXBefore (64 * w + trailing_zeros w64 (get_or row at 0)) (row_letters m row)
-first-none m row w at e lt ea pos small h = λ j lj. by_place j lj (before j (64 * w))
+first-none m row w at e lt ea pos small h = λ j lj. by_position j lj (before j (64 * w))
   where
-    by_place : (j : ℕ) → j < 64 * w + trailing_zeros w64 (get_or row at 0) → (j < 64 * w) ⊎ (64 * w ≤ j) → has_x (get_or (row_letters m row) j I) ≡ false
-    by_place j lj (inl early) = h j early
-    by_place j lj (inr late) =
+    by_position : (j : ℕ) → j < 64 * w + trailing_zeros w64 (get_or row at 0) → (j < 64 * w) ⊎ (64 * w ≤ j) → has_x (get_or (row_letters m row) j I) ≡ false
+    by_position j lj (inl early) = h j early
+    by_position j lj (inr late) =
         let t = lowest_in_word (get_or row at 0) pos small in
-        let here : at ≡ x_place j = omega arith in
-        has_x_at_place m row j at e (omega arith) here
+        let here : at ≡ x_position j = omega arith in
+        has_x_at_position m row j at e (omega arith) here
         ∙ ap (λ n. eqb n 1) ((bit_at-trailing_zeros w64 (get_or row at 0) pos small).2 (j % 64) (omega arith))
 
 pub first-found : (m : ℕ) (row : List ℕ) (w at : ℕ) → length row ≡ 8 * m → w < 4 * m → at ≡ 8 * (w / 4) + w % 4 → 0 < get_or row at 0 → get_or row at 0 < 2 ^ 64
@@ -82,7 +82,7 @@ first-found m row w at e lt ea pos small h = record {
   first = first-none m row w at e lt ea pos small h;
 }
 
--- by all letters before a place
+-- by all letters before a position
 
 pub any_none : (k : ℕ) (p : List Letter) → HasNoXBefore k p → k ≤ length p → list_any has_x (take k p) ≡ false
 any_none zero p h le = refl
@@ -118,11 +118,11 @@ blank_after n m ws k is h =
 
 -- a letter that is X or Y is no padding
 found_inside : (n m : ℕ) (ws : List ℕ) (k : ℕ) → IsRow n m ws → k < 256 * m → has_x (get_or (row_letters m ws) k I) ≡ true → k < n
-found_inside n m ws k is lt e = by_place (before k n)
+found_inside n m ws k is lt e = by_position (before k n)
   where
-    by_place : (k < n) ⊎ (n ≤ k) → k < n
-    by_place (inl h) = h
-    by_place (inr h) = absurd (no_x (ap has_x (sym (blank_after n m ws k is h)) ∙ e))
+    by_position : (k < n) ⊎ (n ≤ k) → k < n
+    by_position (inl h) = h
+    by_position (inr h) = absurd (no_x (ap has_x (sym (blank_after n m ws k is h)) ∙ e))
       where
         no_x : has_x I ≡ true → ⊥
         no_x q = cc

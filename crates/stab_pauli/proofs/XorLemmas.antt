@@ -14,7 +14,7 @@ pub IsXorBefore-block : (p q : List ℕ) (k m : ℕ) (now : List ℕ) → length
     → IsXorBefore p q k now → IsXorBefore p q (k + m) (put_chunk k now (zip2 bit_xor (chunk k m now) (chunk k m q)))
 IsXorBefore-block p q k m now same le is = record {
   size = length-put_chunk k now v ∙ is.size;
-  done = λ j h. by_place j h (place j);
+  done = λ j h. by_position j h (position j);
   rest = λ j h. get_or-put_chunk_above k now v j 0 (rw lv h) ∙ is.rest j (omega arith);
 }
   where
@@ -40,12 +40,12 @@ IsXorBefore-block p q k m now same le is = record {
     from_order j (inr (inl h)) = inl h
     from_order j (inr (inr h)) = inr (j - k, omega arith)
 
-    place : (j : ℕ) → (j < k) ⊎ ((i : ℕ) × (j ≡ k + i))
-    place j = from_order j (cases_order j k)
+    position : (j : ℕ) → (j < k) ⊎ ((i : ℕ) × (j ≡ k + i))
+    position j = from_order j (cases_order j k)
 
-    by_place : (j : ℕ) → j < k + m → (j < k) ⊎ ((i : ℕ) × (j ≡ k + i)) → get_or (put_chunk k now v) j 0 ≡ bit_xor (get_or p j 0) (get_or q j 0)
-    by_place j h (inl lt) = get_or-put_chunk_below k now v j 0 lt ∙ is.done j lt
-    by_place j h (inr (i, e)) = rw e (get_or-put_chunk_at k now v i 0 (rw lv (omega arith)) (rw lv (omega (arith, ln))) ∙ at i (omega arith))
+    by_position : (j : ℕ) → j < k + m → (j < k) ⊎ ((i : ℕ) × (j ≡ k + i)) → get_or (put_chunk k now v) j 0 ≡ bit_xor (get_or p j 0) (get_or q j 0)
+    by_position j h (inl lt) = get_or-put_chunk_below k now v j 0 lt ∙ is.done j lt
+    by_position j h (inr (i, e)) = rw e (get_or-put_chunk_at k now v i 0 (rw lv (omega arith)) (rw lv (omega (arith, ln))) ∙ at i (omega arith))
 
 pub IsXorBefore-all : (p q : List ℕ) (k : ℕ) (now : List ℕ) → length p ≡ length q → length q ≤ k → IsXorBefore p q k now → now ≡ xor_words p q
 IsXorBefore-all p q k now same le is =

@@ -15,7 +15,7 @@ pub record Rows : Type 0 where
 abbrev pub row_at : Rows → ℕ → Signed
 row_at r a = slice_index_or r.rows a (identity r.qubits)
 
--- another string in the place of one
+-- another string instead of one
 abbrev pub with_row : Rows → ℕ → Signed → Rows
 with_row r a p = record { qubits = r.qubits; rows = slice_set r.rows a p }
 
@@ -27,7 +27,7 @@ with_letter qubit letter p = record { negative = p.negative; letters = slice_set
 abbrev pub AreOver : Rows → Type 0
 AreOver r = (a : ℕ) → a < length r.rows → length (row_at r a).letters ≡ r.qubits
 
--- two that have changed places
+-- two that were exchanged
 abbrev pub swapped_rows : Rows → ℕ → ℕ → Rows
 swapped_rows r a b = with_row (with_row r a (row_at r b)) b (row_at r a)
 

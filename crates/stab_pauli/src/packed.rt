@@ -3,7 +3,7 @@
 //! - `ones`: how many bits are set, and whether their number is odd.
 //! - `row`: the words of one string: their product with others, their power of i, their letters.
 //! - `flat`: rows that lie side by side in one slice.
-//! - `part`: eight of these, which of them have X or Y at a place, and where any has it in the words with it.
+//! - `part`: eight of these: which of them have X or Y on a qubit, and on which qubits of the same word any has.
 //! - `support`: in which blocks a string has letters other than I, and products in these alone.
 //! - `sparse`: words of which most are 0, kept without these.
 

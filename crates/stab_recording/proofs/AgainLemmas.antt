@@ -11,7 +11,7 @@ following-more r k = omega (arith, add-mul k 1 r.length)
 pub following-later : (r : Repeat) (j k : ℕ) → j ≤ k → after_rounds r j ≤ after_rounds r k
 following-later r j k le = let more = mul-le-mul_right r.length le in omega arith
 
--- the repeat at a place of a list
+-- the repeat at a position of a list
 pub repeat-here : (from : ℕ) (steps : List Step) (rs : List Repeat) (i : ℕ) (d : Repeat) → i < length rs → AreRepeats from steps (drop i rs)
     → (from ≤ (get_or rs i d).first) × IsRepeat steps (get_or rs i d)
     × AreRepeats (after_rounds (get_or rs i d) (get_or rs i d).rounds) steps (drop (suc i) rs)

@@ -57,16 +57,16 @@ module _ (ys : List Step) (block : Repeat) (is : IsRepeat ys block) where
       split : q * L + rest * L ≡ block.rounds * L
       split = sym (add-mul q rest L) ∙ ap (λ k. k * L) {x = q + rest} {y = block.rounds} (omega (arith, few))
 
-  -- the steps from one in the block are those from the same place of a later round
+  -- the steps from one in the block are those from the same position of a later round
   pub same-later : (i k q m : ℕ) → block.first ≤ i → k ≡ i + q * L → k + m ≤ block.first + block.rounds * L → take m (drop i ys) ≡ take m (drop k ys)
   same-later i k q m from later within =
-      ap (take m) (place i from)
+      ap (take m) (position i from)
       ∙ rounds-later (i - block.first) q m (omega (arith, from, later, within)) (few-rounds q block.rounds L is.some (omega (arith, from, later, within)))
       ∙ ap (λ x. take m (drop x following)) {x = (i - block.first) + q * L} {y = k - block.first} (omega (arith, from, later))
-      ∙ sym (ap (take m) (place k (omega (arith, from, later))))
+      ∙ sym (ap (take m) (position k (omega (arith, from, later))))
     where
-      place : (j : ℕ) → block.first ≤ j → drop j ys ≡ drop (j - block.first) following
-      place j le = ap (λ x. drop x ys) {x = j} {y = block.first + (j - block.first)} (omega (arith, le)) ∙ sym (drop-drop (j - block.first) block.first ys)
+      position : (j : ℕ) → block.first ≤ j → drop j ys ≡ drop (j - block.first) following
+      position j le = ap (λ x. drop x ys) {x = j} {y = block.first + (j - block.first)} (omega (arith, le)) ∙ sym (drop-drop (j - block.first) block.first ys)
 
 -- what a run gave up to an earlier step
 

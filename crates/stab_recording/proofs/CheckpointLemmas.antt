@@ -23,7 +23,7 @@ far-at K (suc k) c d (a ∷ b ∷ []) l n = absurd (omega arith)
 far-at K zero c d (a ∷ b ∷ e ∷ xs) l n = absurd (omega arith)
 far-at K (suc k) c d (a ∷ b ∷ e ∷ xs) l n = ap (λ t. a ∷ t) (far-at K k c d (b ∷ e ∷ xs) (omega arith) n)
 
--- a checkpoint saved in place of the last, at most K steps from the one before that
+-- a checkpoint saved instead of the last, at most K steps from the one before that
 pub saved-near : (K len : ℕ) (c a : Checkpoint) (xs : List Checkpoint) → len ≡ length xs → 2 ≤ len → a ≡ get_or xs (len - 2) a → c.step - a.step ≤ K
     → take (len - 1) xs ++ c ∷ [] ≡ saved K c xs
 saved-near K len c a xs l two e n =

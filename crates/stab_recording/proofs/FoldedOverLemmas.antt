@@ -4,10 +4,10 @@ use Rattle.stab_recording.proofs.Names.{◌≡◌, ℕ, zero, suc, ◌+◌, ◌-
 use Rattle.std.proofs.Common.{IfSome}
 use Rattle.stab_recording.proofs.AgainOverLemmas.{same-later, later-steps}
 use Rattle.stab_recording.proofs.FoldedPartLemmas.{IsPartAgain, Comes, span, go-over, repeated-comes, by_frame-comes}
-use Rattle.stab_recording.proofs.CursorPlaceLemmas.{at-number, last-pushed}
+use Rattle.stab_recording.proofs.CursorPositionLemmas.{at-number, last-pushed}
 use Rattle.stab_recording.proofs.ReplayLemmas.{on-stop, with-saved}
 
--- no checkpoint is after the place of a replay
+-- no checkpoint is after the step of a replay
 
 no-later : (K x e : ℕ) (xs : List ℕ) → Near K (x ∷ xs ++ e ∷ []) → x ≤ e
 no-later K x e [] h = h.0
@@ -27,9 +27,9 @@ near-next K a e zero (b ∷ []) c d near here there = absurd (none-some d there)
 near-next K a e zero (b ∷ f ∷ cs) c d near here there =
     subst (λ (x : Checkpoint). x.step ≤ c.step + K) (same_Some f d there) (subst (λ (x : Checkpoint). f.step ≤ x.step + K) (same_Some b c here) near.2.1)
 
-place-before : (P : ℕ → Type 0) (o : Option Checkpoint) (place : Checkpoint → ℕ) → IfSome o (λ c. P (place c)) → IfSome (option_map place o) P
-place-before P None place h = tt
-place-before P (Some c) place h = h
+position-before : (P : ℕ → Type 0) (o : Option Checkpoint) (position : Checkpoint → ℕ) → IfSome o (λ c. P (position c)) → IfSome (option_map position o) P
+position-before P None position h = tt
+position-before P (Some c) position h = h
 
 -- a replay whose state is that of a checkpoint, up to a frame if there is one, and what it gave from there to the next checkpoint
 
@@ -129,7 +129,7 @@ module _ (n : ℕ) (coins : ℕ → Bool) (begin : ℕ) (p : Plan) (ys : List St
         (subst (λ m. IsAtStep m coins ys arrived) (sym at.qubits) at_step) refl
         (let counted = come.counted in let step = come.step in omega (arith, counted, step, order)) refl (let step = come.step in omega (arith, step)) inside
         (let step = come.step in omega (arith, step, near-next p.stride begin r.step g.number r.saved.items c d near is.here (ap (slice_get r.saved.items) (sym (add-one g.number)) ∙ is.there))) refl
-        (place-before (λ k. s.step ≤ k) (slice_get checkpoints next) (step_among_new p) (recurrence (slice_get checkpoints next) folding.may.is_end.before))
+        (position-before (λ k. s.step ≤ k) (slice_get checkpoints next) (step_among_new p) (recurrence (slice_get checkpoints next) folding.may.is_end.before))
       where
         recurrence : (o : Option Checkpoint) → IfSome o (λ f. end ≤ step_among_new p f) → IfSome o (λ f. s.step ≤ step_among_new p f)
         recurrence None h = tt

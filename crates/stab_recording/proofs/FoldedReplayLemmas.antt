@@ -4,7 +4,7 @@ use Rattle.std.proofs.Common.{IfSome}
 use Rattle.stab_recording.proofs.CutLemmas.{ones-take}
 use Rattle.stab_recording.proofs.FoldedOverLemmas.{near-at}
 use Rattle.stab_recording.proofs.FrameStartLemmas.{frame-again}
-use Rattle.stab_recording.proofs.CursorPlaceLemmas.{at-number}
+use Rattle.stab_recording.proofs.CursorPositionLemmas.{at-number}
 use Rattle.stab_recording.proofs.PropagatedWayLemmas.{cursor-set}
 use Rattle.stab_recording.proofs.MeetingLemmas.{looked-last}
 use Rattle.stab_recording.proofs.ReplayLemmas.{coins-cut}
@@ -67,9 +67,9 @@ pub folding-named : {m n : ℕ} {others coins : ℕ → Bool} {zs ys : List Step
 folding-named begin p checkpoints old next block end passed r e qubits coins all =
     subst (λ x. x) (λ i. IsFolding (qubits i) (coins i) begin p (all i) checkpoints old next block end passed r e)
 
-pub place-known : (P : ℕ → Type 0) (o : Option Checkpoint) (place : Checkpoint → ℕ) (q : Option ℕ) → q ≡ option_map place o → IfSome q P → IfSome o (λ c. P (place c))
-place-known P None place q is h = tt
-place-known P (Some c) place q is h = subst (λ r. IfSome r P) is h
+pub position-known : (P : ℕ → Type 0) (o : Option Checkpoint) (position : Checkpoint → ℕ) (q : Option ℕ) → q ≡ option_map position o → IfSome q P → IfSome o (λ c. P (position c))
+position-known P None position q is h = tt
+position-known P (Some c) position q is h = subst (λ r. IfSome r P) is h
 
 -- after a later step there are no more coins
 pub coins-following : (i j : ℕ) (ys : List Step) → i ≤ j → all_coins_of (drop j ys) ≤ all_coins_of (drop i ys)
@@ -80,7 +80,7 @@ pub kept-before : (number c m d few : ℕ) (free : List Bool) → number ≡ one
 kept-before number c m d few free is last le =
     omega (arith, is, le, ap (λ k. ones (take k free)) last, ones-take c (take d free), ap ones (take-take c d free (omega (arith, last))))
 
--- as many outcomes are free again
+-- as many outcomes are random again
 pub ones-given : (c m d : ℕ) (free : List Bool) → d ≡ c + m → ones (take m (drop c free)) ≡ ones (drop c (take d free))
 ones-given c m d free last = ap ones (sym (drop-take c m free)) ∙ ap (λ k. ones (drop c (take k free))) (sym last)
 

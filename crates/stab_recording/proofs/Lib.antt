@@ -18,7 +18,7 @@ pub mod ReplayLemmas
 mod ProgressLemmas
 pub mod SeenLemmas
 pub mod SegmentLemmas
-mod CursorPlaceLemmas
+mod CursorPositionLemmas
 mod MovedLemmas
 mod PropagatedWayLemmas
 mod QuietLemmas

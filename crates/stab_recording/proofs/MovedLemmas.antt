@@ -2,7 +2,7 @@
 -- old checkpoint.
 use Rattle.stab_recording.proofs.Names.{◌≡◌, ◌≢◌, ℕ, suc, zero, ◌+◌, ◌-◌, ◌<◌, ◌≤◌, refl, sym, ◌∙◌, ap, subst, Bool, ◌⊎◌, inl, inr, List, [], ◌∷◌, ◌++◌, Option, Some, None, length, take, drop, slice_get, arith, IfSome, cases_lt, length-append, length-drop, drop-drop, take_at, Step, Lengths, Checkpoint, IsCheckpoint, Point, RunOutput, origin, point_after, outputs, all_coins_of, flags-are-coins, records-are-records, records-gathered, records-made, coins-are, Plan, Replay, IsAtStep, Ascending, Misses, IsOnWay, step_among_new, IsOldRun, IsBeside, HasOtherCoins}
 use Rattle.std.specs.Prelude.{IsSomeAnd}
-use Rattle.stab_recording.proofs.CursorPlaceLemmas.{at-number}
+use Rattle.stab_recording.proofs.CursorPositionLemmas.{at-number}
 use Rattle.stab_recording.proofs.PointLemmas.{old_later, new_later}
 use Rattle.stab_recording.proofs.RunCheckpointLemmas.{records-at}
 
@@ -31,12 +31,12 @@ more-coins n coins xs a b same = ap (λ (q : Point). q.coin) same ∙ coins-are 
 
 module _ (n : ℕ) (coins : ℕ → Bool) (p : Plan) (ys : List Step) (checkpoints : List Checkpoint) (o : RunOutput) (old : IsOldRun n coins p ys checkpoints o)
     (few : length ys ≤ 1048576) (b c : Checkpoint) (from : IsCheckpoint n coins old.steps b) (to : IsCheckpoint n coins old.steps c) (following : p.old_end ≤ b.step)
-    (order : b.step ≤ c.step) (r : Replay) (at : IsAtStep n coins ys r) (place : step_among_new p b ≡ r.step) where
+    (order : b.step ≤ c.step) (r : Replay) (at : IsAtStep n coins ys r) (position : step_among_new p b ≡ r.step) where
   -- where the replay is, and where it comes to the later checkpoint
   here : p.new_end + (b.step - p.old_end) ≡ r.step
   here =
       let within = at.within in
-      omega (arith, place, within, few)
+      omega (arith, position, within, few)
 
   there : step_among_new p c ≡ r.step + (c.step - b.step)
   there =
@@ -68,7 +68,7 @@ module _ (n : ℕ) (coins : ℕ → Bool) (p : Plan) (ys : List Step) (checkpoin
   misses-moved distinct records xs is kept agree =
       distinct (omega (arith, old-coin, new-coin, checkpoint-coin n coins xs c is, agree.coin))
 
-  -- what both make from the one place to the other
+  -- what both make from the one position to the other
   abbrev between-them : List Step
   between-them = take (c.step - b.step) (drop b.step old.steps)
 
@@ -139,7 +139,7 @@ way-past n coins begin p ys checkpoints old next later r way le within missed =
       last = way.last;
     }
 
--- if it is at the place of an old checkpoint and differs from it, later old checkpoints of the list are missed
+-- if it is at the step of an old checkpoint and differs from it, later old checkpoints of the list are missed
 pub all-missed : (n : ℕ) (coins : ℕ → Bool) (p : Plan) (ys : List Step) (checkpoints : List Checkpoint) (o : RunOutput) (r : Replay) → IsBeside n coins p ys checkpoints o r
     → length ys ≤ 1048576 → (last : ℕ) (b : Checkpoint) → slice_get checkpoints last ≡ Some b → IsSomeAnd (slice_get checkpoints last) (HasOtherCoins p r o) → (number : ℕ)
     → IfSome (slice_get checkpoints number) (λ c. b.step ≤ c.step) → IfSome (slice_get checkpoints number) (Misses n coins p ys o.records)
@@ -153,4 +153,4 @@ all-missed n coins p ys checkpoints o r beside few last b from distinct number f
     later None to following = tt
     later (Some c) to following =
         misses-later n coins p ys checkpoints o beside.old few b c (at-number (IsCheckpoint n coins beside.old.steps) checkpoints last b from beside.old.are_checkpoints)
-        (at-number (IsCheckpoint n coins beside.old.steps) checkpoints number c to beside.old.are_checkpoints) held.following following r beside.at_step held.place held.differs
+        (at-number (IsCheckpoint n coins beside.old.steps) checkpoints number c to beside.old.are_checkpoints) held.following following r beside.at_step held.position held.differs

@@ -51,16 +51,16 @@ module _ (s : PivotsState) (flags : List Bool) (numbered : IsNumbered s flags) (
       choose (get_or (flags ++ more) t false) (get_or flags t false) (slice_get (take s.most (s.strings ++ others)) (ones (take t (flags ++ more))))
       (slice_get s.strings (ones (take t flags))) (get_or_append_left flags more false t lt)
       (λ is. subst (λ bits. IsNoneOr (slice_get (take s.most (s.strings ++ others)) (ones bits)) (slice_get s.strings (ones (take t flags)))) (sym (take-append-le t flags more (omega (arith, lt))))
-      (by_place (counted t flags is) (cases_lt (ones (take t flags)) (length s.strings))))
+      (by_position (counted t flags is) (cases_lt (ones (take t flags)) (length s.strings))))
     where
-      by_place : ones (take t flags) < ones flags → (ones (take t flags) < length s.strings) ⊎ (length s.strings ≤ ones (take t flags))
+      by_position : ones (take t flags) < ones flags → (ones (take t flags) < length s.strings) ⊎ (length s.strings ≤ ones (take t flags))
           → IsNoneOr (slice_get (take s.most (s.strings ++ others)) (ones (take t flags))) (slice_get s.strings (ones (take t flags)))
-      by_place counted (inl there) =
+      by_position counted (inl there) =
           elim (get-take s.most (ones (take t flags)) (s.strings ++ others)) [
             | inl e ↦ inl e
             | inr e ↦ inr (e ∙ get-append s.strings others (ones (take t flags)) there)
           ]
-      by_place counted (inr beyond) = inl (get-beyond s.most (ones (take t flags)) (s.strings ++ others) (omega (arith, numbered, counted, beyond)))
+      by_position counted (inr beyond) = inl (get-beyond s.most (ones (take t flags)) (s.strings ++ others) (omega (arith, numbered, counted, beyond)))
 
 module _ (s : PivotsState) (flags : List Bool) (numbered : IsNumbered s flags) (strings : List (List Letter)) (free : List Bool) (c : ℕ) where
   pub pivot-beyond : (u : ℕ)
@@ -70,21 +70,21 @@ module _ (s : PivotsState) (flags : List Bool) (numbered : IsNumbered s flags) (
       (slice_get (take s.most (s.strings ++ drop (ones (take c free)) strings)) (ones (take (length flags + u) (flags ++ drop c free))))
       (slice_get strings (ones (take (c + u) free)))
       (get_or-append-add flags (drop c free) u false ∙ get_or-drop c free u false)
-      (λ is. subst (λ k. IsNoneOr (slice_get (take s.most (s.strings ++ drop (ones (take c free)) strings)) k) (slice_get strings (ones (take (c + u) free)))) (sym place)
+      (λ is. subst (λ k. IsNoneOr (slice_get (take s.most (s.strings ++ drop (ones (take c free)) strings)) k) (slice_get strings (ones (take (c + u) free)))) (sym position)
       (subst (λ k. IsNoneOr (slice_get (take s.most (s.strings ++ drop (ones (take c free)) strings)) (ones flags + ones (take u (drop c free)))) (slice_get strings k))
       (sym (ones-split c u free))
-      (by_place (cases_lt (length s.strings) (ones flags)))))
+      (by_position (cases_lt (length s.strings) (ones flags)))))
     where
-      place : ones (take (length flags + u) (flags ++ drop c free)) ≡ ones flags + ones (take u (drop c free))
-      place =
+      position : ones (take (length flags + u) (flags ++ drop c free)) ≡ ones flags + ones (take u (drop c free))
+      position =
           ap ones (take-append-add flags (drop c free) u)
           ∙ ones-append flags (take u (drop c free))
 
-      by_place : (length s.strings < ones flags) ⊎ (ones flags ≤ length s.strings)
+      by_position : (length s.strings < ones flags) ⊎ (ones flags ≤ length s.strings)
           → IsNoneOr (slice_get (take s.most (s.strings ++ drop (ones (take c free)) strings)) (ones flags + ones (take u (drop c free))))
           (slice_get strings (ones (take c free) + ones (take u (drop c free))))
-      by_place (inl short) = inl (get-beyond s.most (ones flags + ones (take u (drop c free))) (s.strings ++ drop (ones (take c free)) strings) (omega (arith, numbered, short)))
-      by_place (inr all) =
+      by_position (inl short) = inl (get-beyond s.most (ones flags + ones (take u (drop c free))) (s.strings ++ drop (ones (take c free)) strings) (omega (arith, numbered, short)))
+      by_position (inr all) =
           elim (get-take s.most (ones flags + ones (take u (drop c free))) (s.strings ++ drop (ones (take c free)) strings)) [
             | inl e ↦ inl e
             | inr e ↦ inr (
@@ -100,7 +100,7 @@ none-or-both o p q (inl e) h = inl e
 none-or-both o p q (inr e) (inl f) = inl (e ∙ f)
 none-or-both o p q (inr e) (inr f) = inr (e ∙ f)
 
--- pivots of what steps measure at one point are true at another, by their places after the number of the next coin
+-- pivots of what steps measure at one point are true at another, by their positions after the number of the next coin
 true-shifted : (n : ℕ) (coins : ℕ → Bool) (strings others : ℕ → Option (List Letter)) (xs : List Step) (a b : Point)
     → ((j : ℕ) → j < all_coins_of xs → IsNoneOr (others (b.coin + j)) (strings (a.coin + j))) → ArePropagatedOver n coins xs a b
     → AreTrue n coins strings xs a → AreTrue n coins others xs b

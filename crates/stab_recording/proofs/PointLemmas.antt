@@ -173,10 +173,10 @@ module _ (n : ℕ) (coins : ℕ → Bool) (xs ys : List Step) (i k : ℕ) (same 
         → s.new_lengths ≡ lengths_of (outputs n coins (take k ys) origin) → i ≤ c.step → k ≤ length ys → length ys < 2 ^ 64
         → IsCheckpoint n coins xs c → IsCheckpoint n coins ys (moved_checkpoint s c)
     checkpoint-moved s c old new old_lengths new_lengths following within few h = record {
-      within = omega (arith, place, inside);
+      within = omega (arith, position, inside);
       qubits = h.qubits;
       group =
-          subst (λ j. SameGroup n (stabilises c.tableau) (member (point_after n coins (take j ys) origin).trace)) (sym place)
+          subst (λ j. SameGroup n (stabilises c.tableau) (member (point_after n coins (take j ys) origin).trace)) (sym position)
           (λ p size. old_group p size ∙ later_group (c.step - i) p size);
       lengths =
           (λ j. moved_lengths (old_lengths j) (new_lengths j) (shown j))
@@ -184,7 +184,7 @@ module _ (n : ℕ) (coins : ℕ → Bool) (xs ys : List Step) (i k : ℕ) (same 
           (outputs n coins (take (c.step - i) (drop i xs)) (point_after n coins (take i xs) origin))
           (omega (arith, length-take-le (k + (c.step - i)) ys inside, inside)) short
           ∙ ap lengths_of (sym (new_outputs (c.step - i)))
-          ∙ ap (λ j. lengths_of (outputs n coins (take j ys) origin)) (sym place);
+          ∙ ap (λ j. lengths_of (outputs n coins (take j ys) origin)) (sym position);
     }
       where
         at : c.step ≡ i + (c.step - i)
@@ -193,8 +193,8 @@ module _ (n : ℕ) (coins : ℕ → Bool) (xs ys : List Step) (i k : ℕ) (same 
         inside : k + (c.step - i) ≤ length ys
         inside = let w = h.within in omega (arith, ap length same, length-drop i xs, length-drop k ys)
 
-        place : moved s.old_step s.new_step c.step ≡ k + (c.step - i)
-        place = omega (arith, inside)
+        position : moved s.old_step s.new_step c.step ≡ k + (c.step - i)
+        position = omega (arith, inside)
 
         old_group : SameGroup n (stabilises c.tableau) (member (point_after n coins (take (i + (c.step - i)) xs) origin).trace)
         old_group = subst (λ j. SameGroup n (stabilises c.tableau) (member (point_after n coins (take j xs) origin).trace)) at h.group

@@ -11,14 +11,14 @@ zeros (false ∷ bits) e = ap (λ l. false ∷ l) (zeros bits e)
 -- the newest bits and those before
 
 pub quiet-back : (bits : List Bool) (window k : ℕ) → ones (drop (length bits - window) bits) ≡ 0 → k ≤ window → looked_up bits k ≡ false
-quiet-back bits window k none le = by-place (cases_lt (length bits) k)
+quiet-back bits window k none le = by-position (cases_lt (length bits) k)
   where
     newest : List Bool
     newest = drop (length bits - window) bits
 
-    by-place : (length bits < k) ⊎ (k ≤ length bits) → looked_up bits k ≡ false
-    by-place (inl far) = looked_up-far [] bits k far ∙ looked_up-zeros 0 (k - length bits)
-    by-place (inr near) =
+    by-position : (length bits < k) ⊎ (k ≤ length bits) → looked_up bits k ≡ false
+    by-position (inl far) = looked_up-far [] bits k far ∙ looked_up-zeros 0 (k - length bits)
+    by-position (inr near) =
         ap (λ l. looked_up l k) (sym (take-append-drop (length bits - window) bits))
         ∙ looked_up-near (take (length bits - window) bits) newest k (omega (arith, near, le, length-drop (length bits - window) bits))
         ∙ ap (λ l. looked_up l k) (zeros newest none)

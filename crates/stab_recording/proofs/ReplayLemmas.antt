@@ -98,16 +98,16 @@ agree-meets n window coins xs zs c t o records free run h kept agree = record {
 
 -- where the next checkpoint is
 
--- a replay at a step is not after the place of the next checkpoint
+-- a replay at a step is not after the step of the next checkpoint
 next-following : (p : Plan) (step k : ℕ) (cs : List Checkpoint) → Ascending p step (drop k cs) → IfSome (option_map (step_among_new p) (slice_get cs k)) (λ q. step ≤ q)
 next-following p step zero [] h = tt
 next-following p step (suc k) [] h = tt
 next-following p step zero (c ∷ cs) h = h.0
 next-following p step (suc k) (c ∷ cs) h = next-following p step k cs h
 
-pub place-following : (p : Plan) (step k : ℕ) (cs : List Checkpoint) (place : Option ℕ) → place ≡ option_map (step_among_new p) (slice_get cs k) → Ascending p step (drop k cs)
-    → IfSome place (λ q. step ≤ q)
-place-following p step k cs place e h = subst (λ o. IfSome o (λ q. step ≤ q)) (sym e) (next-following p step k cs h)
+pub position-following : (p : Plan) (step k : ℕ) (cs : List Checkpoint) (position : Option ℕ) → position ≡ option_map (step_among_new p) (slice_get cs k) → Ascending p step (drop k cs)
+    → IfSome position (λ q. step ≤ q)
+position-following p step k cs position e h = subst (λ o. IfSome o (λ q. step ≤ q)) (sym e) (next-following p step k cs h)
 
 -- and may stop there at the latest
 pub ascending-stop : (p : Plan) (step stop k : ℕ) (cs : List Checkpoint) → Ascending p step (drop k cs) → stop ≤ p.total
@@ -118,33 +118,33 @@ ascending-stop p step stop zero (c ∷ cs) h within before = (before, h.1)
 ascending-stop p step stop (suc k) (c ∷ cs) h within before = ascending-stop p step stop k cs h within before
 
 -- nor is it after those of later ones
-later-places : (p : Plan) (step k : ℕ) (cs : List Checkpoint) → Ascending p step cs → IfSome (slice_get cs k) (λ c. step ≤ step_among_new p c)
-later-places p step zero [] h = tt
-later-places p step (suc k) [] h = tt
-later-places p step zero (c ∷ cs) h = h.0
-later-places p step (suc k) (c ∷ cs) h =
-    IfSome_then (slice_get cs k) (later-places p (step_among_new p c) k cs h.1) (λ d le. let first = h.0 in omega (arith, first, le))
+later-positions : (p : Plan) (step k : ℕ) (cs : List Checkpoint) → Ascending p step cs → IfSome (slice_get cs k) (λ c. step ≤ step_among_new p c)
+later-positions p step zero [] h = tt
+later-positions p step (suc k) [] h = tt
+later-positions p step zero (c ∷ cs) h = h.0
+later-positions p step (suc k) (c ∷ cs) h =
+    IfSome_then (slice_get cs k) (later-positions p (step_among_new p c) k cs h.1) (λ d le. let first = h.0 in omega (arith, first, le))
 
 all-later : (p : Plan) (step next k : ℕ) (cs : List Checkpoint) → Ascending p step (drop next cs) → next ≤ k
     → IfSome (slice_get cs k) (λ c. step ≤ step_among_new p c)
-all-later p step zero k cs h le = later-places p step k cs h
+all-later p step zero k cs h le = later-positions p step k cs h
 all-later p step (suc next) zero cs h le = absurd (omega arith)
 all-later p step (suc next) (suc k) [] h le = tt
 all-later p step (suc next) (suc k) (c ∷ cs) h le = all-later p step next k cs h (omega arith)
 
--- after the place of the next checkpoint the one after it comes next
+-- after the step of the next checkpoint the one after it comes next
 later-within : (checkpoints : List Checkpoint) (k : ℕ) (P : Checkpoint → Type 0) → IsSomeAnd (slice_get checkpoints k) P → k < length checkpoints
 later-within [] k P h = absurd h
 later-within (c ∷ cs) zero P h = omega arith
 later-within (c ∷ cs) (suc k) P h = let le = later-within cs k P h in omega arith
 
 pub later-ascending : (p : Plan) (step k : ℕ) (cs : List Checkpoint) → Ascending p step (drop k cs) → IsPlacedAt p cs k step → Ascending p step (drop (k + 1) cs)
-later-ascending p step zero [] h place = absurd place
-later-ascending p step (suc k) [] h place = absurd place
-later-ascending p step zero (c ∷ cs) h place = subst (λ m. Ascending p m cs) place h.1
-later-ascending p step (suc k) (c ∷ cs) h place =
+later-ascending p step zero [] h position = absurd position
+later-ascending p step (suc k) [] h position = absurd position
+later-ascending p step zero (c ∷ cs) h position = subst (λ m. Ascending p m cs) position h.1
+later-ascending p step (suc k) (c ∷ cs) h position =
     let e : suc (k + 1) ≡ suc k + 1 = omega arith in
-    subst (λ m. Ascending p step (drop m (c ∷ cs))) e (later-ascending p step k cs h place)
+    subst (λ m. Ascending p step (drop m (c ∷ cs))) e (later-ascending p step k cs h position)
 
 if-some : {X : Type 0} (o : Option X) (P : X → Type 0) → IsSomeAnd o P → IfSome o P
 if-some None P h = tt
@@ -152,12 +152,12 @@ if-some (Some x) P h = h
 
 module _ (n : ℕ) (coins : ℕ → Bool) (begin : ℕ) (p : Plan) (ys : List Step) (checkpoints : List Checkpoint) (old : List Bool) where
   -- at the next stop
-  pub on-stop : (others : ℕ → Bool) (next stop : ℕ) (place : Option ℕ) (r s : Replay) → IsOnWay n coins begin p ys checkpoints old next r → others ≡ coins
+  pub on-stop : (others : ℕ → Bool) (next stop : ℕ) (position : Option ℕ) (r s : Replay) → IsOnWay n coins begin p ys checkpoints old next r → others ≡ coins
       → IsAtStep r.tableau.qubits others r.cursor.all s → s.saved.items ≡ r.saved.items
       → (s.applied + s.by_frame) + r.step ≡ (r.applied + r.by_frame) + stop → s.step ≡ stop
-      → r.step ≤ stop → stop ≤ p.total → stop ≤ r.step + p.stride → place ≡ option_map (step_among_new p) (slice_get checkpoints next) → IfSome place (λ q. stop ≤ q)
+      → r.step ≤ stop → stop ≤ p.total → stop ≤ r.step + p.stride → position ≡ option_map (step_among_new p) (slice_get checkpoints next) → IfSome position (λ q. stop ≤ q)
       → IsAtStop n coins begin p ys checkpoints old next s
-  on-stop others next stop place r s h same_coins at saved counted step order within near place_is before = record {
+  on-stop others next stop position r s h same_coins at saved counted step order within near position_is before = record {
     replay = record {
       at_step =
           subst (λ m. IsAtStep m coins ys s) was.qubits
@@ -172,26 +172,26 @@ module _ (n : ℕ) (coins : ℕ → Bool) (begin : ℕ) (p : Plan) (ys : List St
     within = h.stop.within;
     ascending =
         subst (λ k. Ascending p k (drop next checkpoints)) (sym step)
-        (ascending-stop p r.step stop next checkpoints h.stop.ascending within (subst (λ o. IfSome o (λ q. stop ≤ q)) place_is before));
+        (ascending-stop p r.step stop next checkpoints h.stop.ascending within (subst (λ o. IfSome o (λ q. stop ≤ q)) position_is before));
     missed = h.stop.missed;
   }
     where
       was : IsAtStep n coins ys r
       was = h.stop.replay.at_step
 
-  -- if it does not meet a checkpoint at its place, the runs do not agree there
+  -- if it does not meet a checkpoint at its step, the runs do not agree there
   misses : (r : Replay) (free : List Bool) (c : Checkpoint) → IsAtStep n coins ys r → step_among_new p c ≡ r.step → (MeetsAt n p r old free c → ⊥) → Misses n coins p ys old c
-  misses r free c h place distinct xs is_checkpoint kept agree =
+  misses r free c h position distinct xs is_checkpoint kept agree =
       distinct (
-        place,
+        position,
         agree-meets n p.window coins xs (take r.step ys) c r.tableau (output_of r.outputs) old free h.run is_checkpoint kept
-            (subst (λ k. AgreeAt n (point_after n coins (take c.step xs) origin) (point_after n coins (take k ys) origin)) place agree),
+            (subst (λ k. AgreeAt n (point_after n coins (take c.step xs) origin) (point_after n coins (take k ys) origin)) position agree),
       )
 
   missed : (r : Replay) (free : List Bool) (o : Option Checkpoint) → IsAtStep n coins ys r → IfSome o (λ c. step_among_new p c ≡ r.step)
       → IfSome o (λ c. MeetsAt n p r old free c → ⊥) → IfSome o (Misses n coins p ys old)
-  missed r free None h place distinct = tt
-  missed r free (Some c) h place distinct = misses r free c h place distinct
+  missed r free None h position distinct = tt
+  missed r free (Some c) h position distinct = misses r free c h position distinct
 
   -- so that one was missed as those before it were
   all-missed : (next : ℕ) (r : Replay) → IsAtStop n coins begin p ys checkpoints old next r → IfSome (slice_get checkpoints next) (Misses n coins p ys old)

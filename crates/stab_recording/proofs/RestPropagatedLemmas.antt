@@ -149,7 +149,7 @@ pub record IsPast (n : ℕ) (strings : List (List Letter)) (free : List Bool) (b
   pub checkpoints : ArePropagatedCheckpoints n strings free back from steps old cs ts
   pub differs : 1 ≤ length ts → (1 ≤ ones new.flips.records) ⊎ IsLastDiffering n cs ts
 
--- with the state of the checkpoint at its place conjugated
+-- with the state of the checkpoint at its step conjugated
 
 past-checkpoint : {n : ℕ} {strings : List (List Letter)} {free : List Bool} {back : List Step} {from steps : ℕ} {cs : List Checkpoint} {ts : List TableauState} {old new : PropagationState}
     → IsPast n strings free back from steps cs ts old new → (c : Checkpoint) (t : TableauState) → steps ≡ c.step - from → c.tableau.qubits ≡ n → t.qubits ≡ c.tableau.qubits

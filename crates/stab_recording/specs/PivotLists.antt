@@ -14,7 +14,7 @@ pub record KeepsPivots (n : ℕ) (coins : ℕ → Bool) (xs : List Step) (string
   pub are_true : AreTrue n coins (pivot_at strings.strings free) xs origin
   pub near : All (LooksWithin window) xs
 
--- strings with others after them, from one of these on, if this many outcomes are free in all
+-- strings with others after them, from one of these on, if this many outcomes are random in all
 pub record IsSpliced (front others : PivotsState) (from count : ℕ) (new : PivotsState) : Type 0 where
   pub size : new.qubits ≡ front.qubits
   pub strings : new.strings ≡ kept_with front.most front.strings (drop from others.strings)

@@ -26,11 +26,11 @@ step_among_new p c = moved p.old_end p.new_end c.step
 abbrev pub spacing_of : ℕ → ℕ
 spacing_of K = K - K / 4
 
--- where a replay may stop next: at the place of the old checkpoint that may be met next where that is no more than a stride further, and else
+-- where a replay may stop next: at the step of the old checkpoint that may be met next where that is no more than a stride further, and else
 -- a spacing further, or after the last step if that comes first
 abbrev pub next_stop : Plan → ℕ → Option ℕ → ℕ
 next_stop p step None = min (step + spacing_of p.stride) p.total
-next_stop p step (Some place) = min (if nat_le place (step + p.stride) then place else step + spacing_of p.stride) p.total
+next_stop p step (Some position) = min (if nat_le position (step + p.stride) then position else step + spacing_of p.stride) p.total
 
 -- what a replay holds is the run of the steps after it, and its cursor has the others left
 pub record IsAtStep (n : ℕ) (coins : ℕ → Bool) (ys : List Step) (r : Replay) : Type 0 where
@@ -49,7 +49,7 @@ pub record IsReplay (n : ℕ) (coins : ℕ → Bool) (K begin : ℕ) (ys : List 
   pub checkpoints : All (IsCheckpoint n coins ys) r.saved.items
   pub near : Near K (begin ∷ checkpoint_steps r.saved.items ++ r.step ∷ [])
 
--- the places of old checkpoints, the first at or after a step, in order, and within the new steps
+-- the steps of old checkpoints, the first at or after a step, in order, and within the new steps
 abbrev pub Ascending : Plan → ℕ → List Checkpoint → Type 0
 Ascending p step [] = step ≤ p.total
 Ascending p step (c ∷ more) = (step ≤ step_among_new p c) × Ascending p (step_among_new p c) more
@@ -62,11 +62,11 @@ IsPlacedAt p checkpoints number step = IsSomeAnd (slice_get checkpoints number) 
 abbrev pub checkpoint_of : Replay → Checkpoint
 checkpoint_of r = record { step = r.step; lengths = lengths_of (output_of r.outputs); tableau = r.tableau }
 
--- a replay is at the place of an old checkpoint, and meets it
+-- a replay is at the step of an old checkpoint, and meets it
 abbrev pub MeetsAt : ℕ → Plan → Replay → (records free : List Bool) → Checkpoint → Type 0
 MeetsAt n p r records free c = (step_among_new p c ≡ r.step) × Meets n p.window r.tableau (output_of r.outputs) records free c
 
--- how a replay ended: after the last step, or at the place of an old checkpoint that it meets
+-- how a replay ended: after the last step, or at the step of an old checkpoint that it meets
 abbrev pub IsEnd : ℕ → Plan → Replay → List Checkpoint → RunOutput → End → Type 0
 IsEnd n p r checkpoints o Last = r.step ≡ p.total
 IsEnd n p r checkpoints o (Joined j) = (p.next ≤ j) × IsSomeAnd (slice_get checkpoints j) (MeetsAt n p r o.records o.free)
@@ -98,7 +98,7 @@ pub record IsOnWay (n : ℕ) (coins : ℕ → Bool) (begin : ℕ) (p : Plan) (ys
   pub stop : IsAtStop n coins begin p ys checkpoints old next r
   pub last : last_of begin (checkpoint_steps r.saved.items) ≡ r.step
 
--- where a replay that went on from a step stops: a spacing further or more, or after the last step, or at the place of the old checkpoint
+-- where a replay that went on from a step stops: a spacing further or more, or after the last step, or at the step of the old checkpoint
 -- that may be met next
 abbrev pub StopsAt : Plan → List Checkpoint → ℕ → ℕ → ℕ → Type 0
 StopsAt p checkpoints next from step = (from + spacing_of p.stride ≤ step) ⊎ ((step ≡ p.total) ⊎ IsPlacedAt p checkpoints next step)

@@ -5,7 +5,7 @@ use Rattle.stab_run.specs.declared.records.Lengths.{Lengths}
 use Rattle.stab_recording.specs.declared.checkpoint.Checkpoint.{Checkpoint}
 use Rattle.stab_recording.specs.declared.checkpoint.Meeting.{Meeting}
 
--- a checkpoint put after others: it takes the place of the last if it is at most K steps from the one before that
+-- a checkpoint put after others: it replaces the last if it is at most K steps from the one before that
 abbrev pub saved : ℕ → Checkpoint → List Checkpoint → List Checkpoint
 saved K c [] = c ∷ []
 saved K c (a ∷ []) = a ∷ c ∷ []

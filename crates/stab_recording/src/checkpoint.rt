@@ -22,7 +22,7 @@ impl Drop for Checkpoint {
     }
 }
 
-/// Where a replay met a checkpoint of the old run: from there on the old run moves to the place after the new one.
+/// Where a replay met a checkpoint of the old run: from there on the steps of the old run follow those of the new one.
 #[derive(Clone, Copy)]
 pub struct Meeting {
     pub old_step: usize,
@@ -31,7 +31,7 @@ pub struct Meeting {
     pub new_lengths: Lengths,
 }
 
-/// A step or a length that moves with another, after which it is.
+/// A step or a length after another, moved as that one moves.
 pub fn shifted(old: usize, new: usize, value: usize) -> usize
     ensures value { result ≡ moved old new value }
 {
@@ -81,7 +81,7 @@ pub fn count_before(checkpoints: &[Checkpoint], step: usize) -> usize
     count
 }
 
-/// Puts a checkpoint after others, in place of the last if that is no longer needed. It takes no
+/// Puts a checkpoint after others, instead of the last if that is no longer needed. It takes no
 /// memory.
 fn save(checkpoints: &mut Vec<Checkpoint>, checkpoint: Checkpoint, stride: usize)
     requires room { length checkpoints.old.items < vec_capacity checkpoints.old }
@@ -107,20 +107,20 @@ pub fn save_all(checkpoints: &mut Vec<Checkpoint>, others: &mut Vec<Checkpoint>,
     }
 }
 
-/// Takes the checkpoints from this place on, the last first, and moves them with the one at a meeting. It
+/// Takes the checkpoints from this position on, the last first, and moves them with the one at a meeting. It
 /// takes no memory.
 pub fn take_moved(
     checkpoints: &mut Vec<Checkpoint>,
-    place: usize,
+    position: usize,
     meeting: Meeting,
     taken: &mut Vec<Checkpoint>,
 )
-    requires room { length taken.old.items + length checkpoints.old.items ≤ vec_capacity taken.old + place }
-    ensures left { checkpoints.new.items ≡ take place checkpoints.old.items }
-    ensures taken { taken.new.items ≡ taken.old.items ++ reverse (map (moved_checkpoint meeting) (drop place checkpoints.old.items)) }
+    requires room { length taken.old.items + length checkpoints.old.items ≤ vec_capacity taken.old + position }
+    ensures left { checkpoints.new.items ≡ take position checkpoints.old.items }
+    ensures taken { taken.new.items ≡ taken.old.items ++ reverse (map (moved_checkpoint meeting) (drop position checkpoints.old.items)) }
     ensures capacity { vec_capacity checkpoints.new ≡ vec_capacity checkpoints.old }
 {
-    while checkpoints.len() > place {
+    while checkpoints.len() > position {
         if let Some(checkpoint) = checkpoints.pop() {
             taken.push_reserved(checkpoint.moved(meeting));
         }

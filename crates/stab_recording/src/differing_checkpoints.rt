@@ -5,7 +5,7 @@ ghost use Rattle.stab_recording.specs.Replays.{Misses};
 ghost use Rattle.stab_recording.specs.inner.RestFrameStates.{IsBeside, HasOtherCoins};
 
 use crate::checkpoint::{Checkpoint, shifted};
-use crate::checkpoint_places::{block_at, end_of};
+use crate::checkpoint_positions::{block_at, end_of};
 use crate::replay::{Plan, Replay};
 use stab_frames::between;
 use stab_items::Repeat;

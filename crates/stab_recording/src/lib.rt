@@ -1,7 +1,7 @@
 //! Recorded runs: checkpoints on the way, rounds that are repeated, and frames over what is left of a run.
 //!
 //! In the order in which data flows; each module uses only those before it, except that `differing_checkpoints`, `new_checkpoints`,
-//! `checkpoint_places`, `recurrence`, `loop_folding` and `runs` add calls to the replay of `replay`:
+//! `checkpoint_positions`, `recurrence`, `loop_folding` and `runs` add calls to the replay of `replay`:
 //!
 //! - `recorded_steps`: steps that a run carries out, with pivots of its random outcomes.
 //! - `propagate`: steps on the way of a frame, until all are past, the frame is gone, or a pivot is missing.
@@ -13,9 +13,9 @@
 //! - `propagated_output`: what a run gave, repeated as a frame changes it.
 //! - `states`, `rest_of_run`: states that a frame changes, and a frame over the rest of a run.
 //! - `old_run`: what is kept of the run before an edit.
-//! - `differing_checkpoints`, `new_checkpoints`, `checkpoint_places`, `recurrence`, `loop_folding`, `replay`: a run from a checkpoint on,
-//!   up to a checkpoint of an older run at which they agree; where its checkpoints are; and loop folding: rounds of a block that come
-//!   again in it, exactly or up to a frame.
+//! - `differing_checkpoints`, `new_checkpoints`, `checkpoint_positions`, `recurrence`, `loop_folding`, `replay`: a run from a checkpoint
+//!   on, up to a checkpoint of an older run at which they agree; where its checkpoints are; and loop folding: rounds of a block that
+//!   come again in it, exactly or up to a frame.
 //! - `round_grouping`, `runs`: which rounds of blocks are looked at; runs, which are replays of all steps with no older run.
 //! - `whole_run`, `with_pivots`, `sampler`: what a run gives; the same with a pivot for each random outcome; one circuit made ready for
 //!   many runs.
@@ -39,7 +39,7 @@
 #![tactic(auto)]
 
 mod checkpoint;
-mod checkpoint_places;
+mod checkpoint_positions;
 mod differing_checkpoints;
 mod frames_between;
 mod loop_folding;

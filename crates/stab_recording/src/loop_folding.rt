@@ -18,7 +18,7 @@ ghost use Rattle.stab_recording.specs.inner.Progress.{IsFurther};
 ghost use Rattle.stab_recording.specs.inner.RestFrameStates.{with_state, with_cursor};
 
 use crate::checkpoint::Checkpoint;
-use crate::checkpoint_places::{block_at, end_of};
+use crate::checkpoint_positions::{block_at, end_of};
 use crate::meeting::are_fixed;
 use crate::other_coins::propagate_with_coins;
 use crate::propagated_output::{append_propagated, lengths_propagated, repeat_pivots};
@@ -44,15 +44,15 @@ struct Segment {
 impl Plan {
     ghost use Rattle.std.specs.Prelude.{◌+◌, ◌*◌, ◌≤◌, IfSome};
 
-    /// Up to which step a replay may repeat rounds: to the end of the block, but not to the place of an old checkpoint, which it
+    /// Up to which step a replay may repeat rounds: to the end of the block, but not to the step of an old checkpoint, which it
     /// might meet there.
-    fn end_in(self, block: Repeat, place: Option<usize>) -> usize
+    fn end_in(self, block: Repeat, position: Option<usize>) -> usize
         ensures in_block { result ≤ block.first + block.rounds * block.length }
-        ensures before { IfSome place (λ p. result ≤ p) }
+        ensures before { IfSome position (λ p. result ≤ p) }
     {
         let end = end_of(block);
-        match place {
-            Some(place) => end.min(place.saturating_sub(1)),
+        match position {
+            Some(position) => end.min(position.saturating_sub(1)),
             None => end,
         }
     }
@@ -324,7 +324,7 @@ impl<'a> Replay<'a> {
         circuit: &'a Circuit,
         repeats: &[Repeat],
         plan: Plan,
-        place: Option<usize>,
+        position: Option<usize>,
         coins: &mut C,
     ) -> Result<(), Refusal>
         requires circuit { HasSteps (circuit_items circuit.now) self.old.cursor.all }
@@ -332,17 +332,17 @@ impl<'a> Replay<'a> {
         requires planned { IsPlanned self.old.tableau.qubits plan self.old.cursor.all }
         requires within { self.old.step ≤ plan.total }
         requires few_counted { self.old.applied + self.old.by_frame ≤ self.old.step }
-        requires on_way { (begin : ℕ) × (checkpoints : List Checkpoint) × (old : List Bool) × (next : ℕ) × IsOnWay self.old.tableau.qubits (C.sequence coins.old) begin plan self.old.cursor.all checkpoints old next self.old × (place ≡ option_map (step_among_new plan) (slice_get checkpoints next)) }
+        requires on_way { (begin : ℕ) × (checkpoints : List Checkpoint) × (old : List Bool) × (next : ℕ) × IsOnWay self.old.tableau.qubits (C.sequence coins.old) begin plan self.old.cursor.all checkpoints old next self.old × (position ≡ option_map (step_among_new plan) (slice_get checkpoints next)) }
         ensures further { IsFurther (C.asks coins.old) (C.asks coins.new) self.old self.new }
         ensures same_coins { C.sequence coins.new ≡ C.sequence coins.old }
         ensures costs { OnOk result (Costs (C.asks coins.old) (C.asks coins.new) self.old self.new) }
-        ensures way { OnOk result ((begin : ℕ) (checkpoints : List Checkpoint) (old : List Bool) (next : ℕ) → IsOnWay self.old.tableau.qubits (C.sequence coins.old) begin plan self.old.cursor.all checkpoints old next self.old → place ≡ option_map (step_among_new plan) (slice_get checkpoints next) → IsOnWay self.old.tableau.qubits (C.sequence coins.old) begin plan self.old.cursor.all checkpoints old next self.new) }
+        ensures way { OnOk result ((begin : ℕ) (checkpoints : List Checkpoint) (old : List Bool) (next : ℕ) → IsOnWay self.old.tableau.qubits (C.sequence coins.old) begin plan self.old.cursor.all checkpoints old next self.old → position ≡ option_map (step_among_new plan) (slice_get checkpoints next) → IsOnWay self.old.tableau.qubits (C.sequence coins.old) begin plan self.old.cursor.all checkpoints old next self.new) }
         ensures err { IfErr result (λ r. r ≡ OutOfMemory) }
     {
         let Some(block) = block_at(repeats, self.step) else {
             return Ok(());
         };
-        let end = plan.end_in(block, place);
+        let end = plan.end_in(block, position);
         if end.saturating_sub(self.step) < plan.spacing() {
             return Ok(());
         }

@@ -23,14 +23,14 @@ impl Plan {
 
     /// The last step at which a replay that comes from a step may keep its checkpoint for a stop: at or before the next old
     /// checkpoint, and so that a sixteenth of a stride is left for steps that are put in between.
-    pub(crate) fn limit(self, from: usize, stop: usize, place: Option<usize>) -> usize
+    pub(crate) fn limit(self, from: usize, stop: usize, position: Option<usize>) -> usize
         requires within { stop ≤ self.total }
         requires near { stop ≤ from + self.stride }
-        requires before { IfSome place (λ p. stop ≤ p) }
+        requires before { IfSome position (λ p. stop ≤ p) }
         ensures order { stop ≤ result }
         ensures within { result ≤ self.total }
         ensures near { result ≤ from + self.stride }
-        ensures before { IfSome place (λ p. result ≤ p) }
+        ensures before { IfSome position (λ p. result ≤ p) }
     {
         // A stride with little room beyond its spacing is kept to.
         if self.stride / 8 <= LOOKED_AT {
@@ -39,8 +39,8 @@ impl Plan {
         let most = from
             .saturating_add(self.stride - self.stride / 16)
             .min(self.total);
-        match place {
-            Some(place) => most.min(place).max(stop),
+        match position {
+            Some(position) => most.min(position).max(stop),
             None => most.max(stop),
         }
     }
@@ -101,8 +101,8 @@ impl<'a> Replay<'a> {
     {
         let mut tableau = self.tableau.compact(alloc)?;
         let first = self.saved.len().saturating_sub(SHARED_AMONG);
-        for place in first..self.saved.len() {
-            tableau.share(&self.saved[place].tableau);
+        for position in first..self.saved.len() {
+            tableau.share(&self.saved[position].tableau);
         }
         Ok(tableau)
     }

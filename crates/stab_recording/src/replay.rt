@@ -84,7 +84,7 @@ impl Plan {
     ghost use Rattle.stab_recording.specs.Replays.{step_among_new, spacing_of, next_stop};
 
     /// Where the old checkpoint with a number is among the new steps, if there is one.
-    pub(crate) fn place(self, checkpoints: &[Checkpoint], number: usize) -> Option<usize>
+    pub(crate) fn position(self, checkpoints: &[Checkpoint], number: usize) -> Option<usize>
         ensures value { result ≡ option_map (step_among_new self) (slice_get checkpoints.now number) }
     {
         match checkpoints.get(number) {
@@ -103,23 +103,23 @@ impl Plan {
         self.stride - self.stride / 4
     }
 
-    /// Where a replay that is at a step stops next, before the place of an old checkpoint or at it.
-    pub(crate) fn stop(self, step: usize, place: Option<usize>) -> usize
+    /// Where a replay that is at a step stops next, before the step of an old checkpoint or at it.
+    pub(crate) fn stop(self, step: usize, position: Option<usize>) -> usize
         requires stride { 1 ≤ self.stride }
         requires within { step ≤ self.total }
-        requires following { IfSome place (λ p. step ≤ p) }
-        ensures value { result ≡ next_stop self step place }
+        requires following { IfSome position (λ p. step ≤ p) }
+        ensures value { result ≡ next_stop self step position }
         ensures order { step ≤ result }
         ensures within { result ≤ self.total }
         ensures near { result ≤ step + self.stride }
-        ensures before { IfSome place (λ p. result ≤ p) }
-        ensures further { (step < result) ⊎ ((result ≡ self.total) ⊎ (place ≡ Some result)) }
+        ensures before { IfSome position (λ p. result ≤ p) }
+        ensures further { (step < result) ⊎ ((result ≡ self.total) ⊎ (position ≡ Some result)) }
     {
         let further = step.saturating_add(self.spacing()).min(self.total);
-        match place {
-            Some(place) => {
-                if place.saturating_sub(step) <= self.stride {
-                    place.min(self.total)
+        match position {
+            Some(position) => {
+                if position.saturating_sub(step) <= self.stride {
+                    position.min(self.total)
                 } else {
                     further
                 }
@@ -185,7 +185,7 @@ impl<'a> Replay<'a> {
         ensures value { IfOk result (IsArrival self.old.tableau.qubits plan self.old old.now.checkpoints.now old.now.outputs.now.records.items old.now.outputs.now.free.items next) }
         ensures err { IfErr result (λ r. r ≡ OutOfMemory) }
     {
-        let placed = plan.place(old.checkpoints, next) == Some(self.step);
+        let placed = plan.position(old.checkpoints, next) == Some(self.step);
         if placed
             && meets(
                 alloc,
@@ -233,8 +233,8 @@ impl<'a> Replay<'a> {
         ensures err { IfErr result (λ r. r ≡ OutOfMemory) }
     {
         let next = self.skip_differing(repeats, plan, old.checkpoints, old.outputs, next);
-        let place = plan.place(old.checkpoints, next);
-        let stops = self.stops(repeats, plan, place);
+        let position = plan.position(old.checkpoints, next);
+        let stops = self.stops(repeats, plan, position);
         self.run_past(alloc, coins, stops.least, stops.most)?;
         Ok(next)
     }
@@ -276,8 +276,8 @@ impl<'a> Replay<'a> {
                 Arrival::Between(later) => next = later,
             }
             self.save(alloc)?;
-            let place = plan.place(old.checkpoints, next);
-            self.come_again(alloc, circuit, repeats, plan, place, coins)?;
+            let position = plan.position(old.checkpoints, next);
+            self.come_again(alloc, circuit, repeats, plan, position, coins)?;
         }
     }
 }

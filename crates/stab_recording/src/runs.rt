@@ -11,7 +11,7 @@ ghost use Rattle.stab_recording.specs.FollowedRuns.{Costs};
 ghost use Rattle.stab_recording.specs.inner.Progress.{IsFurther};
 ghost use Rattle.stab_recording.specs.inner.Runs.{IsOwnRun, MayRunAll, MayRunBlock};
 
-use crate::checkpoint_places::end_of;
+use crate::checkpoint_positions::end_of;
 use crate::meeting::are_fixed;
 use crate::replay::Replay;
 use crate::round_grouping::{MOST_SINGLE, is_long, taken_together};

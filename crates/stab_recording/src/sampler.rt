@@ -106,7 +106,7 @@ impl<'a> Sampler<'a> {
     /// Rounds, of a block or written out, are carried out until a state comes again; from there on
     /// they repeat what they gave. If it comes again up to signs, as when coins decide in each
     /// round, a Pauli frame gives what the others give. Coins are numbered and asked for as by
-    /// `run_once`. Besides its lists, a shot takes memory for a tableau and checkpoints of it, for places
+    /// `run_once`. Besides its lists, a shot takes memory for a tableau and checkpoints of it, for positions
     /// within nested blocks, and for pivots of random outcomes, at most 16 MiB of them, and a pointer
     /// for each that rounds have again. Refusal `OutOfMemory` alone.
     pub fn shot<C: Coins>(&mut self, alloc: Global, coins: &mut C) -> Result<Shot, Refusal>

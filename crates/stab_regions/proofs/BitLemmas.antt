@@ -41,17 +41,17 @@ module _ (n D i : ℕ) (back : List Step) where
 
 module _ (n i : ℕ) (xs : List Step) where
   -- a detector's number among all
-  place : i - detectors_before (detectors_of xs) xs ≡ i
-  place = omega arith
+  site : i - detectors_before (detectors_of xs) xs ≡ i
+  site = omega arith
 
   pub deterministic-detector : i < detectors_of xs → parity_deterministic n (detectors_of xs) i xs ≡ is_deterministic n asks_nothing (steps_before_detector i xs) (named_by i xs)
   deterministic-detector lt =
       (λ t. kept-detector n (detectors_of xs) i xs lt (omega arith) t && diagonal (region-detector n (detectors_of xs) i xs lt (omega arith) t).string.letters)
-      ∙ ap (λ d. is_deterministic n asks_nothing (steps_before_detector d xs) (named_by d xs)) place
+      ∙ ap (λ d. is_deterministic n asks_nothing (steps_before_detector d xs) (named_by d xs)) site
 
   pub value-detector : i < detectors_of xs → parity_bit n (detectors_of xs) i xs ≡ deterministic_bit n asks_nothing (steps_before_detector i xs) (named_by i xs)
   value-detector lt =
-      ap (λ r. r.string.negative) (region-detector n (detectors_of xs) i xs lt (omega arith)) ∙ ap (λ d. (region_of_detector n d xs).string.negative) place
+      ap (λ r. r.string.negative) (region-detector n (detectors_of xs) i xs lt (omega arith)) ∙ ap (λ d. (region_of_detector n d xs).string.negative) site
 
   pub deterministic-observable : detectors_of xs ≤ i → parity_deterministic n (detectors_of xs) i xs ≡ is_deterministic n (asks_observable (i - detectors_of xs)) xs []
   deterministic-observable le =
@@ -68,17 +68,17 @@ module _ (n i : ℕ) (front : List Step) (l : Letter) (q : ℕ) (back : List Ste
   before = omega (arith, detectors_of-append front back)
 
   pub flips-detector : i < detectors_of (front ++ back) → parity_flips n (detectors_of (front ++ back)) i l q back ≡ flips_detector n i front l q back
-  flips-detector lt = by_place (cases_lt i (detectors_of front))
+  flips-detector lt = by_site (cases_lt i (detectors_of front))
     where
       D : ℕ
       D = detectors_of (front ++ back)
 
-      by_place : (i < detectors_of front) ⊎ (detectors_of front ≤ i) → parity_flips n D i l q back ≡ flips_detector n i front l q back
-      by_place (inl less) =
+      by_site : (i < detectors_of front) ⊎ (detectors_of front ≤ i) → parity_flips n D i l q back ≡ flips_detector n i front l q back
+      by_site (inl less) =
           ap (λ r. anticommute (single n q l) r.string) (region-front n D i back lt (omega (arith, less, before)))
           ∙ strings_anticommute-blank_right n (single n q l).letters
           ∙ sym (cond-true (nat_lt i (detectors_of front)) _ _ (lt-ltb i (detectors_of front) less))
-      by_place (inr more) =
+      by_site (inr more) =
           ap (λ r. anticommute (single n q l) r.string) (region-detector n D i back lt (omega (arith, more, before)))
           ∙ ap (λ k. anticommute (single n q l) (region_of_detector n (i - k) back).string) before
           ∙ sym (cond-false (nat_lt i (detectors_of front)) _ _ (le-ltb i (detectors_of front) more))

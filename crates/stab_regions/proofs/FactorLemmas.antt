@@ -125,7 +125,7 @@ flips-more n fs f s distinct =
 
 -- one more factor, which is on none of the qubits of those before it
 
-pub place-distinct : (fs : List Factor) (k : ℕ) (d : Factor) → k < length fs → names_twice fs ≡ false → is_on (get_or fs k d).qubit (take k fs) ≡ false
-place-distinct fs k d lt e =
+pub site-distinct : (fs : List Factor) (k : ℕ) (d : Factor) → k < length fs → names_twice fs ≡ false → is_on (get_or fs k d).qubit (take k fs) ≡ false
+site-distinct fs k d lt e =
     front-distinct (take k fs) (get_or fs k d) (drop (suc k) fs)
     (ap (λ rest. names_twice (take k fs ++ rest)) (sym (drop-cons fs k d lt)) ∙ ap names_twice (take-append-drop k fs) ∙ e)

@@ -1,5 +1,5 @@
 -- Faults and bits: what is proved of what is asked for, of detectors and of observables, said of the bits of a run by their numbers.
-use Rattle.stab_regions.proofs.Names.{◌≡◌, ℕ, ◌+◌, ◌-◌, ◌<◌, ◌≤◌, ◌⊎◌, inl, inr, ◌↔◌, sym, ◌∙◌, ap, subst, arith, Bool, true, List, [], ◌++◌, take, drop, cases_lt, Letter, ◌⊕◌, parity-comm, parity-twice, Step, unroll, observables_of, detectors_of, single, all_coins_of, all_flipped_coins, origin, RunsArePointsWithOutputs, StepFits, asks_nothing, asks_observable, is_deterministic, deterministic_bit, bit_asked, with_fault, flipped_with, steps_before_detector, named_by, parity_deterministic, parity_bit, parity_flips, bit, DeterministicParities, DeterministicParityBits, DiffersAsFound, FaultsFlipParities, PlacesFlipDeterministicParities}
+use Rattle.stab_regions.proofs.Names.{◌≡◌, ℕ, ◌+◌, ◌-◌, ◌<◌, ◌≤◌, ◌⊎◌, inl, inr, ◌↔◌, sym, ◌∙◌, ap, subst, arith, Bool, true, List, [], ◌++◌, take, drop, cases_lt, Letter, ◌⊕◌, parity-comm, parity-twice, Step, unroll, observables_of, detectors_of, single, all_coins_of, all_flipped_coins, origin, RunsArePointsWithOutputs, StepFits, asks_nothing, asks_observable, is_deterministic, deterministic_bit, bit_asked, with_fault, flipped_with, steps_before_detector, named_by, parity_deterministic, parity_bit, parity_flips, bit, DeterministicParities, DeterministicParityBits, DiffersAsFound, FaultsFlipParities, SitesFlipDeterministicParities}
 use Rattle.std.proofs.Common.{All, take-append-drop}
 use Rattle.stab_regions.proofs.DeterministicLemmas.{deterministic-bits}
 use Rattle.stab_regions.proofs.TouchLemmas.{flipped-twice}
@@ -32,10 +32,10 @@ module _ (law : RunsArePointsWithOutputs) (n count : ℕ) where
   module _ (xs : List Step) (i : ℕ) (fits : All (StepFits n) xs) (lt : i < detectors_of xs + count) where
     -- so is each bit of a run
     asked-bit : AskedBit n count xs i
-    asked-bit = by_place (cases_lt i (detectors_of xs))
+    asked-bit = by_site (cases_lt i (detectors_of xs))
       where
-        by_place : (i < detectors_of xs) ⊎ (detectors_of xs ≤ i) → AskedBit n count xs i
-        by_place (inl less) = record {
+        by_site : (i < detectors_of xs) ⊎ (detectors_of xs ≤ i) → AskedBit n count xs i
+        by_site (inl less) = record {
           asked = asks_nothing;
           front = steps_before_detector i xs;
           looks = named_by i xs;
@@ -44,7 +44,7 @@ module _ (law : RunsArePointsWithOutputs) (n count : ℕ) where
           deterministic = deterministic-detector n i xs less;
           value = value-detector n i xs less;
         }
-        by_place (inr more) = record {
+        by_site (inr more) = record {
           asked = asks_observable (i - detectors_of xs);
           front = xs;
           looks = [];
@@ -107,7 +107,7 @@ module _ (law : RunsArePointsWithOutputs) (n count : ℕ) where
     module _ (lt_q : q < n) (fits : All (StepFits n) (front ++ back)) (lt : i < D + count) where
       -- so it does with the coins that are flipped with the letter
       pub any-flips : (coins : ℕ → Bool) → Flips coins (flipped_with n front l q back coins)
-      any-flips coins = by_place (cases_lt i D)
+      any-flips coins = by_site (cases_lt i D)
         where
           ff : All (StepFits n) front
           ff = fits-front n front back fits
@@ -115,10 +115,10 @@ module _ (law : RunsArePointsWithOutputs) (n count : ℕ) where
           fb : All (StepFits n) back
           fb = fits-back n front back fits
 
-          by_place : (i < D) ⊎ (D ≤ i) → Flips coins (flipped_with n front l q back coins)
-          by_place (inl less) =
+          by_site : (i < D) ⊎ (D ≤ i) → Flips coins (flipped_with n front l q back coins)
+          by_site (inl less) =
               detector-flips coins (flipped_with n front l q back coins) less (faults-flip-detectors law n front back l q count i lt_q ff fb less coins)
-          by_place (inr more) =
+          by_site (inr more) =
               observable-flips coins (flipped_with n front l q back coins) more
               (faults-flip-observables law n front back l q count (i - D) lt_q ff fb (omega (arith, lt, more)) coins)
 
@@ -155,7 +155,7 @@ faults-flip-parities law n count front l q back i lt_q fits lt = record {
   any = any-flips law n count front l q back i lt_q fits lt;
 }
 
-pub places-flip-deterministic-parities : RunsArePointsWithOutputs → PlacesFlipDeterministicParities
-places-flip-deterministic-parities law n items i f fits lt lt_q deterministic coins =
+pub sites-flip-deterministic-parities : RunsArePointsWithOutputs → SitesFlipDeterministicParities
+sites-flip-deterministic-parities law n items i f fits lt lt_q deterministic coins =
     let xs : List Step = unroll items in
     steps-flip law n (observables_of items) (take f.before xs) f.letter f.qubit (drop f.before xs) i xs (sym (take-append-drop f.before xs)) fits lt lt_q deterministic coins coins

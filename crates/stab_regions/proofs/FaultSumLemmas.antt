@@ -1,5 +1,5 @@
 -- Sums of rows: faults of a table flip a deterministic bit together if an odd number of their rows name it.
-use Rattle.stab_regions.proofs.Names.{◌≡◌, ℕ, zero, suc, ◌+◌, ◌<◌, ◌≤◌, ◌⊎◌, inl, inr, refl, sym, ap, ◌∙◌, Bool, true, false, List, [], ◌∷◌, map, length, arith, All, ◌==◌, slice_index_or, if◌then◌else◌, flat_map, cases_eq, eq-eqb, get_or-map, length-map, All-nil, All-cons, All-head, All-tail, All-append, All-get_or, All-map, All-weaker, ◌⊕◌, parity-false, Items, Step, unroll, StepFits, odd, row, Site, FaultPlace, in_front, fault_on, faults_on, faults_from, faults_of, sites_at, numbers_where, bits_in, IsDeterministic, IsFaultTable, flips, flipped, fault_at, RowsAdd, FaultFits, flips_together, FaultsAdd, odd-append}
+use Rattle.stab_regions.proofs.Names.{◌≡◌, ℕ, zero, suc, ◌+◌, ◌<◌, ◌≤◌, ◌⊎◌, inl, inr, refl, sym, ap, ◌∙◌, Bool, true, false, List, [], ◌∷◌, map, length, arith, All, ◌==◌, slice_index_or, if◌then◌else◌, flat_map, cases_eq, eq-eqb, get_or-map, length-map, All-nil, All-cons, All-head, All-tail, All-append, All-get_or, All-map, All-weaker, ◌⊕◌, parity-false, Items, Step, unroll, StepFits, odd, row, Site, FaultPlace, in_front, fault_on, faults_on, faults_from, faults_of, sites_at, numbers_where, bits_in, IsDeterministic, IsFaultTable, flips, flipped_by_fault, fault_at, RowsAdd, FaultFits, flips_together, FaultsAdd, odd-append}
 use Rattle.std.specs.Prelude.{◌&&◌}
 use Rattle.std.proofs.lemmas.Bool.{ne_eqb}
 use Rattle.stab_gates.specs.declared.letter.Letter.TheVariants as letter
@@ -79,7 +79,7 @@ module _ (n : ℕ) (everywhere : Bool) (items : Items) (deterministic : List Boo
   faults = faults_of everywhere (unroll items)
 
   as-many : length rows ≡ length faults
-  as-many = ap length (table.are_flipped (λ t. false)) ∙ length-map faults (flipped n items deterministic (λ t. false))
+  as-many = ap length (table.are_flipped (λ t. false)) ∙ length-map faults (flipped_by_fault n items deterministic (λ t. false))
 
   all-fit : (numbers : List ℕ) → All (λ k. k < length rows) numbers → All (FaultFits n (unroll items)) (map (fault_at everywhere (unroll items)) numbers)
   all-fit numbers within =
@@ -92,9 +92,9 @@ module _ (n : ℕ) (everywhere : Bool) (items : Items) (deterministic : List Boo
     pub row-names : (k : ℕ) → k < length rows → flips n items coins (fault_at everywhere (unroll items) k) i ≡ odd i (row rows k)
     row-names k within =
         let f : FaultPlace = fault_at everywhere (unroll items) k in
-        let is_row : row rows k ≡ flipped n items deterministic coins f =
+        let is_row : row rows k ≡ flipped_by_fault n items deterministic coins f =
         ap (λ rs. row rs k) (table.are_flipped coins)
-        ∙ get_or-map (flipped n items deterministic coins) faults k (fault_on 0 (in_front 0) letter.X) [] (omega (arith, within, as-many)) in
+        ∙ get_or-map (flipped_by_fault n items deterministic coins) faults k (fault_on 0 (in_front 0) letter.X) [] (omega (arith, within, as-many)) in
         let is_deterministic : slice_index_or deterministic i false ≡ true = (table.are_deterministic.exact i lt).1 same in
         sym (ap (odd i) is_row ∙ odd-where (λ m. slice_index_or deterministic m false && flips n items coins f m) 0 (bits_in items) i (omega arith) (omega (arith, lt))
         ∙ ap (λ b. b && flips n items coins f i) is_deterministic)

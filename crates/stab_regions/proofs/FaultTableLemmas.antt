@@ -1,5 +1,5 @@
 -- Fault tables: bits that the pass finds deterministic are so, and its rows, of which these bits are kept, are those that faults flip.
-use Rattle.stab_regions.proofs.Names.{◌≡◌, ℕ, ◌+◌, ◌<◌, refl, sym, ap, ◌∙◌, subst, Bool, true, false, List, [], ◌∷◌, map, length, reverse, arith, All, slice_index_or, reverse_aux, All-head, All-tail, Items, Step, unroll, observables_of, detectors_of, StepFits, odd, parity_deterministic, Site, FaultPlace, faults_of, sites_at, bits_in, IsDeterministic, AreDeterministic, flips, flipped, DeterministicParities, PlacesFlipDeterministicParities, Regions, is_kept, kept_of, IsRegionsAt, DetermineDeterministic, Inserted, inserted_from, IsRowOf, HaveRows, zero-add, range_with_len, length-map-range_with_len, get_or-map-range_with_len}
+use Rattle.stab_regions.proofs.Names.{◌≡◌, ℕ, ◌+◌, ◌<◌, refl, sym, ap, ◌∙◌, subst, Bool, true, false, List, [], ◌∷◌, map, length, reverse, arith, All, slice_index_or, reverse_aux, All-head, All-tail, Items, Step, unroll, observables_of, detectors_of, StepFits, odd, parity_deterministic, Site, FaultPlace, faults_of, sites_at, bits_in, IsDeterministic, AreDeterministic, flips, flipped_by_fault, DeterministicParities, SitesFlipDeterministicParities, Regions, is_kept, kept_of, IsRegionsAt, DetermineDeterministic, Inserted, inserted_from, IsRowOf, HaveRows, zero-add, range_with_len, length-map-range_with_len, get_or-map-range_with_len}
 use Rattle.std.specs.Prelude.{◌&&◌, ◌↔◌}
 use Rattle.stab_regions.proofs.AscentLemmas.{ascends-below, ascending-is, kept-where, where-same}
 use Rattle.stab_regions.proofs.InsertedLemmas.{inserted_of, inserted-are, inserted-same, faults-within}
@@ -37,16 +37,16 @@ and-same : (b x y : Bool) → (b ≡ true → x ≡ y) → (b && x) ≡ (b && y)
 and-same true x y same = same refl
 and-same false x y same = refl
 
-named-same : (n : ℕ) (items : Items) (deterministic : List Bool) (coins : ℕ → Bool) (f : FaultPlace) (row : List ℕ) → PlacesFlipDeterministicParities → All (StepFits n) (unroll items) →
+named-same : (n : ℕ) (items : Items) (deterministic : List Bool) (coins : ℕ → Bool) (f : FaultPlace) (row : List ℕ) → SitesFlipDeterministicParities → All (StepFits n) (unroll items) →
     AreFound n items deterministic → f.qubit < n → IsRowOf n (detectors_of (unroll items)) (observables_of items) (inserted_of (unroll items) f) row →
     (m : ℕ) → m < bits_in items → (is_kept deterministic m && odd m row) ≡ (is_kept deterministic m && flips n items coins f m)
 named-same n items deterministic coins f row law fits found lt r m inside =
     and-same (is_kept deterministic m) (odd m row) (flips n items coins f m)
     (λ kept. r.value m inside ∙ sym (law n items m f fits inside lt (sym (found m inside) ∙ kept) coins))
 
-row-flips : (n : ℕ) (items : Items) (deterministic : List Bool) (coins : ℕ → Bool) (f : FaultPlace) (row : List ℕ) → PlacesFlipDeterministicParities → All (StepFits n) (unroll items) →
+row-flips : (n : ℕ) (items : Items) (deterministic : List Bool) (coins : ℕ → Bool) (f : FaultPlace) (row : List ℕ) → SitesFlipDeterministicParities → All (StepFits n) (unroll items) →
     AreFound n items deterministic → f.qubit < n → IsRowOf n (detectors_of (unroll items)) (observables_of items) (inserted_of (unroll items) f) row →
-    kept_of deterministic row ≡ flipped n items deterministic coins f
+    kept_of deterministic row ≡ flipped_by_fault n items deterministic coins f
 row-flips n items deterministic coins f row law fits found lt r =
     ap (kept_of deterministic) (ascending-is (bits_in items) 0 row (ascends-below 0 (0 + bits_in items) row r.ascending (λ i ge. r.others i (omega (arith, ge)))))
     ∙ kept-where deterministic (λ m. odd m row) 0 (bits_in items)
@@ -55,10 +55,10 @@ row-flips n items deterministic coins f row law fits found lt r =
 
 -- all rows
 
-rows-flip : (n : ℕ) (items : Items) (deterministic : List Bool) (coins : ℕ → Bool) (fs : List FaultPlace) (rows : List (List ℕ)) → PlacesFlipDeterministicParities →
+rows-flip : (n : ℕ) (items : Items) (deterministic : List Bool) (coins : ℕ → Bool) (fs : List FaultPlace) (rows : List (List ℕ)) → SitesFlipDeterministicParities →
     All (StepFits n) (unroll items) → AreFound n items deterministic → All (λ f. f.qubit < n) fs →
     HaveRows n (detectors_of (unroll items)) (observables_of items) (map (inserted_of (unroll items)) fs) rows →
-    map (kept_of deterministic) rows ≡ map (flipped n items deterministic coins) fs
+    map (kept_of deterministic) rows ≡ map (flipped_by_fault n items deterministic coins) fs
 rows-flip n items deterministic coins [] [] law fits found within have = refl
 rows-flip n items deterministic coins [] (row ∷ rows) law fits found within have = absurd have
 rows-flip n items deterministic coins (f ∷ fs) [] law fits found within have = absurd have
@@ -67,9 +67,9 @@ rows-flip n items deterministic coins (f ∷ fs) (row ∷ rows) law fits found w
     ∷ rows-flip n items deterministic coins fs rows law fits found (All-tail (λ f. f.qubit < n) f fs within) have.1 i)
 
 pub table-flips : (n : ℕ) (everywhere : Bool) (items : Items) (deterministic : List Bool) (coins : ℕ → Bool) (sites : Step → List Site) (rows : List (List ℕ)) →
-    PlacesFlipDeterministicParities → All (StepFits n) (unroll items) → AreFound n items deterministic → ((x : Step) → sites x ≡ sites_at everywhere x) →
+    SitesFlipDeterministicParities → All (StepFits n) (unroll items) → AreFound n items deterministic → ((x : Step) → sites x ≡ sites_at everywhere x) →
     HaveRows n (detectors_of (unroll items)) (observables_of items) (inserted_from sites (unroll items)) rows →
-    map (kept_of deterministic) rows ≡ map (flipped n items deterministic coins) (faults_of everywhere (unroll items))
+    map (kept_of deterministic) rows ≡ map (flipped_by_fault n items deterministic coins) (faults_of everywhere (unroll items))
 table-flips n everywhere items deterministic coins sites rows law fits found same have =
     rows-flip n items deterministic coins (faults_of everywhere (unroll items)) rows law fits found (faults-within n everywhere 0 (unroll items) fits)
     (subst (λ (fs : List Inserted). HaveRows n (detectors_of (unroll items)) (observables_of items) fs rows)

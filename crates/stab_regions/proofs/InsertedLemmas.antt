@@ -82,16 +82,16 @@ rows-asked n D count q false back others by_x by_z old new e r is o = cc
 abbrev pub inserted_of : List Step → FaultPlace → Inserted
 inserted_of xs f = record { letter = f.letter; qubit = f.qubit; back = drop f.before xs }
 
-places-on : (xs back : List Step) (x : Step) (t q : ℕ) (b : Bool) → drop t xs ≡ x ∷ back → drop (t + 1) xs ≡ back →
+sites-on : (xs back : List Step) (x : Step) (t q : ℕ) (b : Bool) → drop t xs ≡ x ∷ back → drop (t + 1) xs ≡ back →
     inserted_on q (if b then back else x ∷ back) ≡ map (inserted_of xs) (faults_on t (record { qubit = q; following = b }))
-places-on xs back x t q true here there = ap (inserted_on q) (sym there)
-places-on xs back x t q false here there = ap (inserted_on q) (sym here)
+sites-on xs back x t q true here there = ap (inserted_on q) (sym there)
+sites-on xs back x t q false here there = ap (inserted_on q) (sym here)
 
-places-at : (xs back : List Step) (x : Step) (t : ℕ) (ss : List Site) → drop t xs ≡ x ∷ back → drop (t + 1) xs ≡ back →
+sites-at : (xs back : List Step) (x : Step) (t : ℕ) (ss : List Site) → drop t xs ≡ x ∷ back → drop (t + 1) xs ≡ back →
     flat_map (inserted_at x back) ss ≡ map (inserted_of xs) (flat_map (faults_on t) ss)
-places-at xs back x t [] here there = refl
-places-at xs back x t (s ∷ ss) here there =
-    (λ i. places-on xs back x t s.qubit s.following here there i ++ places-at xs back x t ss here there i)
+sites-at xs back x t [] here there = refl
+sites-at xs back x t (s ∷ ss) here there =
+    (λ i. sites-on xs back x t s.qubit s.following here there i ++ sites-at xs back x t ss here there i)
     ∙ sym (map-append (inserted_of xs) (faults_on t s) (flat_map (faults_on t) ss))
 
 pub inserted-are : (everywhere : Bool) (xs ys : List Step) (t : ℕ) → drop t xs ≡ ys →
@@ -99,7 +99,7 @@ pub inserted-are : (everywhere : Bool) (xs ys : List Step) (t : ℕ) → drop t 
 inserted-are everywhere xs [] t here = refl
 inserted-are everywhere xs (x ∷ back) t here =
     let there : drop (t + 1) xs ≡ back = sym (drop-drop 1 t xs) ∙ ap (drop 1) here in
-    (λ i. places-at xs back x t (sites_at everywhere x) here there i ++ inserted-are everywhere xs back (t + 1) there i)
+    (λ i. sites-at xs back x t (sites_at everywhere x) here there i ++ inserted-are everywhere xs back (t + 1) there i)
     ∙ sym (map-append (inserted_of xs) (flat_map (faults_on t) (sites_at everywhere x)) (faults_from everywhere (t + 1) back))
 
 pub inserted-same : (sites others : Step → List Site) (xs : List Step) → ((x : Step) → sites x ≡ others x) → inserted_from sites xs ≡ inserted_from others xs

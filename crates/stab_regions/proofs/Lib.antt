@@ -34,3 +34,10 @@ mod ManyFaultLemmas
 pub mod NegatedLemmas
 pub mod PassLemmas
 pub mod FaultSumLemmas
+mod LeftLemmas
+mod EffectLemmas
+mod NumberLemmas
+pub mod EffectRowLemmas
+mod EffectMoveLemmas
+mod EffectSweepLemmas
+mod SiteRowLemmas

@@ -90,14 +90,14 @@ module _ (law : RunsArePointsWithOutputs) (n count i : ℕ) (front : List Step) 
     -- one fault more, which may be in front of the place
     one-fault-more : (f : FaultPlace) (fs : List FaultPlace) → FaultFits n (front ++ back) f → Alike n count i front l q back (with_gates_from t fs back)
         → Alike n count i front l q back (with_gates_from t (f ∷ fs) back)
-    one-fault-more f fs fit a = by_place (cases_lt f.before t)
+    one-fault-more f fs fit a = by_site (cases_lt f.before t)
       where
         k : ℕ
         k = f.before - t
 
-        by_place : (f.before < t) ⊎ (t ≤ f.before) → Alike n count i front l q back (with_gates_from t (f ∷ fs) back)
-        by_place (inl less) = subst (Alike n count i front l q back) (sym (gone-following f fs t back less)) a
-        by_place (inr more) =
+        by_site : (f.before < t) ⊎ (t ≤ f.before) → Alike n count i front l q back (with_gates_from t (f ∷ fs) back)
+        by_site (inl less) = subst (Alike n count i front l q back) (sym (gone-following f fs t back less)) a
+        by_site (inr more) =
             let within : k ≤ length back = omega (arith, more, fit.before, long, length-append front back) in
             let there : f.before ≡ t + length (take k back) = omega (arith, more, length-take-le k back within) in
             let mid : List Step = front_with t fs (take k back) in

@@ -69,16 +69,16 @@ region_where n D i back b c =
     else region_through n (asks_observable (i - D)) back (region_of n [])
 
 pub long-parity : (n D i : ℕ) (back : List Step) → length (parity_region n D i back).string.letters ≡ n
-long-parity n D i back = by_place (nat_lt i D) (nat_lt i (detectors_before D back))
+long-parity n D i back = by_site (nat_lt i D) (nat_lt i (detectors_before D back))
   where
     none : (ks : List ℕ) → length (region_of n ks).string.letters ≡ n
     none ks = length-replicate n I
 
-    by_place : (b c : Bool) → length (region_where n D i back b c).string.letters ≡ n
-    by_place true true = none []
-    by_place true false =
+    by_site : (b c : Bool) → length (region_where n D i back b c).string.letters ≡ n
+    by_site true true = none []
+    by_site true false =
         size-through n asks_nothing (steps_before_detector (i - detectors_before D back) back) (region_of n (named_by (i - detectors_before D back) back)) (none (named_by (i - detectors_before D back) back))
-    by_place false c = size-through n (asks_observable (i - D)) back (region_of n []) (none [])
+    by_site false c = size-through n (asks_observable (i - D)) back (region_of n []) (none [])
 
 -- none of the observables that are counted is beyond them
 beyond : (D count before i : ℕ) (x : Step) (r : Regions) → r.detectors ≡ D → length r.random.items ≡ D + count → D + count ≤ i → HasParity r x

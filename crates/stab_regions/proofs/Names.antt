@@ -60,8 +60,8 @@ pub use Rattle.stab_tableau.specs.Gates.{letter_at, letter_image, inverse, back,
 pub use Rattle.stab_tableau.specs.Groups.{IsStabiliserGroup}
 pub use Rattle.stab_tableau.specs.Traces.{diagonal, Event, applied, applied_pair, projected, member, outcome}
 pub use mathlib.Core.List.{reverse_aux}
-pub use Rattle.stab_regions.specs.FaultLaws.{DeterministicParities, DeterministicParityBits, with_fault, DiffersAsFound, FaultsFlipParities, PlacesFlipDeterministicParities, FaultFits, flips_together, FaultsAdd}
-pub use Rattle.stab_regions.specs.Faults.{numbers_where, bit, Site, FaultPlace, in_front, fault_on, faults_on, faults_from, faults_of, sites_at, bits_in, IsDeterministic, IsFaultTable, flips, flipped, fault_at, RowsAdd, AreDeterministic, with_gate, gates_at, with_gates_from, with_gates, following, marked_at, all_at}
+pub use Rattle.stab_regions.specs.FaultLaws.{DeterministicParities, DeterministicParityBits, with_fault, DiffersAsFound, FaultsFlipParities, SitesFlipDeterministicParities, FaultFits, flips_together, FaultsAdd}
+pub use Rattle.stab_regions.specs.Faults.{numbers_where, bit, Site, FaultPlace, in_front, fault_on, faults_on, faults_from, faults_of, sites_at, bits_in, IsDeterministic, IsFaultTable, flips, flipped_by_fault, fault_at, RowsAdd, AreDeterministic, with_gate, gates_at, with_gates_from, with_gates, following, marked_at, all_at}
 pub use Rattle.stab_regions.specs.Frames.{Frame, frame_after, flipped_coins, all_flipped_coins, flipped_from, flipped_with}
 pub use Rattle.stab_regions.specs.Laws.{bit_asked, DeterministicBits, RandomBits}
 pub use Rattle.stab_regions.specs.Parities.{detectors_before, parity_region, parity_kept, parity_deterministic, parity_bit, parity_flips}

@@ -3,19 +3,19 @@ use Rattle.stab_regions.proofs.Names.{◌≡◌, ℕ, ◌<◌, refl, sym, ◌∙
 use Rattle.std.proofs.Common.{◌==◌, replicate, eq-eqb}
 
 -- a bit that is added to an observable counts for that one alone
-added-bit : (i j : ℕ) (records : List Bool) (ks : List ℕ) (bits : List Bool) → j < length bits
+pub added-bit : (i j : ℕ) (records : List Bool) (ks : List ℕ) (bits : List Bool) → j < length bits
     → slice_index_or (added i (parity records ks) bits) j false ≡ slice_index_or bits j false ⊕ parity records (asks_observable j (observable i ks))
-added-bit i j records ks bits lt = by_place (i == j) refl
+added-bit i j records ks bits lt = by_site (i == j) refl
   where
-    by_place : (b : Bool) → (i == j) ≡ b
+    by_site : (b : Bool) → (i == j) ≡ b
         → slice_index_or (added i (parity records ks) bits) j false ≡ slice_index_or bits j false ⊕ parity records (if i == j then ks else [])
-    by_place true e =
+    by_site true e =
         let same : i ≡ j = eqb-true i j e in
         ap (λ k. slice_index_or (added i (parity records ks) bits) k false) (sym same)
         ∙ get_or-set_same bits i (parity records ks ⊕ slice_index_or bits i false) false (omega (arith, lt, same))
         ∙ parity-comm (parity records ks) (slice_index_or bits i false)
         ∙ (λ t. slice_index_or bits (same t) false ⊕ parity records (if sym e t then ks else []))
-    by_place false e =
+    by_site false e =
         get_or-set_other bits i j (parity records ks ⊕ slice_index_or bits i false) false (λ h. not_both (i == j) e (eq-eqb i j (sym h)))
         ∙ sym (parity-false (slice_index_or bits j false))
         ∙ ap (λ b. slice_index_or bits j false ⊕ parity records (if b then ks else [])) (sym e)

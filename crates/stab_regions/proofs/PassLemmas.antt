@@ -74,12 +74,12 @@ module _ (n D i : ℕ) where
 
   -- after all steps it flips nothing
   pub end-flips : (k : Letter) (p : ℕ) → parity_flips n D i k p [] ≡ false
-  end-flips k p = by_place (nat_lt i D) (nat_lt i (detectors_before D []))
+  end-flips k p = by_site (nat_lt i D) (nat_lt i (detectors_before D []))
     where
-      by_place : (b c : Bool) → anticommute (single n p k) (region_where n D i [] b c).string ≡ false
-      by_place true true = strings_anticommute-blank_right n (single n p k).letters
-      by_place true false = strings_anticommute-blank_right n (single n p k).letters
-      by_place false c = strings_anticommute-blank_right n (single n p k).letters
+      by_site : (b c : Bool) → anticommute (single n p k) (region_where n D i [] b c).string ≡ false
+      by_site true true = strings_anticommute-blank_right n (single n p k).letters
+      by_site true false = strings_anticommute-blank_right n (single n p k).letters
+      by_site false c = strings_anticommute-blank_right n (single n p k).letters
 
   module _ (back : List Step) where
     abbrev letters : List Letter

@@ -36,23 +36,23 @@ row-none (suc n) zero = refl
 row-none (suc n) (suc q) = row-none n q
 
 end-region : (n D i : ℕ) → parity_region n D i [] ≡ region_of n []
-end-region n D i = by_place (nat_lt i D) (nat_lt i (detectors_before D []))
+end-region n D i = by_site (nat_lt i D) (nat_lt i (detectors_before D []))
   where
-    by_place : (b c : Bool) → region_where n D i [] b c ≡ region_of n []
-    by_place true true = refl
-    by_place true false = refl
-    by_place false c = refl
+    by_site : (b c : Bool) → region_where n D i [] b c ≡ region_of n []
+    by_site true true = refl
+    by_site true false = refl
+    by_site false c = refl
 
 end-kept : (n D i : ℕ) → parity_kept n D i [] ≡ true
-end-kept n D i = by_place (nat_lt i D) (nat_lt i (detectors_before D []))
+end-kept n D i = by_site (nat_lt i D) (nat_lt i (detectors_before D []))
   where
-    by_place : (b c : Bool)
+    by_site : (b c : Bool)
         → (if b then (if c then true else keep_region n asks_nothing (steps_before_detector (i - detectors_before D []) []) (region_of n (named_by (i - detectors_before D []) [])))
         else keep_region n (asks_observable (i - D)) [] (region_of n []))
         ≡ true
-    by_place true true = refl
-    by_place true false = refl
-    by_place false c = refl
+    by_site true true = refl
+    by_site true false = refl
+    by_site false c = refl
 
 end-shown : (n i : ℕ) (by_x by_z records : List (List ℕ)) → by_x ≡ replicate n [] → by_z ≡ replicate n [] → records ≡ []
     → ShowsRegion i by_x by_z records (region_of n [])

@@ -63,30 +63,30 @@ module _ (law : RunsArePointsWithOutputs) (n : ℕ) (front back : List Step) (l 
     ks = named_by d back
 
     -- its number among all
-    abbrev place : ℕ
-    place = detectors_of front + d
+    abbrev site : ℕ
+    site = detectors_of front + d
 
     -- its bit is asked for after these
-    bit-following : (coins : ℕ → Bool) → detector_bit n coins (front ++ back) count place ≡ bit_asked n coins asks_nothing (front ++ ys) ks origin
+    bit-following : (coins : ℕ → Bool) → detector_bit n coins (front ++ back) count site ≡ bit_asked n coins asks_nothing (front ++ ys) ks origin
     bit-following coins =
         let there = stands-following d front back in
-        detector-bit law n coins (front ++ back) count place (omega (arith, lt, detectors_of-append front back))
+        detector-bit law n coins (front ++ back) count site (omega (arith, lt, detectors_of-append front back))
         ∙ (λ i. bit_asked n coins asks_nothing (there.0 i) (there.1 i) origin)
 
     -- and with the letter after these and the letter
-    fault-following : (coins : ℕ → Bool) → detector_bit n coins (with_fault front l q back) count place ≡ bit_asked n coins asks_nothing (with_fault front l q ys) ks origin
+    fault-following : (coins : ℕ → Bool) → detector_bit n coins (with_fault front l q back) count site ≡ bit_asked n coins asks_nothing (with_fault front l q ys) ks origin
     fault-following coins =
         let letter : Step = one (gate_of l) q in
         let there = stands-following d front (letter ∷ back) in
-        detector-bit law n coins (with_fault front l q back) count place (omega (arith, lt, detectors_of-append front (letter ∷ back), count-other letter back refl))
+        detector-bit law n coins (with_fault front l q back) count site (omega (arith, lt, detectors_of-append front (letter ∷ back), count-other letter back refl))
         ∙ (λ i. bit_asked n coins asks_nothing (there.0 i) (there.1 i) origin)
         ∙ (λ i. bit_asked n coins asks_nothing (front ++ before-other letter back d refl i) (named-other letter back d refl i) origin)
 
     -- the table says what the region says
-    flips-asked : flips_detector n place front l q back ≡ flips_asked n asks_nothing l q ys ks
+    flips-asked : flips_detector n site front l q back ≡ flips_asked n asks_nothing l q ys ks
     flips-asked =
-        ap (λ b. if b then false else anticommute (single n q l) (region_of_detector n (place - detectors_of front) back).string)
-        (le-ltb place (detectors_of front) (omega arith))
+        ap (λ b. if b then false else anticommute (single n q l) (region_of_detector n (site - detectors_of front) back).string)
+        (le-ltb site (detectors_of front) (omega arith))
         ∙ ap (λ k. anticommute (single n q l) (region_of_detector n k back).string) (omega arith)
 
     -- the steps before it fit
@@ -94,7 +94,7 @@ module _ (law : RunsArePointsWithOutputs) (n : ℕ) (front back : List Step) (l 
     fits-following = fits-before n d back fb
 
     -- so the law holds of it
-    flips-following : FlipsDetector n front l q back count place
+    flips-following : FlipsDetector n front l q back count site
     flips-following coins =
         let others : ℕ → Bool = flipped_with n front l q back coins in
         fault-following others
@@ -111,11 +111,11 @@ module _ (law : RunsArePointsWithOutputs) (n : ℕ) (front back : List Step) (l 
 -- the law of letters and detectors
 pub faults-flip-detectors : RunsArePointsWithOutputs → (n : ℕ) (front back : List Step) (l : Letter) (q count d : ℕ) → q < n → All (StepFits n) front → All (StepFits n) back
     → d < detectors_of (front ++ back) → FlipsDetector n front l q back count d
-faults-flip-detectors law n front back l q count d lt_q ff fb lt = by_place (cases_lt d (detectors_of front))
+faults-flip-detectors law n front back l q count d lt_q ff fb lt = by_site (cases_lt d (detectors_of front))
   where
-    by_place : (d < detectors_of front) ⊎ (detectors_of front ≤ d) → FlipsDetector n front l q back count d
-    by_place (inl less) = flips-first law n front back l q count lt_q ff fb d less
-    by_place (inr more) =
+    by_site : (d < detectors_of front) ⊎ (detectors_of front ≤ d) → FlipsDetector n front l q back count d
+    by_site (inl less) = flips-first law n front back l q count lt_q ff fb d less
+    by_site (inr more) =
         subst (FlipsDetector n front l q back count) (omega (arith, more))
         (flips-following law n front back l q count lt_q ff fb (d - detectors_of front) (omega (arith, lt, more, detectors_of-append front back)))
 

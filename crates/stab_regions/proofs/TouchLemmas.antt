@@ -108,10 +108,10 @@ module _ (n : ℕ) (coins others : ℕ → Bool) where
   flips-following : (from : ℕ) (front bits : List Bool) → FlipsCoins from (front ++ bits) coins others → FlipsCoins (from + length front) bits coins others
   flips-following from front bits flips t =
       ap others (omega arith) ∙ flips (length front + t)
-      ∙ (λ i. coins (place i) ⊕ get_or-append-add front bits t false i)
+      ∙ (λ i. coins (site i) ⊕ get_or-append-add front bits t false i)
     where
-      place : from + (length front + t) ≡ (from + length front) + t
-      place = omega arith
+      site : from + (length front + t) ≡ (from + length front) + t
+      site = omega arith
 
   -- the bit that is asked for
   pub touched-bit : (asked : Step → List ℕ) (ks : List ℕ) (xs : List Step) (f : Frame) (p moved : Point) → All (StepFits n) xs → length f.string.letters ≡ n

@@ -44,8 +44,8 @@ FaultsFlipParities =
     i < detectors_of (front ++ back) + count → FlipsParity n count front l q back i
 
 -- the fault at a place flips a bit that is found deterministic if and only if the pass says so, for all random bits
-abbrev pub PlacesFlipDeterministicParities : Type 0
-PlacesFlipDeterministicParities =
+abbrev pub SitesFlipDeterministicParities : Type 0
+SitesFlipDeterministicParities =
     (n : ℕ) (items : Items) (i : ℕ) (f : FaultPlace) → All (StepFits n) (unroll items) → i < bits_in items → f.qubit < n →
     parity_deterministic n (detectors_of (unroll items)) i (unroll items) ≡ true → (coins : ℕ → Bool) →
     flips n items coins f i ≡ parity_flips n (detectors_of (unroll items)) i f.letter f.qubit (drop f.before (unroll items))

@@ -84,11 +84,11 @@ abbrev pub with_gates : List FaultPlace → List Step → List Step
 with_gates faults xs = with_gates_from 0 faults xs
 
 -- the detectors and then the observables that a run of steps gives, with this many observables
-abbrev pub bits_of : State → List Bool
-bits_of s = s.detectors ++ s.observables
+abbrev pub parities_of : State → List Bool
+parities_of s = s.detectors ++ s.observables
 
 abbrev pub bit : (n count : ℕ) → (ℕ → Bool) → List Step → ℕ → Bool
-bit n count coins xs i = slice_index_or (bits_of (run n coins xs (start count))) i false
+bit n count coins xs i = slice_index_or (parities_of (run n coins xs (start count))) i false
 
 -- how many bits there are: that of all detectors and observables
 abbrev pub bits_in : Items → ℕ
@@ -113,13 +113,13 @@ numbers_where f i zero = []
 numbers_where f i (suc k) = if f i then i ∷ numbers_where f (i + 1) k else numbers_where f (i + 1) k
 
 -- the deterministic bits that a fault flips, by their numbers, ascending
-abbrev pub flipped : (n : ℕ) → Items → (deterministic : List Bool) → (ℕ → Bool) → FaultPlace → List ℕ
-flipped n items deterministic coins f = numbers_where (λ i. slice_index_or deterministic i false && flips n items coins f i) 0 (bits_in items)
+abbrev pub flipped_by_fault : (n : ℕ) → Items → (deterministic : List Bool) → (ℕ → Bool) → FaultPlace → List ℕ
+flipped_by_fault n items deterministic coins f = numbers_where (λ i. slice_index_or deterministic i false && flips n items coins f i) 0 (bits_in items)
 
 -- a table of faults: which bits are deterministic, and for each fault that is asked for, in order, which of these it flips, for all random bits
 pub record IsFaultTable (n : ℕ) (everywhere : Bool) (items : Items) (deterministic : List Bool) (rows : List (List ℕ)) : Type 0 where
   pub are_deterministic : AreDeterministic n items deterministic
-  pub are_flipped : (coins : ℕ → Bool) → rows ≡ map (flipped n items deterministic coins) (faults_of everywhere (unroll items))
+  pub are_flipped : (coins : ℕ → Bool) → rows ≡ map (flipped_by_fault n items deterministic coins) (faults_of everywhere (unroll items))
 
 -- the fault of a number, of those that are asked for
 abbrev pub fault_at : (everywhere : Bool) → List Step → ℕ → FaultPlace

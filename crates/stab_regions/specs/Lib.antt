@@ -6,5 +6,6 @@ pub mod Tables
 pub mod Parities
 pub mod Faults
 pub mod FaultTables
+pub mod Effects
 pub mod inner
 pub mod FaultLaws

@@ -11,14 +11,14 @@ pub use Rattle.stab_search.specs.Tables.{odd, row}
 use Rattle.stab_regions.specs.Regions.{Region, times_where, region_before}
 
 -- in one row these numbers are named once more, and the other rows stay
-pub record Toggles (old new : List (List ℕ)) (place : ℕ) (numbers : List ℕ) : Type 0 where
-  pub here : (i : ℕ) → odd i (row new place) ≡ odd i (row old place) ⊕ odd i numbers
-  pub elsewhere : (k : ℕ) → k ≢ place → row new k ≡ row old k
+pub record Toggles (old new : List (List ℕ)) (site : ℕ) (numbers : List ℕ) : Type 0 where
+  pub here : (i : ℕ) → odd i (row new site) ≡ odd i (row old site) ⊕ odd i numbers
+  pub elsewhere : (k : ℕ) → k ≢ site → row new k ≡ row old k
 
 -- the same, if the bit is 1; else all rows stay
-pub record TogglesWhere (bit : Bool) (old new : List (List ℕ)) (place : ℕ) (numbers : List ℕ) : Type 0 where
-  pub here : (i : ℕ) → odd i (row new place) ≡ odd i (row old place) ⊕ (bit && odd i numbers)
-  pub elsewhere : (k : ℕ) → k ≢ place → row new k ≡ row old k
+pub record TogglesWhere (bit : Bool) (old new : List (List ℕ)) (site : ℕ) (numbers : List ℕ) : Type 0 where
+  pub here : (i : ℕ) → odd i (row new site) ≡ odd i (row old site) ⊕ (bit && odd i numbers)
+  pub elsewhere : (k : ℕ) → k ≢ site → row new k ≡ row old k
 
 -- the same rows, of which empty ones may be after the others
 abbrev pub SameRows : List (List ℕ) → List (List ℕ) → Type 0

@@ -1,6 +1,6 @@
 //! Laws of faults. Each function does nothing: its contract is the law, and the check proves it.
 
-ghost use Rattle.stab_regions.specs.FaultLaws.{DeterministicParities, DeterministicParityBits, FaultsFlipParities, PlacesFlipDeterministicParities, FaultsAdd};
+ghost use Rattle.stab_regions.specs.FaultLaws.{DeterministicParities, DeterministicParityBits, FaultsFlipParities, SitesFlipDeterministicParities, FaultsAdd};
 
 use stab_run::laws::runs_are_points_with_outputs;
 
@@ -18,7 +18,7 @@ pub fn deterministic_parities()
 /// letter flips are flipped with it; which coins these are is the same for all bits.
 pub fn faults_flip_parities()
     ensures law { FaultsFlipParities }
-    ensures places { PlacesFlipDeterministicParities }
+    ensures sites { SitesFlipDeterministicParities }
 {
     runs_are_points_with_outputs();
 }

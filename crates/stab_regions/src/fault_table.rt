@@ -125,7 +125,7 @@ fn deterministic_of_checked(
 }
 
 /// Where faults are asked for.
-fn asked_for(everywhere: bool) -> Asked
+pub(crate) fn asked_for(everywhere: bool) -> Asked
     ensures value { (x : Step) → sites_asked result x ≡ sites_at everywhere x }
 {
     if everywhere {

@@ -24,6 +24,9 @@
 //! (`specs/inner/RegionsAt.antt`).
 #![tactic(auto)]
 
+mod effect_sweep;
+mod effect_table;
+mod effects;
 pub mod fault_laws;
 mod fault_rows;
 mod fault_table;
@@ -35,8 +38,10 @@ mod parities;
 mod products;
 mod regions;
 mod rows;
+mod site_rows;
 mod sites;
 mod steps;
 mod sweep;
 
+pub use effect_table::{EffectTable, fault_effects};
 pub use fault_table::{FaultTable, deterministic, faults};

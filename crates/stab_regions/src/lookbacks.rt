@@ -19,11 +19,11 @@ pub fn newest(alloc: Global, records: &mut VecDeque<Parities>) -> Parities
 }
 
 /// Adds rows of no parities until there are more than this many.
-fn pad(alloc: Global, records: &mut VecDeque<Parities>, place: usize) -> Result<(), AllocError>
-    ensures enough { OnOk result (place < length records.new.items) }
+fn pad(alloc: Global, records: &mut VecDeque<Parities>, site: usize) -> Result<(), AllocError>
+    ensures enough { OnOk result (site < length records.new.items) }
     ensures same { OnOk result (SameRows records.old.items records.new.items) }
 {
-    'padding: while records.len() <= place {
+    'padding: while records.len() <= site {
         records.push_back(Parities::none(alloc))?;
     }
     Ok(())
@@ -33,16 +33,16 @@ fn pad(alloc: Global, records: &mut VecDeque<Parities>, place: usize) -> Result<
 pub fn look(
     alloc: Global,
     records: &mut VecDeque<Parities>,
-    place: usize,
+    site: usize,
     parities: &Parities,
 ) -> Result<(), AllocError>
-    ensures value { OnOk result (Toggles records.old.items records.new.items place parities.now) }
+    ensures value { OnOk result (Toggles records.old.items records.new.items site parities.now) }
 {
     if parities.is_empty() {
         return Ok(());
     }
-    pad(alloc, records, place)?;
-    records[place] = records[place].merged(alloc, parities)?;
+    pad(alloc, records, site)?;
+    records[site] = records[site].merged(alloc, parities)?;
     Ok(())
 }
 

@@ -3,12 +3,12 @@ ghost use Rattle.stab_search.specs.Ascending.{IsAscending};
 ghost use Rattle.stab_regions.specs.Rows.{odd};
 
 /// Makes a bit 1; a place past the end has none.
-fn set_at(bits: &mut [bool], place: usize)
+fn set_at(bits: &mut [bool], site: usize)
     ensures same_length { length bits.new ≡ length bits.old }
-    ensures value { (i : ℕ) → i < length bits.old → slice_index_or bits.new i false ≡ (nat_eq place i || slice_index_or bits.old i false) }
+    ensures value { (i : ℕ) → i < length bits.old → slice_index_or bits.new i false ≡ (nat_eq site i || slice_index_or bits.old i false) }
 {
-    if place < bits.len() {
-        bits[place] = true;
+    if site < bits.len() {
+        bits[site] = true;
     }
 }
 
@@ -28,7 +28,7 @@ pub fn invert(bits: &mut [bool])
     ensures same_length { length bits.new ≡ length bits.old }
     ensures value { (i : ℕ) → i < length bits.old → slice_index_or bits.new i false ≡ not (slice_index_or bits.old i false) }
 {
-    for place in 0..bits.len() {
-        bits[place] = !bits[place];
+    for site in 0..bits.len() {
+        bits[site] = !bits[site];
     }
 }

@@ -10,17 +10,17 @@ use std::alloc::{AllocError, Global};
 pub fn toggle(
     alloc: Global,
     rows: &mut [Parities],
-    place: usize,
+    site: usize,
     parities: &Parities,
 ) -> Result<(), AllocError>
-    requires in_range { place < length rows.old }
+    requires in_range { site < length rows.old }
     ensures same_length { length rows.new ≡ length rows.old }
-    ensures value { OnOk result (Toggles rows.old rows.new place parities.now) }
+    ensures value { OnOk result (Toggles rows.old rows.new site parities.now) }
 {
     if parities.is_empty() {
         return Ok(());
     }
-    rows[place] = rows[place].merged(alloc, parities)?;
+    rows[site] = rows[site].merged(alloc, parities)?;
     Ok(())
 }
 
@@ -30,15 +30,15 @@ pub fn toggle_if(
     alloc: Global,
     bit: bool,
     rows: &mut [Parities],
-    place: usize,
+    site: usize,
     parities: &Parities,
 ) -> Result<(), AllocError>
-    requires in_range { place < length rows.old }
+    requires in_range { site < length rows.old }
     ensures same_length { length rows.new ≡ length rows.old }
-    ensures value { OnOk result (TogglesWhere bit rows.old rows.new place parities.now) }
+    ensures value { OnOk result (TogglesWhere bit rows.old rows.new site parities.now) }
 {
     if bit {
-        toggle(alloc, rows, place, parities)
+        toggle(alloc, rows, site, parities)
     } else {
         Ok(())
     }
@@ -50,16 +50,16 @@ pub fn toggle_within_if(
     alloc: Global,
     bit: bool,
     rows: &mut [Parities],
-    place: usize,
+    site: usize,
     other: usize,
 ) -> Result<(), AllocError>
-    requires in_range { place < length rows.old }
+    requires in_range { site < length rows.old }
     requires other_in_range { other < length rows.old }
     ensures same_length { length rows.new ≡ length rows.old }
-    ensures value { OnOk result (TogglesWhere bit rows.old rows.new place (row rows.old other)) }
+    ensures value { OnOk result (TogglesWhere bit rows.old rows.new site (row rows.old other)) }
 {
     if bit {
-        rows[place] = rows[place].merged(alloc, &rows[other])?;
+        rows[site] = rows[site].merged(alloc, &rows[other])?;
     }
     Ok(())
 }

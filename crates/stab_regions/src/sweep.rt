@@ -19,7 +19,7 @@ use stab_items::{Circuit, Cursor, Step as StepValue};
 use std::alloc::{AllocError, Global};
 
 // Steps are walked backwards in pieces of this many, each of which is unrolled forwards.
-const PIECE: usize = 4096;
+pub(crate) const PIECE: usize = 4096;
 
 // More detectors or observables than any text of a circuit has.
 const MOST_PARITIES: usize = 0x7fff_ffff;
@@ -161,7 +161,7 @@ impl Sweep {
 
     /// Goes on before a step.
     fn before(&mut self, alloc: Global, asked: Asked, step: StepValue) -> Result<(), AllocError>
-        requires place { StandsAfter asked (step_shown step ∷ []) self.old }
+        requires site { StandsAfter asked (step_shown step ∷ []) self.old }
         ensures sweeps { OnOk result (Sweeps asked (step_shown step.entry ∷ []) self.old self.new) }
     {
         let sides = sides_at(asked, step);
@@ -178,7 +178,7 @@ impl Sweep {
         asked: Asked,
         steps: &[StepValue],
     ) -> Result<(), AllocError>
-        requires place { StandsAfter asked (map step_shown steps.now) self.old }
+        requires site { StandsAfter asked (map step_shown steps.now) self.old }
         ensures sweeps { OnOk result (Sweeps asked (map step_shown steps.now) self.old self.new) }
     {
         let mut left = steps.len();
@@ -191,7 +191,7 @@ impl Sweep {
 }
 
 /// The steps of a circuit from one number on up to before another.
-fn steps_between<'a>(
+pub(crate) fn steps_between<'a>(
     alloc: Global,
     circuit: &'a Circuit,
     begin: usize,

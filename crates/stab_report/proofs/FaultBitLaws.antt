@@ -1,5 +1,5 @@
 -- Laws of the bits of faults: bits that are set and set back, the rows of a table, and how many there are.
-use Rattle.stab_report.proofs.Names.{◌≡◌, ◌≢◌, refl, sym, ap, ap₂, ◌∙◌, subst, ℕ, zero, suc, ◌+◌, ◌<◌, ◌≤◌, Bool, true, false, ◌==◌, ◌&&◌, List, [], ◌∷◌, length, map, replicate, get_or, set, All, if◌then◌else◌, arith, nat_tests, get_or-set_other, length-set, length-map, length-replicate, All-nil, All-cons, Items, unroll, FaultPlace, faults_of, flipped, flips, numbers_where, bits_in, IsFaultTable, set_all}
+use Rattle.stab_report.proofs.Names.{◌≡◌, ◌≢◌, refl, sym, ap, ap₂, ◌∙◌, subst, ℕ, zero, suc, ◌+◌, ◌<◌, ◌≤◌, Bool, true, false, ◌==◌, ◌&&◌, List, [], ◌∷◌, length, map, replicate, get_or, set, All, if◌then◌else◌, arith, nat_tests, get_or-set_other, length-set, length-map, length-replicate, All-nil, All-cons, Items, unroll, FaultPlace, faults_of, flipped_by_fault, flips, numbers_where, bits_in, IsFaultTable, set_all}
 use Rattle.stab_run.proofs.LookbackLemmas.{zeros-at}
 
 -- as many bits as before
@@ -72,10 +72,10 @@ below f i (suc k) n h = by_test (below f (i + 1) k n (omega arith)) (f i)
     by_test later false = later
 
 -- each row of a table names bits of the circuit
-rows_below : (n : ℕ) (items : Items) (deterministic : List Bool) (coins : ℕ → Bool) (fs : List FaultPlace) → All (All (λ j. j < bits_in items)) (map (flipped n items deterministic coins) fs)
+rows_below : (n : ℕ) (items : Items) (deterministic : List Bool) (coins : ℕ → Bool) (fs : List FaultPlace) → All (All (λ j. j < bits_in items)) (map (flipped_by_fault n items deterministic coins) fs)
 rows_below n items deterministic coins [] = All-nil (All (λ j. j < bits_in items))
 rows_below n items deterministic coins (f ∷ fs) =
-    All-cons (All (λ j. j < bits_in items)) (flipped n items deterministic coins f) (map (flipped n items deterministic coins) fs)
+    All-cons (All (λ j. j < bits_in items)) (flipped_by_fault n items deterministic coins f) (map (flipped_by_fault n items deterministic coins) fs)
     (below (λ i. get_or deterministic i false && flips n items coins f i) 0 (bits_in items) (bits_in items) (omega arith)) (rows_below n items deterministic coins fs)
 
 pub table_below : (n : ℕ) (everywhere : Bool) (items : Items) (deterministic : List Bool) (rows : List (List ℕ)) → IsFaultTable n everywhere items deterministic rows → All (All (λ j. j < bits_in items)) rows
@@ -84,4 +84,4 @@ table_below n everywhere items deterministic rows table =
 
 -- a table has a row for each fault
 pub table_rows : (n : ℕ) (everywhere : Bool) (items : Items) (deterministic : List Bool) (rows : List (List ℕ)) → IsFaultTable n everywhere items deterministic rows → length rows ≡ length (faults_of everywhere (unroll items))
-table_rows n everywhere items deterministic rows table = ap length (table.are_flipped (λ _. false)) ∙ length-map (faults_of everywhere (unroll items)) (flipped n items deterministic (λ _. false))
+table_rows n everywhere items deterministic rows table = ap length (table.are_flipped (λ _. false)) ∙ length-map (faults_of everywhere (unroll items)) (flipped_by_fault n items deterministic (λ _. false))

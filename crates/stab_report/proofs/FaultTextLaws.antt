@@ -119,11 +119,11 @@ lines-append kinds path_of (f ∷ fs) gs (row ∷ rows) =
     ∙ sym (append_assoc (table_line kinds (path_of f.step) f row) (table_lines kinds path_of fs rows) (table_lines kinds path_of gs (drop (length fs) rows)))
 
 -- the two lines at a place, and those after them
-pub lines_at_place : (kinds : Kinds) (path_of : ℕ → Path) (t : ℕ) (s : Site) (ss : List Site) (rows : List (List ℕ)) (k : ℕ) → k + 1 < length rows
+pub lines_at_position : (kinds : Kinds) (path_of : ℕ → Path) (t : ℕ) (s : Site) (ss : List Site) (rows : List (List ℕ)) (k : ℕ) → k + 1 < length rows
     → table_lines kinds path_of (flat_map (faults_on t) (s ∷ ss)) (drop k rows)
     ≡ (table_line kinds (path_of t) (fault_on t s letter.X) (get_or rows k []) ++ table_line kinds (path_of t) (fault_on t s letter.Z) (get_or rows (k + 1) []))
     ++ table_lines kinds path_of (flat_map (faults_on t) ss) (drop (k + 2) rows)
-lines_at_place kinds path_of t s ss rows k h =
+lines_at_position kinds path_of t s ss rows k h =
     let first : drop k rows ≡ get_or rows k [] ∷ drop (suc k) rows = drop-cons rows k [] (omega arith) in
     let one : suc k ≡ k + 1 = omega arith in
     let two : suc (k + 1) ≡ k + 2 = omega arith in
@@ -162,17 +162,17 @@ length-from everywhere t x xs =
     ∙ ap (λ m. m + length (faults_from everywhere (t + 1) xs)) (length-faults t (sites_at everywhere x))
 
 -- the two lines at the place of a number, and those after them
-pub lines_here : (kinds : Kinds) (p : Path) (t : ℕ) (sites : List Site) (rows : List (List ℕ)) (place next : ℕ) (s : Site) → slice_get sites place ≡ Some s → next + 1 < length rows
-    → table_lines kinds (λ _. p) (flat_map (faults_on t) (drop place sites)) (drop next rows)
+pub lines_here : (kinds : Kinds) (p : Path) (t : ℕ) (sites : List Site) (rows : List (List ℕ)) (position next : ℕ) (s : Site) → slice_get sites position ≡ Some s → next + 1 < length rows
+    → table_lines kinds (λ _. p) (flat_map (faults_on t) (drop position sites)) (drop next rows)
     ≡ (table_line kinds p (fault_on t s letter.X) (get_or rows next []) ++ table_line kinds p (fault_on t s letter.Z) (get_or rows (next + 1) []))
-    ++ table_lines kinds (λ _. p) (flat_map (faults_on t) (drop (place + 1) sites)) (drop (next + 2) rows)
-lines_here kinds p t sites rows place next s e h =
-    ap (λ ss. table_lines kinds (λ _. p) (flat_map (faults_on t) ss) (drop next rows)) (drop-found sites place s e) ∙ lines_at_place kinds (λ _. p) t s (drop (place + 1) sites) rows next h
+    ++ table_lines kinds (λ _. p) (flat_map (faults_on t) (drop (position + 1) sites)) (drop (next + 2) rows)
+lines_here kinds p t sites rows position next s e h =
+    ap (λ ss. table_lines kinds (λ _. p) (flat_map (faults_on t) ss) (drop next rows)) (drop-found sites position s e) ∙ lines_at_position kinds (λ _. p) t s (drop (position + 1) sites) rows next h
 
 -- no lines are after the last place
-pub lines_past : (kinds : Kinds) (p : Path) (t : ℕ) (sites : List Site) (rows : List (List ℕ)) (place next : ℕ) → slice_get sites place ≡ None
-    → table_lines kinds (λ _. p) (flat_map (faults_on t) (drop place sites)) (drop next rows) ≡ []
-lines_past kinds p t sites rows place next e = ap (λ ss. table_lines kinds (λ _. p) (flat_map (faults_on t) ss) (drop next rows)) (drop-missed sites place e)
+pub lines_past : (kinds : Kinds) (p : Path) (t : ℕ) (sites : List Site) (rows : List (List ℕ)) (position next : ℕ) → slice_get sites position ≡ None
+    → table_lines kinds (λ _. p) (flat_map (faults_on t) (drop position sites)) (drop next rows) ≡ []
+lines_past kinds p t sites rows position next e = ap (λ ss. table_lines kinds (λ _. p) (flat_map (faults_on t) ss) (drop next rows)) (drop-missed sites position e)
 
 -- the paths of the steps of a stretch but its first
 pub stretch_next : (items : Items) (t n : ℕ) (p : Path) → 0 < n → take n (drop t (paths_of items)) ≡ replicate n p → take (n - 1) (drop (t + 1) (paths_of items)) ≡ replicate (n - 1) p

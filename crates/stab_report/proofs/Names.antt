@@ -23,13 +23,13 @@ pub use Rattle.stab_error_model.specs.Unseen.{error_at}
 pub use Rattle.stab_gates.specs.LetterTexts.{letter_text}
 pub use Rattle.stab_io.proofs.DeviceLemmas.{failed_within, took_more, took_and_failed, WroteUpTo, took_none, wrote_part, wrote_and_failed, failed_on, wrote_none}
 pub use Rattle.stab_io.specs.Devices.{OutputView, TookSome, TookAndFailed, Took, WritesAllOrFault, WritesAll, CutOff}
-pub use Rattle.stab_io.specs.Refusals.{whole, number_of, name_of, Refuses}
+pub use Rattle.stab_io.specs.Refusals.{whole, refusal_number, refusal_name, Refuses}
 pub use Rattle.stab_io.specs.declared.refusal.Fault.{Fault}
 pub use Rattle.stab_io.specs.declared.refusal.Refusal.{Refusal}
 pub use Rattle.stab_io.specs.declared.refusal.Refusal.TheVariants.{WriteFault, OutOfMemory}
 pub use Rattle.stab_instructions.proofs.WriteLemmas.{writes_failed, writes_then}
 pub use Rattle.stab_instructions.specs.declared.product.Factor.{Factor}
-pub use Rattle.stab_regions.specs.Faults.{FaultPlace, Site, fault_on, faults_on, faults_from, sites_at, bits_in, numbers_where, faults_of, flipped, flips, IsFaultTable, bit, IsDeterministic, AreDeterministic, in_front, following}
+pub use Rattle.stab_regions.specs.Faults.{FaultPlace, Site, fault_on, faults_on, faults_from, sites_at, bits_in, numbers_where, faults_of, flipped_by_fault, flips, IsFaultTable, bit, IsDeterministic, AreDeterministic, in_front, following}
 pub use Rattle.stab_regions.specs.Tables.{steps_before_detector}
 pub use Rattle.stab_results.specs.Formats.{entry, shot_bytes}
 pub use Rattle.stab_results.specs.declared.format.Kinds.{Kinds}

@@ -56,15 +56,15 @@ pub sent_shot : {old mid new : OutputView} (bytes_of : ℕ → List ℕ) (first 
 sent_shot bytes_of first shot before call = rw add-one (took_more (texts_from bytes_of first shot) (bytes_of (first + shot)) before call)
 
 -- the place where the back of a text is cut off, within the whole
-cut_place : (xs ys rest front back : List ℕ) → ys ≡ front ++ back → (xs ++ ys) ++ rest ≡ (xs ++ front) ++ (back ++ rest)
-cut_place xs ys rest front back e = ap (λ l. (xs ++ l) ++ rest) e ∙ ap (λ l. l ++ rest) (sym (append_assoc xs front back)) ∙ append_assoc (xs ++ front) back rest
+cut_position : (xs ys rest front back : List ℕ) → ys ≡ front ++ back → (xs ++ ys) ++ rest ≡ (xs ++ front) ++ (back ++ rest)
+cut_position xs ys rest front back e = ap (λ l. (xs ++ l) ++ rest) e ∙ ap (λ l. l ++ rest) (sym (append_assoc xs front back)) ∙ append_assoc (xs ++ front) back rest
 
 -- what is cut off after some text, and before the rest, is cut off
 pub cut_off_after : {old mid new : OutputView} (xs ys rest : List ℕ) (f : Fault) → Took old mid xs → CutOff mid new ys f → CutOff old new ((xs ++ ys) ++ rest) f
 cut_off_after xs ys rest f before (inl failed) = inl (failed.0, failed_within (xs ++ ys) rest (took_and_failed xs ys before failed.1))
 cut_off_after xs ys rest f before (inr some) =
     let part = some.1 in
-    inr (some.0, record { front = xs ++ part.front; rest = part.rest ++ rest; split = cut_place xs ys rest part.front part.rest part.split; took = took_more xs part.front before part.took })
+    inr (some.0, record { front = xs ++ part.front; rest = part.rest ++ rest; split = cut_position xs ys rest part.front part.rest part.split; took = took_more xs part.front before part.took })
 
 -- a shot that is cut off cuts off the shots
 pub shots_cut_off : {old mid new : OutputView} (bytes_of : ℕ → List ℕ) (first shot shots : ℕ) (f : Fault) → shot < shots

@@ -16,8 +16,8 @@ pub record ShotBits : Type 0 where
   pub detectors : List Bool
   pub observables : List Bool
 
-abbrev pub bits_of : State → ShotBits
-bits_of s = record { records = s.records; detectors = s.detectors; observables = s.observables }
+abbrev pub shot_bits_of : State → ShotBits
+shot_bits_of s = record { records = s.records; detectors = s.detectors; observables = s.observables }
 
 -- bits, inverted where others are 1
 abbrev pub inverted : ShotBits → ShotBits → ShotBits
@@ -33,7 +33,7 @@ coin_flipped t coins s = (s == t) ⊕ coins s
 
 -- 1 if the run with this coin flipped differs from the run with these coins
 abbrev pub flips_of : (n : ℕ) → Items → (coins : ℕ → Bool) → ℕ → ShotBits
-flips_of n items coins t = inverted (bits_of (run_of n (coin_flipped t coins) items)) (bits_of (run_of n coins items))
+flips_of n items coins t = inverted (shot_bits_of (run_of n (coin_flipped t coins) items)) (shot_bits_of (run_of n coins items))
 
 -- a coin, and 1 for each bit of a run that it flips
 pub record CoinRow : Type 0 where
@@ -54,7 +54,7 @@ with_rows coins (r ∷ rows) bits = with_rows coins rows (if coins r.coin then i
 pub record IsCoinTable (n : ℕ) (items : Items) (rows : List CoinRow) : Type 0 where
   pub listed : (coins : ℕ → Bool) → rows ≡ map (row_by n items coins) (one_places (run_of n coins items).free)
   pub others : (coins : ℕ → Bool) (t : ℕ) → All (λ (r : CoinRow). r.coin ≡ t → ⊥) rows → run_of n (coin_flipped t coins) items ≡ run_of n coins items
-  pub adds : (coins : ℕ → Bool) → bits_of (run_of n coins items) ≡ with_rows coins rows (bits_of (run_of n zero_coins items))
+  pub adds : (coins : ℕ → Bool) → shot_bits_of (run_of n coins items) ≡ with_rows coins rows (shot_bits_of (run_of n zero_coins items))
 
 -- the table of items that nothing refuses
 abbrev pub table_of : (n : ℕ) → Items → List CoinRow

@@ -4,7 +4,7 @@ use Rattle.std.specs.Prelude.{ℕ, List, [], ◌++◌, codes, decimal, ◌==◌,
 use Rattle.stab_io.specs.Devices.{OutputView, Took, TookAndFailed}
 use Rattle.stab_io.specs.declared.refusal.Refusal.{Refusal}
 use Rattle.stab_io.specs.declared.refusal.Fault.{Fault}
-use Rattle.stab_io.specs.Refusals.{number_of, name_of}
+use Rattle.stab_io.specs.Refusals.{refusal_number, refusal_name}
 use Rattle.stab_items.specs.Paths.{path_text}
 use Rattle.stab_report.specs.declared.random.Bit.{Bit}
 use Rattle.stab_report.specs.declared.random.Bit.TheVariants.{Detector, Observable}
@@ -13,7 +13,7 @@ use Rattle.stab_report.specs.Texts.{placed_coin}
 
 -- which refusal it is, as its line says it
 abbrev pub refused_text : Refusal → List ℕ
-refused_text r = codes "refused " ++ (decimal (number_of r) ++ (codes " " ++ (name_of r ++ codes "\n")))
+refused_text r = codes "refused " ++ (decimal (refusal_number r) ++ (codes " " ++ (refusal_name r ++ codes "\n")))
 
 -- the line that says a fault
 abbrev pub fault_line : Fault → List ℕ

@@ -41,7 +41,7 @@ table_lines kinds path_of [] rows = []
 table_lines kinds path_of (f ∷ fs) [] = []
 
 -- bits with those at these places set
-abbrev pub set_all : (places : List ℕ) → Bool → List Bool → List Bool
+abbrev pub set_all : (positions : List ℕ) → Bool → List Bool → List Bool
 set_all [] value bits = bits
 set_all (k ∷ ks) value bits = set_all ks value (slice_set bits k value)
 

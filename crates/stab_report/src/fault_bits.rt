@@ -10,12 +10,12 @@ use stab_regions::FaultTable;
 use stab_results::{Format, Kinds, write_shot};
 
 /// Sets the bits at these places.
-fn set_all(bits: &mut [bool], places: &[u32], value: bool)
-    requires in_range { All (λ k. k < length bits.old) places.now }
-    ensures value { bits.new ≡ set_all places.now value bits.old }
+fn set_all(bits: &mut [bool], positions: &[u32], value: bool)
+    requires in_range { All (λ k. k < length bits.old) positions.now }
+    ensures value { bits.new ≡ set_all positions.now value bits.old }
 {
-    for place in places {
-        bits[*place as usize] = value;
+    for position in positions {
+        bits[*position as usize] = value;
     }
 }
 

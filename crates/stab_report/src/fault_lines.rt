@@ -96,12 +96,12 @@ fn write_step<O: Output>(
     // Rows are numbered by a usize, so no sum below is too great.
     let _ = table.len();
     let mut next = row;
-    let mut place = 0;
-    'places: while let Some(site) = site_at(step, everywhere, place) {
+    let mut position = 0;
+    'positions: while let Some(site) = site_at(step, everywhere, position) {
         let (by_x, by_z) = (table.row(next), table.row(next + 1));
         write_site(out, kinds, number, path, site, by_x, by_z)?;
         next += 2;
-        place += 1;
+        position += 1;
     }
     Ok(next)
 }

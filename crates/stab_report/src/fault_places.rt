@@ -60,12 +60,12 @@ fn push_step(
     requires few { number ≤ most_steps }
     ensures faults { OnOk result (map fault_placed faults.new.items ≡ map fault_placed faults.old.items ++ flat_map (faults_on number) (sites_at everywhere (step_shown step.entry))) }
 {
-    let mut place = 0;
-    'places: while let Some(site) = site_at(step, everywhere, place) {
+    let mut position = 0;
+    'positions: while let Some(site) = site_at(step, everywhere, position) {
         push_site(faults, number, site)?;
         // Faults are numbered by a usize, so the sum below is not too great.
         let _ = faults.len();
-        place += 1;
+        position += 1;
     }
     Ok(())
 }

@@ -1,4 +1,4 @@
--- Result formats: the bytes of one shot, over the places of its 1 bits or over groups of eight bits.
+-- Result formats: the bytes of one shot, over the positions of its 1 bits or over groups of eight bits.
 -- Source: Stim's documentation of result formats, for one shot at a time. `ptb64` is left out.
 use Rattle.std.specs.Prelude.{ℕ, ◌+◌, ◌*◌, ◌-◌, ◌/◌, ◌%◌, nat_lt, if◌then◌else◌, Bool, true, false, List, [], ◌∷◌, ◌++◌, map, replicate, codes}
 use Rattle.std.specs.List.{flat_map, join_with_byte}
@@ -8,15 +8,15 @@ use Rattle.stab_results.specs.declared.format.Format.TheVariants.{F01, B8, R8, H
 use Rattle.stab_results.specs.declared.format.Kinds.{Kinds}
 use Rattle.stab_results.specs.declared.format.Kinds.TheVariants.{Measurements, Detectors, Whole}
 
--- the places of the 1 bits, ascending, if the first bit has the given place
-abbrev pub one_places_from : ℕ → List Bool → List ℕ
-one_places_from place [] = []
-one_places_from place (false ∷ bits) = one_places_from (place + 1) bits
-one_places_from place (true ∷ bits) = place ∷ one_places_from (place + 1) bits
+-- the positions of the 1 bits, ascending, if the first bit has the given position
+abbrev pub one_positions_from : ℕ → List Bool → List ℕ
+one_positions_from position [] = []
+one_positions_from position (false ∷ bits) = one_positions_from (position + 1) bits
+one_positions_from position (true ∷ bits) = position ∷ one_positions_from (position + 1) bits
 
--- the places of the 1 bits, counted from 0
+-- the positions of the 1 bits, counted from 0
 abbrev pub one_places : List Bool → List ℕ
-one_places bits = one_places_from 0 bits
+one_places bits = one_positions_from 0 bits
 
 -- the character of a bit
 abbrev pub digit : Bool → List ℕ
@@ -39,10 +39,10 @@ b8_bytes [] = []
 b8_bytes (a ∷ b ∷ c ∷ d ∷ e ∷ f ∷ g ∷ h ∷ bits) = number (a ∷ b ∷ c ∷ d ∷ e ∷ f ∷ g ∷ h ∷ []) ∷ b8_bytes bits
 b8_bytes bits = number bits ∷ []
 
--- how many zeros are before each 1 bit, from a place on, if these are the places of the 1 bits
+-- how many zeros are before each 1 bit, from a position on, if these are the positions of the 1 bits
 abbrev pub gaps_from : ℕ → List ℕ → List ℕ
-gaps_from place [] = []
-gaps_from place (one ∷ more) = (one - place) ∷ gaps_from (one + 1) more
+gaps_from position [] = []
+gaps_from position (one ∷ more) = (one - position) ∷ gaps_from (one + 1) more
 
 -- zeros and the 1 after them: FF for each full 255 zeros, then the number of the rest
 abbrev pub run_bytes : ℕ → List ℕ
@@ -56,19 +56,19 @@ r8_bytes bits = flat_map run_bytes (gaps_from 0 (one_places (bits ++ true ∷ []
 abbrev pub comma : ℕ
 comma = 44
 
--- hits: the places of the 1 bits in decimal, joined by commas, then a line end
+-- hits: the positions of the 1 bits in decimal, joined by commas, then a line end
 abbrev pub hits_bytes : List Bool → List ℕ
 hits_bytes bits = join_with_byte comma (map decimal (one_places bits)) ++ codes "\n"
 
 -- the entry of a 1 bit among this many detectors and then observables
-abbrev pub detected_entry : (count place : ℕ) → List ℕ
-detected_entry count place = if nat_lt place count then codes " D" ++ decimal place else codes " L" ++ decimal (place - count)
+abbrev pub detected_entry : (count position : ℕ) → List ℕ
+detected_entry count position = if nat_lt position count then codes " D" ++ decimal position else codes " L" ++ decimal (position - count)
 
 -- the entry of a 1 bit: a space, the prefix of its kind, and its number within its kind
 abbrev pub entry : Kinds → ℕ → List ℕ
-entry Measurements place = codes " M" ++ decimal place
-entry (Detectors count) place = detected_entry count place
-entry (Whole records detectors) place = if nat_lt place records then codes " M" ++ decimal place else detected_entry detectors (place - records)
+entry Measurements position = codes " M" ++ decimal position
+entry (Detectors count) position = detected_entry count position
+entry (Whole records detectors) position = if nat_lt position records then codes " M" ++ decimal position else detected_entry detectors (position - records)
 
 -- dets: `shot`, then the entry of each 1 bit, then a line end
 abbrev pub dets_bytes : Kinds → List Bool → List ℕ

@@ -7,7 +7,7 @@ pub enum Format {
     B8,
     /// `r8`: one byte for each run of zeros, more if a run is long.
     R8,
-    /// `hits`: the places of the 1 bits in decimal, with commas, then a line end.
+    /// `hits`: the positions of the 1 bits in decimal, with commas, then a line end.
     Hits,
     /// `dets`: `shot`, then the names of the 1 bits, then a line end.
     Dets,

@@ -5,7 +5,7 @@ ghost use Rattle.stab_results.specs.Formats.{digit, f01_bytes, number, b8_bytes,
 
 use crate::byte_buffer::ByteBuffer;
 use crate::format::{Format, Kinds};
-use crate::one_places::{BLOCK, OnePlaces, are_zeros};
+use crate::one_places::{BLOCK, OnePositions, are_zeros};
 use stab_io::{Output, Refusal};
 
 /// The character of a bit.
@@ -21,32 +21,32 @@ fn number(bits: &[bool]) -> u8
     ensures value { result ≡ number bits.now }
 {
     let mut value = 0;
-    for place in (0..bits.len()).rev() {
-        value = 2 * value + u8::from(bits[place]);
+    for position in (0..bits.len()).rev() {
+        value = 2 * value + u8::from(bits[position]);
     }
     value
 }
 
 /// The entry of a 1 bit among this many detectors and then observables, in dets.
-fn detected_entry(count: usize, place: usize) -> (&'static [u8], usize)
-    ensures value { detected_entry count place ≡ result.0.now ++ decimal result.1 }
+fn detected_entry(count: usize, position: usize) -> (&'static [u8], usize)
+    ensures value { detected_entry count position ≡ result.0.now ++ decimal result.1 }
 {
-    if place < count {
-        (b" D", place)
+    if position < count {
+        (b" D", position)
     } else {
-        (b" L", place - count)
+        (b" L", position - count)
     }
 }
 
 /// The entry of a 1 bit in dets: a space with the prefix of its kind, and its number.
-fn entry(kinds: Kinds, place: usize) -> (&'static [u8], usize)
-    ensures value { entry kinds place ≡ result.0.now ++ decimal result.1 }
+fn entry(kinds: Kinds, position: usize) -> (&'static [u8], usize)
+    ensures value { entry kinds position ≡ result.0.now ++ decimal result.1 }
 {
     match kinds {
-        Kinds::Measurements => (b" M", place),
-        Kinds::Detectors(count) => detected_entry(count, place),
-        Kinds::Whole { records, .. } if place < records => (b" M", place),
-        Kinds::Whole { records, detectors } => detected_entry(detectors, place - records),
+        Kinds::Measurements => (b" M", position),
+        Kinds::Detectors(count) => detected_entry(count, position),
+        Kinds::Whole { records, .. } if position < records => (b" M", position),
+        Kinds::Whole { records, detectors } => detected_entry(detectors, position - records),
     }
 }
 
@@ -114,9 +114,9 @@ impl ByteBuffer {
         ensures puts { Puts (O.seen out.old) (O.seen out.new) self.old self.new (r8_bytes bits.now) result }
     {
         let mut start = 0;
-        for place in OnePlaces::new(bits) {
-            self.put_run(out, place - start)?;
-            start = place + 1;
+        for position in OnePositions::new(bits) {
+            self.put_run(out, position - start)?;
+            start = position + 1;
         }
         self.put_run(out, bits.len() - start)
     }
@@ -135,8 +135,8 @@ impl ByteBuffer {
         ensures puts { Puts (O.seen out.old) (O.seen out.new) self.old self.new (hits_bytes bits.now) result }
     {
         let mut separator: &[u8] = b"";
-        for place in OnePlaces::new(bits) {
-            self.put_item(out, separator, place)?;
+        for position in OnePositions::new(bits) {
+            self.put_item(out, separator, position)?;
             separator = b",";
         }
         self.push(out, b'\n')
@@ -164,37 +164,37 @@ impl ByteBuffer {
     ) -> Result<(), Refusal>
         ensures puts { Puts (O.seen out.old) (O.seen out.new) self.old self.new (flat_map (entry kinds) (one_places bits.now)) result }
     {
-        for place in OnePlaces::new(bits) {
-            self.put_entry(out, kinds, place)?;
+        for position in OnePositions::new(bits) {
+            self.put_entry(out, kinds, position)?;
         }
         Ok(())
     }
 
-    /// Puts the entries of the 1 bits at some places, in dets.
+    /// Puts the entries of the 1 bits at some positions, in dets.
     pub(crate) fn put_entries<O: Output>(
         &mut self,
         out: &mut O,
         kinds: Kinds,
-        places: &[u32],
+        positions: &[u32],
     ) -> Result<(), Refusal>
-        ensures puts { Puts (O.seen out.old) (O.seen out.new) self.old self.new (flat_map (entry kinds) places.now) result }
+        ensures puts { Puts (O.seen out.old) (O.seen out.new) self.old self.new (flat_map (entry kinds) positions.now) result }
     {
-        for place in places {
-            self.put_entry(out, kinds, *place as usize)?;
+        for position in positions {
+            self.put_entry(out, kinds, *position as usize)?;
         }
         Ok(())
     }
 
-    /// Puts the entry of the 1 bit at a place, in dets.
+    /// Puts the entry of the 1 bit at a position, in dets.
     fn put_entry<O: Output>(
         &mut self,
         out: &mut O,
         kinds: Kinds,
-        place: usize,
+        position: usize,
     ) -> Result<(), Refusal>
-        ensures puts { Puts (O.seen out.old) (O.seen out.new) self.old self.new (entry kinds place) result }
+        ensures puts { Puts (O.seen out.old) (O.seen out.new) self.old self.new (entry kinds position) result }
     {
-        let (prefix, number) = entry(kinds, place);
+        let (prefix, number) = entry(kinds, position);
         self.put_item(out, prefix, number)
     }
 

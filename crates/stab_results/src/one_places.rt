@@ -1,6 +1,6 @@
 ghost use Rattle.std.specs.Prelude.{◌≡◌, ◌<◌, ◌≤◌, ◌+◌, ℕ, true, List, [], length, drop};
 ghost use Rattle.std.specs.Iterator.{YieldsFirst, item_count};
-ghost use Rattle.stab_results.specs.Formats.{one_places, one_places_from};
+ghost use Rattle.stab_results.specs.Formats.{one_places, one_positions_from};
 
 use std::marker::Model;
 
@@ -18,56 +18,56 @@ pub(crate) fn are_zeros(bits: &[bool]) -> bool
     !any
 }
 
-/// Whether a whole block of zeros begins at a place, if a block begins there.
-fn begins_zeros(bits: &[bool], place: usize) -> bool
-    requires in_range { place < length bits.now }
-    ensures within { result ≡ true → place + 64 ≤ length bits.now }
-    ensures zeros { result ≡ true → one_places_from (place + 64) (drop (place + 64) bits.now) ≡ one_places_from place (drop place bits.now) }
+/// Whether a whole block of zeros begins at a position, if a block begins there.
+fn begins_zeros(bits: &[bool], position: usize) -> bool
+    requires in_range { position < length bits.now }
+    ensures within { result ≡ true → position + 64 ≤ length bits.now }
+    ensures zeros { result ≡ true → one_positions_from (position + 64) (drop (position + 64) bits.now) ≡ one_positions_from position (drop position bits.now) }
 {
-    if place % BLOCK != 0 || bits.len() - place < BLOCK {
+    if position % BLOCK != 0 || bits.len() - position < BLOCK {
         return false;
     }
-    are_zeros(bits.split_at(place).1.split_at(BLOCK).0)
+    are_zeros(bits.split_at(position).1.split_at(BLOCK).0)
 }
 
-/// The places of the 1 bits of a list, one after another. Contracts see those that are left.
+/// The positions of the 1 bits of a list, one after another. Contracts see those that are left.
 #[derive(Drop)]
-pub(crate) struct OnePlaces<'a> {
+pub(crate) struct OnePositions<'a> {
     bits: &'a [bool],
-    place: usize,
+    position: usize,
 }
 
-impl<'a> Model for OnePlaces<'a> {
+impl<'a> Model for OnePositions<'a> {
     ghost Value = { List ℕ };
 
-    ghost view = { λ s. one_places_from s.place (drop s.place s.bits.now) };
+    ghost view = { λ s. one_positions_from s.position (drop s.position s.bits.now) };
 }
 
-impl<'a> OnePlaces<'a> {
-    /// All of a list's places of 1 bits.
-    pub(crate) fn new(bits: &'a [bool]) -> OnePlaces<'a>
+impl<'a> OnePositions<'a> {
+    /// The positions of all 1 bits of a list.
+    pub(crate) fn new(bits: &'a [bool]) -> OnePositions<'a>
         ensures all { result ≡ one_places bits.entry.now }
     {
-        OnePlaces { bits, place: 0 }
+        OnePositions { bits, position: 0 }
     }
 }
 
-impl Iterator for OnePlaces<'_> {
+impl Iterator for OnePositions<'_> {
     type Item = usize;
 
-    ghost next_gives = { YieldsFirst (λ places. places) };
+    ghost next_gives = { YieldsFirst (λ positions. positions) };
 
-    ghost remaining = { item_count (λ places. places) };
+    ghost remaining = { item_count (λ positions. positions) };
 
     fn next(&mut self) -> Option<usize> {
-        while self.place < self.bits.len() {
-            let place = self.place;
-            if begins_zeros(self.bits, place) {
-                self.place += BLOCK;
+        while self.position < self.bits.len() {
+            let position = self.position;
+            if begins_zeros(self.bits, position) {
+                self.position += BLOCK;
             } else {
-                self.place += 1;
-                if self.bits[place] {
-                    return Some(place);
+                self.position += 1;
+                if self.bits[position] {
+                    return Some(position);
                 }
             }
         }

@@ -46,28 +46,28 @@ pub fn write_shot<O: Output>(
     }
 }
 
-/// Gathers the entries of some places, and sends them.
-fn send_entries<O: Output>(out: &mut O, kinds: Kinds, places: &[u32]) -> Result<(), Refusal>
-    ensures puts { Puts (O.seen out.old) (O.seen out.new) [] [] (flat_map (entry kinds) places.now) result }
+/// Gathers the entries of some positions, and sends them.
+fn send_entries<O: Output>(out: &mut O, kinds: Kinds, positions: &[u32]) -> Result<(), Refusal>
+    ensures puts { Puts (O.seen out.old) (O.seen out.new) [] [] (flat_map (entry kinds) positions.now) result }
 {
     let mut byte_buffer = ByteBuffer::new();
-    byte_buffer.put_entries(out, kinds, places)?;
+    byte_buffer.put_entries(out, kinds, positions)?;
     byte_buffer.send(out)
 }
 
-/// Writes the entries of the 1 bits at these places as `dets` has them, each after a space, with
+/// Writes the entries of the 1 bits at these positions as `dets` has them, each after a space, with
 /// no line end, and takes no memory.
 ///
-/// With `Kinds::Detectors(count)` the places below `count` are detectors and the others are
+/// With `Kinds::Detectors(count)` the positions below `count` are detectors and the others are
 /// observables, each kind numbered from 0. So `dets` is `shot`, the entries of its 1 bits and a line
 /// end.
 ///
 /// It does not flush. Refusal `WriteFault` alone: a prefix of the bytes was then written, and
 /// nothing more is tried.
-pub fn write_entries<O: Output>(out: &mut O, kinds: Kinds, places: &[u32]) -> Result<(), Refusal>
-    ensures writes { WritesAll (O.seen out.old) (O.seen out.new) (flat_map (entry kinds) places.now) result }
+pub fn write_entries<O: Output>(out: &mut O, kinds: Kinds, positions: &[u32]) -> Result<(), Refusal>
+    ensures writes { WritesAll (O.seen out.old) (O.seen out.new) (flat_map (entry kinds) positions.now) result }
 {
-    send_entries(out, kinds, places)
+    send_entries(out, kinds, positions)
 }
 
 /// Gathers the entries of all 1 bits, and sends them.

@@ -36,7 +36,7 @@ goes-over n xs part rest left same e =
     ap (λ l. take n xs ++ l) e ∙ sym (append_assoc (take n xs) part rest)
     ∙ ap (λ l. l ++ rest) (ap (λ l. take n xs ++ l) (sym same) ∙ sym (take-add n (length part) xs))
 
--- steps that go on, from a place on, as they went on a round before, are rounds of the same steps
+-- steps that go on, from a position on, as they went on a round before, are rounds of the same steps
 pub come-again : (l m count : ℕ) (xs : List Step) → take m xs ≡ take m (drop l xs) → count * l ≤ m → take (suc count * l) xs ≡ rounds (suc count) (take l xs)
 come-again l m zero xs same few = ap (λ n. take n xs) (omega arith) ∙ sym (append-nil (take l xs))
 come-again l m (suc count) xs same few =

@@ -8,7 +8,7 @@ use Rattle.stab_rounds.proofs.SearchLemmas.{AreRepeatsTo, are-repeats, one-repea
 pub one-of-two : (xs : List Step) (r s : Repeat) (gap : ℕ) → IsRepeat xs r → IsRepeat xs s → s.length ≡ r.length → s.first ≡ r.first + (r.rounds + gap) * r.length
     → take ((gap + 1) * r.length) (drop (r.first + (r.rounds - 1) * r.length) xs) ≡ take ((gap + 1) * r.length) (drop (r.first + r.rounds * r.length) xs)
     → IsRepeat xs (record r { rounds = (r.rounds + gap) + s.rounds })
-one-of-two xs r s gap is other length-same place seam =
+one-of-two xs r s gap is other length-same position seam =
     let l = r.length in
     let n = r.rounds in
     let k = s.rounds in
@@ -34,7 +34,7 @@ one-of-two xs r s gap is other length-same place seam =
     ap (λ i. take (gap * l) (drop i ys)) {x = n * l} {y = (n - 1) * l + 1 * l} (omega (arith, whole))
     ∙ ap (take (gap * l)) (sym (following 1))
     ∙ rounds-within 1 gap (suc (gap + 1)) l ss last len on (omega arith) in
-    let there : drop ((n + gap) * l) ys ≡ drop s.first xs = drop-drop ((n + gap) * l) r.first xs ∙ ap (λ i. drop i xs) (sym place) in
+    let there : drop ((n + gap) * l) ys ≡ drop s.first xs = drop-drop ((n + gap) * l) r.first xs ∙ ap (λ i. drop i xs) (sym position) in
     let far : (n + gap) * l ≡ (n - 1) * l + (gap + 1) * l = ap (λ i. (i + gap) * l) parts ∙ omega arith in
     let first : take l (drop s.first xs) ≡ ss =
     ap (take l) (sym there ∙ ap (λ i. drop i ys) far ∙ sym (following (gap + 1)))
@@ -50,7 +50,7 @@ one-of-two xs r s gap is other length-same place seam =
     record {
       some = is.some;
       many = omega (arith, some);
-      inside = omega (arith, other.inside, place, ap (λ i. k * i) length-same);
+      inside = omega (arith, other.inside, position, ap (λ i. k * i) length-same);
       again = rounds-joined (n + gap) k l ss ys len (rounds-joined n gap l ss ys len is.again between) more;
       within = is.within;
     }

@@ -1,4 +1,4 @@
-//! How many steps after two places of a circuit are the same.
+//! How many steps after two positions in a circuit are the same.
 ghost use Rattle.std.specs.Prelude.{◌≡◌, ℕ, ◌+◌, ◌*◌, ◌<◌, ◌≤◌, ◌++◌, None, length, take, drop, IfOk, IfErr};
 ghost use Rattle.std.specs.Bool.{OnTrue};
 ghost use Rattle.stab_io.specs.declared.refusal.Refusal.TheVariants.{OutOfMemory};
@@ -11,7 +11,7 @@ use stab_io::Refusal;
 use stab_items::{Circuit, Cursor, Steps};
 use std::alloc::Global;
 
-/// Whether the next steps that a cursor has left are these. If so, it is after them then; otherwise its place
+/// Whether the next steps that a cursor has left are these. If so, it is after them then; otherwise its position
 /// has no meaning.
 fn goes_over(cursor: &mut Cursor, steps: Steps) -> bool
     ensures all { cursor.new.all ≡ cursor.old.all }

@@ -1,8 +1,8 @@
 //! Rounds: where in a circuit the same steps come again, be it in a block or written out line by line.
 //!
 //! - `same`: whether steps that are given together are the same as others.
-//! - `alike`: how many steps after two places are the same.
-//! - `window`: how far back the steps after a place look.
+//! - `alike`: how many steps after two positions are the same.
+//! - `window`: how far back the steps after a position look.
 //! - `search`: where rounds that are written out are.
 //! - `edited`: which rounds an edited circuit has, by those that it had.
 //!

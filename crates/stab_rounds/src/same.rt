@@ -50,13 +50,13 @@ fn are_measurements(measurement: Measurement, targets: &[MeasureTarget], steps: 
     }
 }
 
-/// Whether detectors from a place on begin with others.
-fn detectors_begin_with(detectors: Detectors, place: usize, others: Detectors) -> bool
-    requires within { place + length (lookbacks_of others) ≤ length (lookbacks_of detectors) }
-    ensures same { OnTrue result (take (length (lookbacks_of others.entry)) (drop place (lookbacks_of detectors.entry)) ≡ lookbacks_of others.entry) }
+/// Whether detectors from a position on begin with others.
+fn detectors_begin_with(detectors: Detectors, position: usize, others: Detectors) -> bool
+    requires within { position + length (lookbacks_of others) ≤ length (lookbacks_of detectors) }
+    ensures same { OnTrue result (take (length (lookbacks_of others.entry)) (drop position (lookbacks_of detectors.entry)) ≡ lookbacks_of others.entry) }
 {
     for number in 0..others.len() {
-        let same = detectors.get(place + number) == others.get(number);
+        let same = detectors.get(position + number) == others.get(number);
         if !same {
             return false;
         }
@@ -93,13 +93,13 @@ fn is_collapse(
     match step {
         Step::Collapse {
             letter: other,
-            qubit: place,
+            qubit: position,
             recorded: kept,
             inverted: inverted_too,
             reset: again,
         } => {
             let same_letter = letter == other;
-            let same_qubit = qubit == place;
+            let same_qubit = qubit == position;
             let same_record = recorded == kept;
             let same_bit = inverted == inverted_too;
             let same_reset = reset == again;
@@ -140,8 +140,8 @@ fn is_observable(number: u32, lookbacks: &[u32], step: Step) -> bool
     }
 }
 
-/// Whether a step that is given by itself is the same as another one. Steps that are given together in another way
-/// are never said to be the same.
+/// Whether a step that is given by itself is the same as another one. Of steps that are given together in another way
+/// it never says so.
 fn is_step(step: Step, other: Step) -> bool
     ensures same { OnTrue result (step_shown step.entry ≡ step_shown other.entry) }
 {
@@ -170,7 +170,7 @@ fn is_single(step: Step, steps: Steps) -> bool
     }
 }
 
-/// Whether steps that are given together are the same as others. Detectors are never said to be.
+/// Whether steps that are given together are the same as others. Of detectors it never says so.
 pub(crate) fn are_same(steps: Steps, others: Steps) -> bool
     ensures same { OnTrue result (steps_shown steps.entry ≡ steps_shown others.entry) }
 {
@@ -183,16 +183,16 @@ pub(crate) fn are_same(steps: Steps, others: Steps) -> bool
     }
 }
 
-/// Whether steps that are given together begin, from a place among them on, with others. Of all
-/// except detectors only the whole is compared.
-pub(crate) fn begin_with(steps: Steps, place: usize, others: Steps) -> bool
-    requires within { place + length (steps_shown others) ≤ length (steps_shown steps) }
-    ensures same { OnTrue result (take (length (steps_shown others.entry)) (drop place (steps_shown steps.entry)) ≡ steps_shown others.entry) }
+/// Whether steps that are given together begin, from a position among them on, with others. Only
+/// detectors are compared in parts; all others as a whole.
+pub(crate) fn begin_with(steps: Steps, position: usize, others: Steps) -> bool
+    requires within { position + length (steps_shown others) ≤ length (steps_shown steps) }
+    ensures same { OnTrue result (take (length (steps_shown others.entry)) (drop position (steps_shown steps.entry)) ≡ steps_shown others.entry) }
 {
     match (steps, others) {
         (Steps::Detectors(detectors), Steps::Detectors(more)) => {
-            detectors_begin_with(detectors, place, more)
+            detectors_begin_with(detectors, position, more)
         }
-        _ => place == 0 && are_same(steps, others),
+        _ => position == 0 && are_same(steps, others),
     }
 }

@@ -19,17 +19,17 @@ const LEAST_STEPS: usize = 8192;
 const LEAST_ROUNDS: usize = 8;
 
 /// How many instructions are passed at most to find one of them again, and no more than one for this many
-/// steps of the circuit: so a search in vain costs next to nothing beside a run.
+/// steps of the circuit, so that a search in vain costs next to nothing beside a run.
 const MOST_PASSED: usize = 4096;
 
 const STEPS_FOR_ONE: usize = 128;
 
-/// How many of those that are the same are tried: the same instruction may occur more than once in a round.
+/// How many instructions that are the same are tried: a round may have one more than once.
 const MOST_TRIED: usize = 4;
 
-/// At how many places in a row rounds are looked for in vain at most. Each is four times further from
-/// the one before than that was.
-const MOST_PLACES: usize = 9;
+/// At how many positions in a row rounds are looked for in vain at most. The way from one to the next is
+/// four times as long each time.
+const MOST_POSITIONS: usize = 9;
 
 const FURTHER: usize = 4;
 
@@ -97,7 +97,7 @@ fn find_at(alloc: Global, circuit: &Circuit, first: usize) -> Result<Option<Repe
 }
 
 /// Whether rounds are looked for that begin with these steps: not with detectors, which come in parts, nor
-/// with resets, which are at the front of a circuit one by one.
+/// with resets, which often stand one by one at the front of a circuit.
 fn may_begin(steps: Steps) -> bool {
     match steps {
         Steps::Gates(..) | Steps::Pairs(..) | Steps::Measurements(..) => true,
@@ -117,17 +117,17 @@ fn next_place(
 ) -> Result<Option<usize>, Refusal>
     requires checked { check_of (circuit_items circuit.now) ≡ None }
     requires within { first ≤ length (unroll (circuit_items circuit.now)) }
-    ensures order { IfOk result (λ found. IfSome found (λ place. first ≤ place)) }
-    ensures within { IfOk result (λ found. IfSome found (λ place. place ≤ length (unroll (circuit_items circuit.now)))) }
+    ensures order { IfOk result (λ found. IfSome found (λ position. first ≤ position)) }
+    ensures within { IfOk result (λ found. IfSome found (λ position. position ≤ length (unroll (circuit_items circuit.now)))) }
     ensures err { IfErr result (λ r. r ≡ OutOfMemory) }
 {
     let mut cursor = Cursor::at(alloc, circuit, first)?;
-    let mut place = first;
+    let mut position = first;
     'going: while let Some(steps) = cursor.next_steps(usize::MAX) {
-        if place - first >= further && may_begin(steps) {
-            return Ok(Some(place));
+        if position - first >= further && may_begin(steps) {
+            return Ok(Some(position));
         }
-        place += steps.len();
+        position += steps.len();
     }
     Ok(None)
 }
@@ -141,17 +141,17 @@ fn find_from(alloc: Global, circuit: &Circuit, first: usize) -> Result<Option<Re
     ensures found { IfOk result (λ found. IfSome found (λ r. (first ≤ r.first) × IsRepeat (unroll (circuit_items circuit.now)) r)) }
     ensures err { IfErr result (λ r. r ≡ OutOfMemory) }
 {
-    let mut place = first;
+    let mut position = first;
     let mut further = 0;
-    'places: for _ in 0..MOST_PLACES {
-        let Some(begin) = next_place(alloc, circuit, place, further)? else {
+    'positions: for _ in 0..MOST_POSITIONS {
+        let Some(begin) = next_place(alloc, circuit, position, further)? else {
             return Ok(None);
         };
         let found = find_at(alloc, circuit, begin)?;
         if found.is_some() {
             return Ok(found);
         }
-        place = begin;
+        position = begin;
         further = further.saturating_mul(FURTHER).max(1);
     }
     Ok(None)

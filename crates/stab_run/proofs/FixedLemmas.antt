@@ -7,7 +7,7 @@ decided true b c d none = refl
 decided false true c d none = refl
 decided false false c d none = absurd (omega (arith, none))
 
--- an outcome that is not free is the same with each coin
+-- an outcome that is not random is the same with each coin
 outcome-fixed : (coins : ℕ → Bool) (p : Signed) (trace : List Event) (c d : ℕ) → ones (is_free trace p ∷ []) ≡ 0 → outcome_at coins p trace c ≡ outcome_at coins p trace d
 outcome-fixed coins p trace c d none = decided (member trace p) (member trace (minus p)) (coins c) (coins d) none
 

@@ -41,11 +41,11 @@ looked_up-far xs ys k lt = by_size (cases_lt (length xs) (k - length ys))
 -- lists that agree back to here agree further back by as much as was put after both
 pub looked_up-more : (m : ℕ) (xs zs ys : List Bool) → ((k : ℕ) → k ≤ m → looked_up xs k ≡ looked_up zs k)
     → (k : ℕ) → k ≤ m + length ys → looked_up (xs ++ ys) k ≡ looked_up (zs ++ ys) k
-looked_up-more m xs zs ys same k le = by_place (cases_lt (length ys) k)
+looked_up-more m xs zs ys same k le = by_position (cases_lt (length ys) k)
   where
-    by_place : (length ys < k) ⊎ (k ≤ length ys) → looked_up (xs ++ ys) k ≡ looked_up (zs ++ ys) k
-    by_place (inl lt) = looked_up-far xs ys k lt ∙ same (k - length ys) (omega arith) ∙ sym (looked_up-far zs ys k lt)
-    by_place (inr near) = looked_up-near xs ys k near ∙ sym (looked_up-near zs ys k near)
+    by_position : (length ys < k) ⊎ (k ≤ length ys) → looked_up (xs ++ ys) k ≡ looked_up (zs ++ ys) k
+    by_position (inl lt) = looked_up-far xs ys k lt ∙ same (k - length ys) (omega arith) ∙ sym (looked_up-far zs ys k lt)
+    by_position (inr near) = looked_up-near xs ys k near ∙ sym (looked_up-near zs ys k near)
 
 -- lookbacks that are near enough
 
@@ -72,8 +72,8 @@ zeros-at (suc m) zero = refl
 zeros-at (suc m) (suc i) = zeros-at m i
 
 pub looked_up-zeros : (m k : ℕ) → looked_up (replicate m false) k ≡ false
-looked_up-zeros m k = by_place (nat_lt (length (replicate m false)) k)
+looked_up-zeros m k = by_position (nat_lt (length (replicate m false)) k)
   where
-    by_place : (c : Bool) → (if c then false else get_or (replicate m false) (length (replicate m false) - k) false) ≡ false
-    by_place true = refl
-    by_place false = zeros-at m (length (replicate m false) - k)
+    by_position : (c : Bool) → (if c then false else get_or (replicate m false) (length (replicate m false) - k) false) ≡ false
+    by_position true = refl
+    by_position false = zeros-at m (length (replicate m false) - k)

@@ -1,4 +1,4 @@
--- States: a run is the point where it ends with what it gives, and only free coins decide it.
+-- States: a run is the point where it ends with what it gives, and only random coins decide it.
 use Rattle.stab_run.proofs.Names.{◌≡◌, ℕ, ◌+◌, refl, sym, ◌∙◌, ap, Bool, true, false, not, ◌&&◌, List, [], ◌∷◌, ◌++◌, append_assoc, append-nil, add-zero, length, get_or, if◌then◌else◌, slice_index_or, length-append, ◌⊕◌, Signed, minus, single, Event, applied, applied_pair, projected, member, outcome, is_free, Items, Step, one, two, controlled, collapse, product, detector, observable, unroll, observables_of, looked_up, parity, State, start, when, string_of, applied_where, collapsed, effect, run, run_of, Point, RunOutput, joined, given, next_point, point_after, outputs, point_of, state_at, AgreeWhere, DependsOnCoinsAt}
 
 -- a point and its outputs

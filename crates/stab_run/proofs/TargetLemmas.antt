@@ -2,7 +2,7 @@
 use Rattle.stab_run.proofs.Names.{◌≡◌, ℕ, ◌+◌, ◌<◌, ◌≤◌, refl, sym, ◌∙◌, ap, subst, arith, Bool, List, [], ◌∷◌, ◌++◌, All, length, map, take, get_or, map_more, get_or-map, length-map, take_all, All-get_or, MeasureTarget, Measurement, Step, measured, all_coins_of, StepFits, ProgramState, IsRun}
 use Rattle.stab_run.proofs.RunLemmas.{IsRun-append, IsRun-same}
 
--- what the step of the target at a place needs
+-- what the step of the target at a position needs
 pub fits-target : {X : Type 0} (n m : ℕ) (step : X → Step) (xs : List X) (i : ℕ) (x : X) → m ≡ n → i < length xs → x ≡ get_or xs i x
     → All (StepFits n) (map step xs) → StepFits m (step x)
 fits-target n m step xs i x same lt is fits =
@@ -11,7 +11,7 @@ fits-target n m step xs i x same lt is fits =
     (subst (λ k. StepFits k (get_or (map step xs) i (step x))) (sym same)
     (All-get_or (StepFits n) (map step xs) i (step x) (subst (λ k. i < k) (sym (length-map xs step)) lt) fits)))
 
--- a run over the targets before a place, and over that at the place
+-- a run over the targets before a position, and over that at the position
 pub run-target : {X : Type 0} (n m : ℕ) (c d : ℕ → Bool) (step : X → Step) (xs : List X) (i : ℕ) (x : X) (a b new : ProgramState) → i < length xs
     → x ≡ get_or xs i x → m ≡ n → d ≡ c → IsRun n c (map step (take i xs)) a b → IsRun m d (step x ∷ []) b new
     → IsRun n c (map step (take (i + 1) xs)) a new

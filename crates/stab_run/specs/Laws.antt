@@ -23,7 +23,7 @@ RunsArePointsWithOutputs =
     (n : ℕ) (coins : ℕ → Bool) (xs : List Step) (s : State) →
     run n coins xs s ≡ state_at (point_after n coins xs (point_of s)) (outputs n coins xs (point_of s)) s
 
--- a free outcome is the coin, and any other does not depend on it
+-- a random outcome is the coin, and any other does not depend on it
 abbrev pub CoinsDecideFreeOutcomes : Type 0
 CoinsDecideFreeOutcomes =
     (trace : List Event) (p : Signed) →

@@ -9,12 +9,12 @@ pub fn runs_are_points_with_outputs()
     ensures law { RunsArePointsWithOutputs }
 {}
 
-/// An outcome that is free is the coin, and any other does not depend on the coin.
+/// An outcome that is random is the coin, and any other does not depend on the coin.
 pub fn coins_decide_free_outcomes()
     ensures law { CoinsDecideFreeOutcomes }
 {}
 
-/// A run does not depend on the coins whose outcomes were not free.
+/// A run does not depend on the coins whose outcomes were not random.
 pub fn runs_depend_on_free_coins()
     ensures law { RunsDependOnFreeCoins }
 {}

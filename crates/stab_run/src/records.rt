@@ -117,7 +117,7 @@ impl Outputs {
         })
     }
 
-    /// Appends what comes in other lists after these lengths.
+    /// Appends what other lists have after these lengths.
     pub fn append_rest(&mut self, other: &Outputs, lengths: Lengths) -> Result<(), AllocError>
         ensures value { OnOk result (output_of self.new ≡ joined (output_of self.old) (rest_of lengths (output_of other.now))) }
     {
@@ -158,7 +158,7 @@ pub fn looked_up(records: &[bool], k: u32) -> bool
     ensures value { result ≡ looked_up_of records.now k }
 {
     match records.len().checked_sub(k as usize) {
-        Some(place) => records.get(place).copied().unwrap_or(false),
+        Some(position) => records.get(position).copied().unwrap_or(false),
         None => false,
     }
 }
@@ -184,9 +184,9 @@ pub fn observables(
 {
     let mut observables = vec![in alloc; false; count]?;
     for addition in additions {
-        let place = addition.observable as usize;
-        if place < observables.len() {
-            observables[place] ^= addition.bit;
+        let position = addition.observable as usize;
+        if position < observables.len() {
+            observables[position] ^= addition.bit;
         }
     }
     Ok(observables)

@@ -162,8 +162,8 @@ fn take_parities(
     ensures run { OnOk result ((tableau : TableauState) (coins : ℕ → Bool) → IsRun tableau.qubits coins (map detector (lookbacks_of detectors.entry)) (program_state tableau (output_of outputs.old)) (program_state tableau (output_of outputs.new))) }
 {
     *applied += detectors.len() as u64;
-    for place in 0..detectors.len() {
-        let bit = parity(outputs.records.as_slice(), detectors.get(place));
+    for position in 0..detectors.len() {
+        let bit = parity(outputs.records.as_slice(), detectors.get(position));
         outputs.detectors.push(bit)?;
     }
     Ok(())

@@ -3,6 +3,6 @@ use Rattle.stab_sampler.proofs.Names.{◌≡◌, ℕ, refl, ◌+◌, ◌*◌, �
 use Rattle.stab_sampler.proofs.MovedBitLemmas.{word_bit-byte}
 
 -- a lane of the bytes of words
-pub column-lane : (place l : ℕ) (words : List ℕ) → l < 8 → lane_bits word_bit l (lane_bytes place words) ≡ lane_bits word_bit (8 * place + l) words
-column-lane place l [] lt = refl
-column-lane place l (w ∷ words) lt = λ i. word_bit-byte w place l lt i ∷ column-lane place l words lt i
+pub column-lane : (position l : ℕ) (words : List ℕ) → l < 8 → lane_bits word_bit l (lane_bytes position words) ≡ lane_bits word_bit (8 * position + l) words
+column-lane position l [] lt = refl
+column-lane position l (w ∷ words) lt = λ i. word_bit-byte w position l lt i ∷ column-lane position l words lt i

@@ -3,7 +3,7 @@ use Rattle.stab_sampler.proofs.Names.{◌≡◌, ℕ, refl, ◌+◌, ◌-◌, �
 use Rattle.stab_sampler.proofs.WordLemmas.{word_bit-xor}
 use Rattle.stab_sampler.proofs.MovedBitLemmas.{word_bit-and, word_bit-down, word_bit-up, word_bit-up_below, word_bit-cut, word_bit-cut_off}
 
--- a mask's bits, this many places higher
+-- a mask's bits, this many positions higher
 abbrev pub raised : (mask s : ℕ) → ℕ
 raised mask s = mask * 2 ^ s % 18446744073709551616
 
@@ -55,15 +55,15 @@ module _ (a b mask s : ℕ) where
   raised-following n k le = word_bit-cut_off (n * 2 ^ s % 18446744073709551616) 64 k (omega arith) le
 
   lifted : (k : ℕ) → word_bit (differing a b mask s * 2 ^ s % 18446744073709551616) k ≡ (word_bit a k ⊕ word_bit b (k - s)) && word_bit (raised mask s) k
-  lifted k = by_place (by_size s k)
+  lifted k = by_position (by_size s k)
     where
-      by_place : (k < s) ⊎ ((s ≤ k) × (k < 64)) ⊎ (64 ≤ k) → word_bit (differing a b mask s * 2 ^ s % 18446744073709551616) k ≡ (word_bit a k ⊕ word_bit b (k - s)) && word_bit (raised mask s) k
-      by_place (inl lt) = raised-below (differing a b mask s) k lt ∙ sym (and-false _ _ (raised-below mask k lt))
-      by_place (inr (inl h)) =
+      by_position : (k < s) ⊎ ((s ≤ k) × (k < 64)) ⊎ (64 ≤ k) → word_bit (differing a b mask s * 2 ^ s % 18446744073709551616) k ≡ (word_bit a k ⊕ word_bit b (k - s)) && word_bit (raised mask s) k
+      by_position (inl lt) = raised-below (differing a b mask s) k lt ∙ sym (and-false _ _ (raised-below mask k lt))
+      by_position (inr (inl h)) =
           let back : k - s + s ≡ k = omega (arith, h.0) in
           raised-at (differing a b mask s) k h.0 h.1 ∙ differing-at (k - s)
           ∙ (λ i. (word_bit a (back i) ⊕ word_bit b (k - s)) && sym (raised-at mask k h.0 h.1) i)
-      by_place (inr (inr le)) = raised-following (differing a b mask s) k le ∙ sym (and-false _ _ (raised-following mask k le))
+      by_position (inr (inr le)) = raised-following (differing a b mask s) k le ∙ sym (and-false _ _ (raised-following mask k le))
 
   first_exchanged-at : (k : ℕ) → word_bit (first_exchanged a b mask s) k ≡ (if word_bit (raised mask s) k then word_bit b (k - s) else word_bit a k)
   first_exchanged-at k =
@@ -81,9 +81,9 @@ module _ (a b mask s : ℕ) where
 abbrev pub source_word : (mask s q k : ℕ) → ℕ
 source_word mask s q k = if eqb (q % 2) 0 then (if word_bit (raised mask s) k then q / 2 + 32 else q / 2) else (if word_bit mask k then q / 2 else q / 2 + 32)
 
--- and which place there
-abbrev pub source_place : (mask s q k : ℕ) → ℕ
-source_place mask s q k = if eqb (q % 2) 0 then (if word_bit (raised mask s) k then k - s else k) else (if word_bit mask k then k + s else k)
+-- and which position there
+abbrev pub source_position : (mask s q k : ℕ) → ℕ
+source_position mask s q k = if eqb (q % 2) 0 then (if word_bit (raised mask s) k then k - s else k) else (if word_bit mask k then k + s else k)
 
 -- the words of the halves have exchanged bits
 abbrev pub FirstExchanged : (old new : List ℕ) (mask s : ℕ) → Type 0
@@ -106,10 +106,10 @@ module _ (old new : List ℕ) (mask s : ℕ) where
 
   -- a bit is that of its source
   pub exchanged-at : FirstExchanged old new mask s → SecondExchanged old new mask s → (q k : ℕ) → q < 64
-      → word_bit (get_or new q 0) k ≡ word_bit (get_or old (source_word mask s q k) 0) (source_place mask s q k)
+      → word_bit (get_or new q 0) k ≡ word_bit (get_or old (source_word mask s q k) 0) (source_position mask s q k)
   exchanged-at first second q k lt = by_half (even_or_odd q)
     where
-      by_half : ((q % 2 ≡ 0) × (2 * (q / 2) ≡ q)) ⊎ ((q % 2 ≡ 1) × (2 * (q / 2) + 1 ≡ q)) → word_bit (get_or new q 0) k ≡ word_bit (get_or old (source_word mask s q k) 0) (source_place mask s q k)
+      by_half : ((q % 2 ≡ 0) × (2 * (q / 2) ≡ q)) ⊎ ((q % 2 ≡ 1) × (2 * (q / 2) + 1 ≡ q)) → word_bit (get_or new q 0) k ≡ word_bit (get_or old (source_word mask s q k) 0) (source_position mask s q k)
       by_half (inl even) =
           ap (λ n. word_bit (get_or new n 0) k) (sym even.1)
           ∙ ap (λ w. word_bit w k) (first (q / 2) (omega (arith, lt)))

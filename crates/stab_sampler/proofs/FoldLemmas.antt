@@ -164,7 +164,7 @@ module _ (n m : ℕ) (pivots : RunPivots) (xs : List Step) (a b : Difference) (n
       subst (Follows n pivots (xs ++ rounds k xs) d) (λ i. record { letters = d.letters; flips = joined-assoc d.flips flipped (copies k flipped) i })
       (follows-append n pivots xs (rounds k xs) d (once d) (again k (once d))
       (follows-once d alike (λ t lt. here t (less t lt)))
-      (follows-again k (once d) (alike-once d alike) (λ t lt. ap pivots.strings (place t) ∙ here (all_coins_of xs + t) (more t lt))))
+      (follows-again k (once d) (alike-once d alike) (λ t lt. ap pivots.strings (position t) ∙ here (all_coins_of xs + t) (more t lt))))
     where
       one-more : (k c : ℕ) → c + k * c ≡ suc k * c
       one-more k c = omega arith
@@ -175,5 +175,5 @@ module _ (n m : ℕ) (pivots : RunPivots) (xs : List Step) (a b : Difference) (n
       more : (t : ℕ) → t < k * all_coins_of xs → all_coins_of xs + t < suc k * all_coins_of xs
       more t lt = let whole = one-more k (all_coins_of xs) in omega (arith, lt, whole)
 
-      place : (t : ℕ) → next_coin (once d) + t ≡ next_coin d + (all_coins_of xs + t)
-      place t = omega (arith, coins-once d)
+      position : (t : ℕ) → next_coin (once d) + t ≡ next_coin d + (all_coins_of xs + t)
+      position t = omega (arith, coins-once d)

@@ -1,4 +1,4 @@
--- Frames: the strings of lanes, whose letters are changed at one place.
+-- Frames: the strings of lanes, whose letters are changed at one position.
 use Rattle.stab_sampler.proofs.Names.{◌≡◌, ◌≢◌, Some, None, get_or-set_other, letters_anticommute, letter_product-I, has_x, has_x_bits, letter_where, controlled_letter, first_by, second_by, first_controlled, second_controlled, ℕ, zero, suc, ◌+◌, ◌-◌, ◌<◌, ◌≤◌, refl, sym, ◌∙◌, ap, Bool, true, false, List, [], ◌∷◌, length, get_or, set, take, arith, map-set, get_or-map, set-get_or, length-replicate, Letter, I, X, Y, Z, letter_product, single, string_product, string_product-empty, string_product-blank_right, Gate, PairGate, letter_image, letter_at, pair_letters, image, image_pair, blank, string_product-set, Letters, plus, times_where, letter_in, lane_letters, letter_times}
 
 -- strings one letter longer
@@ -43,7 +43,7 @@ times-blank b f s i j le lf ls blank =
     ap (λ k. times_where b (take k s) f) (sym e)
     ∙ times-over b f s i (j - i) (omega (arith, le, lf)) (omega (arith, le, ls)) (λ k from lt. blank k from (omega (arith, le, lt)))
 
--- a letter at one place
+-- a letter at one position
 
 pub times-set : (b : Bool) (n q : ℕ) (letter : Letter) (f : List Letter) → length f ≡ n → q < n
     → set f q (letter_times b letter (letter_at f q)) ≡ times_where b (single n q letter).letters f
@@ -58,11 +58,11 @@ times-product true more letter = refl
 times-product false more letter = sym (letter_product-I letter)
 
 module _ {W : Type 0} (at : W → ℕ → Bool) (l : ℕ) (ws : List (Letters W)) where
-  -- the letter that is read at a place
+  -- the letter that is read at a position
   pub letter-read : (q : ℕ) (w : Letters W) → q < length ws → w ≡ get_or ws q w → letter_in at l w ≡ letter_at (lane_letters at l ws) q
   letter-read q w lt is = ap (letter_in at l) is ∙ sym (get_or-map (letter_in at l) ws q w I lt)
 
-  -- a letter put at a place
+  -- a letter put at a position
   pub letter-put : (q : ℕ) (v : Letters W) (x : Letter) → letter_in at l v ≡ x → lane_letters at l (set ws q v) ≡ set (lane_letters at l ws) q x
   letter-put q v x is = map-set (letter_in at l) ws q v ∙ ap (set (lane_letters at l ws) q) is
 
@@ -97,7 +97,7 @@ module _ {W : Type 0} (at : W → ℕ → Bool) (l : ℕ) (ws : List (Letters W)
       ∙ times-product _ c (letter_in at l m)
       ∙ sym (second_controlled g (letter_in at l w) (letter_in at l m) ∙ ap (λ o. second_by o (letter_in at l w) (letter_in at l m)) is))
 
-  -- letters that change places
+  -- letters that are exchanged
   pub exchange-put : (g : PairGate) (a b : ℕ) (w v m : Letters W) → controlled_letter g ≡ None → a < length ws → b < length ws
       → w ≡ get_or ws a w → v ≡ get_or ws b v → m ≡ w
       → lane_letters at l (set (set ws a v) b m) ≡ (image_pair g a b (plus (lane_letters at l ws))).letters
@@ -113,7 +113,7 @@ module _ {W : Type 0} (at : W → ℕ → Bool) (l : ℕ) (ws : List (Letters W)
       letter-put q v _ (made ∙ ap (letter_times b letter) (letter-read q w within is))
       ∙ times-set b n q letter (lane_letters at l ws) size lt
 
-  -- a letter of a string multiplied on at the next place
+  -- a letter of a string multiplied on at the next position
 
   pub product-put : (b : Bool) (string letters : List Letter) (q : ℕ) (w v : Letters W) (x : Letter) → q < length ws → q < length string → q < length letters
       → w ≡ get_or ws q w → x ≡ get_or string q I → lane_letters at l ws ≡ times_where b (take q string) letters

@@ -30,7 +30,7 @@ module _ {W : Type 0} {at : W → ℕ → Bool} {count : ℕ} {recorded_pivots :
         follows-append recorded_pivots.strings.now.qubits (lane_pivots recorded_pivots (coins l)) xs ys (lane_difference at l a) (lane_difference at l b) (lane_difference at l c) (first.follow l lt) (then.follow l lt);
   }
 
-  -- over the targets before a place, and over that at the place; and over all
+  -- over the targets before a position, and over that at the position; and over all
 
   pub go-further : {X : Type 0} (step : X → Step) (xs : List X) (i : ℕ) (x : X) (a b c : Lanes W) → i < length xs → x ≡ get_or xs i x
       → GoOver at count recorded_pivots coins (map step (take i xs)) a b → GoOver at count recorded_pivots coins (step x ∷ []) b c

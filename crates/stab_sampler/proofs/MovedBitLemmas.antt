@@ -15,11 +15,11 @@ both a b x e ha hb = by_cases (two_cases a ha) (two_cases b hb)
 pub word_bit-and : (a b l : ℕ) → word_bit (bit_and a b) l ≡ word_bit a l && word_bit b l
 word_bit-and a b l = both (bit_at a l) (bit_at b l) (bit_at (bit_and a b) l) (bit_at_and a b l) (bit_at-lt a l) (bit_at-lt b l)
 
--- moved down by this many places
+-- moved down by this many positions
 pub word_bit-down : (a s l : ℕ) → word_bit (a / 2 ^ s) l ≡ word_bit a (l + s)
 word_bit-down a s l = ap (λ n. eqb (n % 2) 1) (div-div-eq-div-mul a (2 ^ s) (2 ^ l) ∙ ap (λ p. a / p) (sym (pow-add 2 s l)) ∙ ap (λ k. a / 2 ^ k) (omega arith))
 
--- moved up by this many places
+-- moved up by this many positions
 pub word_bit-up : (a s l : ℕ) → s ≤ l → word_bit (a * 2 ^ s) l ≡ word_bit a (l - s)
 word_bit-up a s l le = let e : a * 2 ^ s ≡ a * 2 ^ s + 0 = omega arith in ap (λ n. word_bit n l) e ∙ ap (λ b. eqb b 1) (bit_at_cat_high a s 0 l (pow_pos s) le)
 
@@ -36,5 +36,5 @@ pub word_bit-cut_off : (a w l : ℕ) → a < 2 ^ w → w ≤ l → word_bit a l 
 word_bit-cut_off a w l small le = ap (λ b. eqb b 1) (bit_at_above a w l small le)
 
 -- a byte
-pub word_bit-byte : (a place l : ℕ) → l < 8 → word_bit (byte_at a place) l ≡ word_bit a (8 * place + l)
-word_bit-byte a place l lt = word_bit-cut (a / 2 ^ (8 * place)) 8 l lt ∙ word_bit-down a (8 * place) l ∙ ap (word_bit a) (omega arith)
+pub word_bit-byte : (a position l : ℕ) → l < 8 → word_bit (byte_at a position) l ≡ word_bit a (8 * position + l)
+word_bit-byte a position l lt = word_bit-cut (a / 2 ^ (8 * position)) 8 l lt ∙ word_bit-down a (8 * position) l ∙ ap (word_bit a) (omega arith)

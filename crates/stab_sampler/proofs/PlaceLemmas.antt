@@ -1,4 +1,4 @@
--- Places: what holds at each of some numbers that are named one by one.
+-- Positions: what holds at each of some numbers that are named one by one.
 use Rattle.stab_sampler.proofs.Names.{◌≡◌, ℕ, zero, suc, ◌+◌, ◌<◌, subst, arith}
 
 -- four numbers, and those after them

@@ -37,8 +37,8 @@ joined-low low high l small lt =
 pub joined-high : (low high l : ℕ) → high < 4294967296 → low < 4294967296 → word_bit (high * 2 ^ 32 % 18446744073709551616 + low) (32 + l) ≡ word_bit high l
 joined-high low high l small few =
     let whole : high * 2 ^ 32 % 18446744073709551616 + low ≡ high * 2 ^ 32 + low = omega (arith, small) in
-    let place : 32 + l - 32 ≡ l = omega arith in
-    ap (λ w. word_bit w (32 + l)) whole ∙ ap (λ b. eqb b 1) (bit_at_cat_high high 32 low (32 + l) few (omega arith)) ∙ ap (word_bit high) place
+    let position : 32 + l - 32 ≡ l = omega arith in
+    ap (λ w. word_bit w (32 + l)) whole ∙ ap (λ b. eqb b 1) (bit_at_cat_high high 32 low (32 + l) few (omega arith)) ∙ ap (word_bit high) position
 
 -- the coins of lanes
 
@@ -114,8 +114,8 @@ coins-joined c later group low high words lows highs are front back k l small lt
     by_half : (l < 32) ⊎ (32 ≤ l) → word_bit (get_or words k 0) l ≡ lane_coin c l (64 * group + k)
     by_half (inl less) = front k l small less ∙ lows k l small less
     by_half (inr le) =
-        let place : 32 + (l - 32) ≡ l = omega (arith, le) in
-        subst (λ i. word_bit (get_or words k 0) i ≡ lane_coin c i (64 * group + k)) place
+        let position : 32 + (l - 32) ≡ l = omega (arith, le) in
+        subst (λ i. word_bit (get_or words k 0) i ≡ lane_coin c i (64 * group + k)) position
         (back k (l - 32) small ∙ highs k (l - 32) small (omega (arith, lt)) ∙ are (l - 32) (64 * group + k))
 
 -- the coins of all parts are those of the lanes
@@ -125,10 +125,10 @@ pub coins-parts : (c : SeededShots) (group parts t : ℕ) (words : List (List �
 coins-parts c group parts t words coins are at e l lt =
     let within : l / 64 < parts = omega (arith, lt) in
     let lane : 64 * (l / 64) + l % 64 ≡ l = omega arith in
-    let place : 64 * group + t % 64 ≡ t = omega (arith, e) in
+    let position : 64 * group + t % 64 ≡ t = omega (arith, e) in
     ap (λ w. word_bit w (l % 64)) (at (l / 64) within)
     ∙ are (l / 64) (t % 64) (l % 64) within (omega arith) (omega arith)
-    ∙ (λ i. lane_coin c (lane i) (place i))
+    ∙ (λ i. lane_coin c (lane i) (position i))
 
 -- one part more
 pub part-next : (c left : SeededShots) (group part : ℕ) (words : List (List ℕ)) (coins : List ℕ) → part < length words → AreCoinsOfParts c group part words

@@ -1,7 +1,7 @@
 -- Transposition: six exchanges between halves take bit k of word q from bit q of word k.
 use Rattle.stab_sampler.proofs.Names.{◌≡◌, ℕ, zero, suc, refl, ◌+◌, ◌-◌, ◌*◌, ◌/◌, ◌^◌, ◌<◌, ◌%◌, ap, ◌∙◌, eqb, Bool, true, false, ◌&&◌, inl, inr, arith, List, get_or, ◌⊎◌, word_bit}
 use Rattle.std.specs.Prelude.{nat_lt}
-use Rattle.stab_sampler.proofs.ExchangeLemmas.{FirstExchanged, SecondExchanged, exchanged-at, source_word, source_place}
+use Rattle.stab_sampler.proofs.ExchangeLemmas.{FirstExchanged, SecondExchanged, exchanged-at, source_word, source_position}
 
 -- a test of all numbers below one
 abbrev pub all_below : ℕ → (ℕ → Bool) → Bool
@@ -34,7 +34,7 @@ equal a b e = grind (arith, e)
 less : (a b : ℕ) → nat_lt a b ≡ true → a < b
 less a b e = grind (arith, e)
 
--- the word and the place of a bit before the last t exchanges: the lowest t bits of both have changed sides
+-- the word and the position of a bit before the last t exchanges: the lowest t bits of both have changed sides
 abbrev pub word_before : (t q k : ℕ) → ℕ
 word_before t q k = q / 2 ^ t + 2 ^ (6 - t) * (k % 2 ^ t)
 
@@ -46,7 +46,7 @@ abbrev pub takes : (t mask s q k : ℕ) → Bool
 takes t mask s q k =
     nat_lt (word_before t q k) 64
     && (eqb (source_word mask s (word_before t q k) (place_before t q k)) (word_before (suc t) q k)
-    && eqb (source_place mask s (word_before t q k) (place_before t q k)) (place_before (suc t) q k))
+    && eqb (source_position mask s (word_before t q k) (place_before t q k)) (place_before (suc t) q k))
 
 abbrev pub takes_all : (t mask s : ℕ) → Bool
 takes_all t mask s = all_below 64 (λ q. all_below 64 (λ k. takes t mask s q k))
@@ -75,12 +75,12 @@ pub followed : (t mask s : ℕ) (old new : List ℕ) → takes_all t mask s ≡ 
 followed t mask s old new all first second q k small few =
     let one = tested 64 (λ k. takes t mask s q k) (tested 64 (λ q. all_below 64 (λ k. takes t mask s q k)) all q small) k few in
     let word = word_before t q k in
-    let place = place_before t q k in
+    let position = place_before t q k in
     let both = right (nat_lt word 64) _ one in
-    exchanged-at old new mask s first second word place (less word 64 (left (nat_lt word 64) _ one))
+    exchanged-at old new mask s first second word position (less word 64 (left (nat_lt word 64) _ one))
     ∙ (λ i. word_bit
-    (get_or old (equal (source_word mask s word place) (word_before (suc t) q k) (left (eqb (source_word mask s word place) (word_before (suc t) q k)) _ both) i) 0)
-    (equal (source_place mask s word place) (place_before (suc t) q k) (right (eqb (source_word mask s word place) (word_before (suc t) q k)) _ both) i))
+    (get_or old (equal (source_word mask s word position) (word_before (suc t) q k) (left (eqb (source_word mask s word position) (word_before (suc t) q k)) _ both) i) 0)
+    (equal (source_position mask s word position) (place_before (suc t) q k) (right (eqb (source_word mask s word position) (word_before (suc t) q k)) _ both) i))
 
 -- six exchanges transpose 64 words
 pub transposed-at : (words one two three four five six : List ℕ)
@@ -93,14 +93,14 @@ pub transposed-at : (words one two three four five six : List ℕ)
     → (q k : ℕ) → q < 64 → k < 64 → word_bit (get_or six q 0) k ≡ word_bit (get_or words k 0) q
 transposed-at words one two three four five six a a' b b' c c' d d' e e' f f' q k small few =
     let word_now : q ≡ word_before 0 q k = omega arith in
-    let place_now : k ≡ place_before 0 q k = omega arith in
+    let position_now : k ≡ place_before 0 q k = omega arith in
     let word_first : word_before 6 q k ≡ k = omega (arith, small, few) in
-    let place_first : place_before 6 q k ≡ q = omega (arith, small, few) in
-    (λ i. word_bit (get_or six (word_now i) 0) (place_now i))
+    let position_first : place_before 6 q k ≡ q = omega (arith, small, few) in
+    (λ i. word_bit (get_or six (word_now i) 0) (position_now i))
     ∙ followed 0 0x5555555555555555 1 five six ones f f' q k small few
     ∙ followed 1 0x3333333333333333 2 four five twos e e' q k small few
     ∙ followed 2 0x0F0F0F0F0F0F0F0F 4 three four fours d d' q k small few
     ∙ followed 3 0x00FF00FF00FF00FF 8 two three eights c c' q k small few
     ∙ followed 4 0x0000FFFF0000FFFF 16 one two sixteens b b' q k small few
     ∙ followed 5 0x00000000FFFFFFFF 32 words one halves a a' q k small few
-    ∙ (λ i. word_bit (get_or words (word_first i) 0) (place_first i))
+    ∙ (λ i. word_bit (get_or words (word_first i) 0) (position_first i))

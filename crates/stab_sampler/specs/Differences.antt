@@ -21,7 +21,7 @@ pub record Difference : Type 0 where
   pub letters : List Letter
   pub flips : RunOutput
 
--- the difference of a lane, if lanes keep flips in place of bits
+-- the difference of a lane, if lanes keep flips instead of bits
 abbrev pub lane_difference : {W : Type 0} → (W → ℕ → Bool) → ℕ → Lanes W → Difference
 lane_difference at l lanes = record { letters = lane_letters at l lanes.frames.letters.items; flips = lane_output at l lanes }
 

@@ -9,48 +9,48 @@ ghost use Rattle.stab_sampler.specs.Blocks.{first_exchanged, second_exchanged, r
 use crate::word::{Word, byte};
 use std::alloc::AllocError;
 
-/// Writes the bits of the 64 lanes from 64 * place on, of words of more.
-pub fn write_part<W: Word>(words: &[W], place: usize, part: &mut [u64])
-    requires in_range { 64 * place + 64 ≤ W.lanes }
+/// Writes the bits of the 64 lanes from 64 * position on, of words of more lanes.
+pub fn write_part<W: Word>(words: &[W], position: usize, part: &mut [u64])
+    requires in_range { 64 * position + 64 ≤ W.lanes }
     requires as_many { length part.old ≡ length words.now }
     ensures size { length part.new ≡ length part.old }
-    ensures value { (l : ℕ) → l < 64 → lane_bits word_bit l part.new ≡ lane_bits W.at (64 * place + l) words.now }
+    ensures value { (l : ℕ) → l < 64 → lane_bits word_bit l part.new ≡ lane_bits W.at (64 * position + l) words.now }
 {
     for k in 0..words.len() {
-        part[k] = words[k].part(place);
+        part[k] = words[k].part(position);
     }
 }
 
-/// Writes the byte at a place of each word, counted from the lowest: a bit of each of eight lanes.
-pub fn write_bytes(words: &[u64], place: usize, bytes: &mut [u8])
-    requires in_range { place < 8 }
+/// Writes the byte at a position of each word, counted from the lowest: a bit of each of eight lanes.
+pub fn write_bytes(words: &[u64], position: usize, bytes: &mut [u8])
+    requires in_range { position < 8 }
     requires as_many { length bytes.old ≡ length words.now }
-    ensures value { bytes.new ≡ lane_bytes place words.now }
+    ensures value { bytes.new ≡ lane_bytes position words.now }
 {
     for i in 0..words.len() {
-        bytes[i] = byte(words[i], place);
+        bytes[i] = byte(words[i], position);
     }
 }
 
-/// Two words that have exchanged bits: the second's at the places of a mask, and the first's this many places higher.
-fn exchanged(first: u64, second: u64, mask: u64, places: u32) -> (u64, u64)
-    requires in_range { places < 64 }
-    ensures first { result.0 ≡ first_exchanged first second mask places }
-    ensures second { result.1 ≡ second_exchanged first second mask places }
+/// Two words that have exchanged bits: the second's at the positions of a mask, and the first's this many positions higher.
+fn exchanged(first: u64, second: u64, mask: u64, positions: u32) -> (u64, u64)
+    requires in_range { positions < 64 }
+    ensures first { result.0 ≡ first_exchanged first second mask positions }
+    ensures second { result.1 ≡ second_exchanged first second mask positions }
 {
-    let differing = ((first >> places) ^ second) & mask;
-    (first ^ (differing << places), second ^ differing)
+    let differing = ((first >> positions) ^ second) & mask;
+    (first ^ (differing << positions), second ^ differing)
 }
 
 /// Exchanges bits of the two halves of 64 words, each word with its partner in the other half. Partners are neighbours
 /// afterwards, so that after six times each word is where it was.
-fn exchange_halves(words: &[u64; 64], after: &mut [u64; 64], mask: u64, places: u32)
-    requires in_range { places < 64 }
-    ensures first { (p : ℕ) → p < 32 → get_or after.new (2 * p) 0 ≡ first_exchanged (get_or words.now p 0) (get_or words.now (p + 32) 0) mask places }
-    ensures second { (p : ℕ) → p < 32 → get_or after.new (2 * p + 1) 0 ≡ second_exchanged (get_or words.now p 0) (get_or words.now (p + 32) 0) mask places }
+fn exchange_halves(words: &[u64; 64], after: &mut [u64; 64], mask: u64, positions: u32)
+    requires in_range { positions < 64 }
+    ensures first { (p : ℕ) → p < 32 → get_or after.new (2 * p) 0 ≡ first_exchanged (get_or words.now p 0) (get_or words.now (p + 32) 0) mask positions }
+    ensures second { (p : ℕ) → p < 32 → get_or after.new (2 * p + 1) 0 ≡ second_exchanged (get_or words.now p 0) (get_or words.now (p + 32) 0) mask positions }
 {
     for p in 0..32 {
-        let (first, second) = exchanged(words[p], words[p + 32], mask, places);
+        let (first, second) = exchanged(words[p], words[p + 32], mask, positions);
         after[2 * p] = first;
         after[2 * p + 1] = second;
     }
@@ -82,7 +82,7 @@ fn transposed(words: &[u64]) -> [u64; 64]
     block
 }
 
-/// Writes the bits of 64 lanes in place of what a list has: of each 64 words, and of those left, a block with a word for each
+/// Replaces what a list has by the bits of 64 lanes: for each 64 words, and for the words left, a block with a word for each
 /// lane, the first bit the lowest.
 pub fn write_blocks(words: &[u64], blocks: &mut Vec<[u64; 64]>) -> Result<(), AllocError>
     ensures room { OnOk result (length words.now ≤ 64 * length blocks.new.items) }

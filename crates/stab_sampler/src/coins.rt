@@ -174,8 +174,8 @@ fn put_block(words: &mut [u32; 64], block: usize, lane: usize, given: &[u32; 16]
     ensures others { (k l : ℕ) → k < 64 → l ≢ lane → word_bit (slice_index_or words.new k 0) l ≡ word_bit (slice_index_or words.old k 0) l }
 {
     for k in 0..16 {
-        let place = 16 * block + k;
-        words[place] = flip_lane(words[place], lane, given[k] % 2 == 1);
+        let position = 16 * block + k;
+        words[position] = flip_lane(words[position], lane, given[k] % 2 == 1);
     }
 }
 
@@ -187,14 +187,14 @@ fn joined(low: u32, high: u32) -> u64
     (u64::from(high) << 32) + u64::from(low)
 }
 
-/// The coins at a place among the 64 of each part.
-fn coins_at<const N: usize>(parts: &[[u64; 64]; N], place: usize) -> [u64; N]
-    requires in_range { place < 64 }
-    ensures value { (p : ℕ) → p < N → slice_index_or result p 0 ≡ slice_index_or (slice_index_or parts.now p []) place 0 }
+/// The coins at a position among the 64 of each part.
+fn coins_at<const N: usize>(parts: &[[u64; 64]; N], position: usize) -> [u64; N]
+    requires in_range { position < 64 }
+    ensures value { (p : ℕ) → p < N → slice_index_or result p 0 ≡ slice_index_or (slice_index_or parts.now p []) position 0 }
 {
     let mut words = [0; N];
     for part in 0..N {
-        words[part] = parts[part][place];
+        words[part] = parts[part][position];
     }
     words
 }

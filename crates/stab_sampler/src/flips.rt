@@ -11,14 +11,14 @@ use crate::word::Word;
 use stab_recording::Shot;
 use std::alloc::{AllocError, Global};
 
-/// Flips the bits of all lanes at a place, if the bit of the reference is 1. Else no word is fetched.
-fn flip_where<W: Word>(bit: bool, flips: &mut Vec<W>, place: usize)
-    requires in_range { place < length flips.old.items }
+/// Flips the bits of all lanes at a position, if the bit of the reference is 1. Else no word is fetched.
+fn flip_where<W: Word>(bit: bool, flips: &mut Vec<W>, position: usize)
+    requires in_range { position < length flips.old.items }
     ensures size { length flips.new.items ≡ length flips.old.items }
-    ensures value { (l : ℕ) → l < W.lanes → lane_bits W.at l flips.new.items ≡ slice_set (lane_bits W.at l flips.old.items) place (slice_index_or (lane_bits W.at l flips.old.items) place false ⊕ bit) }
+    ensures value { (l : ℕ) → l < W.lanes → lane_bits W.at l flips.new.items ≡ slice_set (lane_bits W.at l flips.old.items) position (slice_index_or (lane_bits W.at l flips.old.items) position false ⊕ bit) }
 {
     if bit {
-        flips[place] = flips[place].xor(W::all(true));
+        flips[position] = flips[position].xor(W::all(true));
     }
 }
 
@@ -26,8 +26,8 @@ fn flip_where<W: Word>(bit: bool, flips: &mut Vec<W>, place: usize)
 pub fn flip_bits<W: Word>(bits: &[bool], flips: &mut Vec<W>)
     ensures value { (l : ℕ) → l < W.lanes → length (lane_bits W.at l flips.old.items) ≡ length bits.now → lane_bits W.at l flips.new.items ≡ flipped bits.now (lane_bits W.at l flips.old.items) }
 {
-    for place in 0..bits.len().min(flips.len()) {
-        flip_where(bits[place], flips, place);
+    for position in 0..bits.len().min(flips.len()) {
+        flip_where(bits[position], flips, position);
     }
 }
 

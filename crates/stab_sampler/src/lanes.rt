@@ -54,9 +54,9 @@ pub fn parity<W: Word>(records: &[W], lookbacks: &[u32]) -> W
 fn add<W: Word>(observables: &mut Vec<W>, sum: Sum<W>)
     ensures value { (l : ℕ) → l < W.lanes → lane_bits W.at l observables.new.items ≡ added sum.observable (W.at sum.parity l) (lane_bits W.at l observables.old.items) }
 {
-    let place = sum.observable as usize;
-    if place < observables.len() {
-        observables[place] = sum.parity.xor(observables[place]);
+    let position = sum.observable as usize;
+    if position < observables.len() {
+        observables[position] = sum.parity.xor(observables[position]);
     }
 }
 
@@ -75,7 +75,7 @@ pub fn observables<W: Word>(
     Ok(observables)
 }
 
-/// Writes the bits of a lane in place of what a list has.
+/// Replaces what a list has by the bits of a lane.
 pub fn write_lane<W: Word>(words: &[W], lane: usize, bits: &mut Vec<bool>) -> Result<(), AllocError>
     requires in_range { lane < W.lanes }
     ensures value { OnOk result (bits.new.items ≡ lane_bits W.at lane words.now) }

@@ -1,4 +1,4 @@
-//! One outcome, on lanes that are propagated over what is recorded of a run. Lanes keep flips in place of bits.
+//! One outcome, on lanes that are propagated over what is recorded of a run. Lanes keep flips instead of bits.
 ghost use Rattle.std.specs.Prelude.{◌≡◌, ℕ, ◌+◌, ◌<◌, length, IfOk, OnOk};
 ghost use Rattle.stab_sampler.specs.RecordedPivots.{lane_pivots};
 ghost use Rattle.stab_sampler.specs.Differences.{lane_difference, MayPropagate, IsMeasuredBy};

@@ -38,7 +38,7 @@ fn clear_flags(flags: &mut Vec<bool>)
     flags.fill(false);
 }
 
-/// Puts flags from a place on after others.
+/// Puts flags from a position on after others.
 fn push_rest(flags: &mut Vec<bool>, all: &[bool], from: usize) -> Result<(), AllocError>
     ensures value { OnOk result (flags.new.items ≡ flags.old.items ++ drop from all.now) }
 {

@@ -11,7 +11,7 @@ use crate::word::Word;
 use stab_run::Lengths;
 use std::alloc::AllocError;
 
-/// Appends what a list has from a place on, this many times.
+/// Appends what a list has from a position on, this many times.
 fn append_times<T: Copy>(items: &mut Vec<T>, from: usize, count: usize) -> Result<(), AllocError>
     ensures value { OnOk result (items.new.items ≡ items.old.items ++ times count (drop from items.old.items)) }
 {

@@ -26,7 +26,7 @@ use stab_io::{Fault, Refusal};
 use stab_items::Circuit;
 use std::alloc::Global;
 
-/// Runs a circuit once in each lane by a reference of it, and puts what the shots give in place of what the lists had.
+/// Runs a circuit once in each lane by a reference of it, and replaces what the lists had by what the shots give.
 fn run_by_reference<W: Word, C: Draw<W>>(
     alloc: Global,
     circuit: &Circuit,
@@ -143,8 +143,8 @@ pub(crate) fn run_checked_batch<W: Word, C: Draw<W>>(
     }
 }
 
-/// Runs a circuit on n qubits, at most 1,024, once in each lane, with the coins of the lane, and puts what the shots give in
-/// place of what the lists had. Their memory serves again, so that many such runs need little that is fresh.
+/// Runs a circuit on n qubits, at most 1,024, once in each lane, with the coins of the lane, and replaces what the lists had by
+/// what the shots give. Their memory serves again, so that many such runs need little that is fresh.
 ///
 /// Each lane is the run that `stab_recording::run_once` makes with these coins. By a reference of the circuit no tableau goes through
 /// it; without one a tableau does so once, however many lanes there are, and is recorded on its way. Refused as `Circuit::check` refuses, else

@@ -1,4 +1,4 @@
-//! One step of a run, on the lanes that are propagated over what is recorded of it. Lanes keep flips in place of bits.
+//! One step of a run, on the lanes that are propagated over what is recorded of it. Lanes keep flips instead of bits.
 ghost use Rattle.std.specs.Prelude.{◌≡◌, ℕ, ◌<◌, ◌∷◌, [], ◌++◌, ◌&&◌, if◌then◌else◌, length, OnOk};
 ghost use Rattle.stab_pauli.specs.Paulis.{single};
 ghost use Rattle.stab_frames.specs.Frames.{times_where};

@@ -87,8 +87,8 @@ fn propagate_detectors<W: Word>(
 ) -> Result<(), AllocError>
     ensures goes { OnOk result (GoFreely W.at W.lanes (map detector (lookbacks_of detectors.entry)) lanes.old lanes.new) }
 {
-    for place in 0..detectors.len() {
-        propagate_detector(lanes, detectors.get(place))?;
+    for position in 0..detectors.len() {
+        propagate_detector(lanes, detectors.get(position))?;
     }
     Ok(())
 }

@@ -34,7 +34,7 @@ fn key_bytes(seed: u64) -> [u8; 32]
 }
 
 /// The next sixteen words of a stream. They are asked for one by one, without a loop, and in the caller's own code: so the compiler
-/// knows at each of them which place of its buffer the generator has come to, and need not ask whether a buffer is done.
+/// knows at each of them which position of its buffer the generator has come to, and need not ask whether a buffer is done.
 #[inline(always)]
 fn next_block(words: &mut ChaCha8Rng) -> [u32; 16]
     requires in_stream { words.old.word_pos + 16 < 2 ^ 68 }

@@ -51,7 +51,7 @@ impl<'a> Model for UnitLanes<'a> {
 }
 
 impl<'a> UnitLanes<'a> {
-    /// In lane l the coin that is 1 is the one whose number is at place l of a list. The numbers ascend. Lanes beyond the list have no
+    /// In lane l the coin that is 1 is the one whose number is at position l of a list. The numbers ascend. Lanes beyond the list have no
     /// such coin.
     pub fn new(numbers: &'a [u64]) -> UnitLanes<'a>
         requires ascending { AreAscending numbers.now }

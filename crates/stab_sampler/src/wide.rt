@@ -42,8 +42,8 @@ impl<const N: usize> Word for Wide<N> {
         self.words[lane / 64].bit(lane % 64)
     }
 
-    fn part(&self, place: usize) -> u64 {
-        self.words[place]
+    fn part(&self, position: usize) -> u64 {
+        self.words[position]
     }
 
     ghost in_parts = { mul-mod_right 64 N };

@@ -27,10 +27,10 @@ pub trait Word: Copy {
         requires in_range { lane < lanes }
         ensures value { result ≡ at self lane };
 
-    /// The bits of the 64 lanes from 64 * place on.
-    fn part(&self, place: usize) -> u64
-        requires in_range { 64 * place + 64 ≤ lanes }
-        ensures value { (l : ℕ) → l < 64 → word_bit result l ≡ at self.now (64 * place + l) };
+    /// The bits of the 64 lanes from 64 * position on.
+    fn part(&self, position: usize) -> u64
+        requires in_range { 64 * position + 64 ≤ lanes }
+        ensures value { (l : ℕ) → l < 64 → word_bit result l ≡ at self.now (64 * position + l) };
 
     // Lanes are 64 by 64.
     ghost in_parts: { lanes % 64 ≡ 0 };
@@ -57,17 +57,17 @@ impl Word for u64 {
         (self >> lane) & 1 == 1
     }
 
-    fn part(&self, place: usize) -> u64 {
+    fn part(&self, position: usize) -> u64 {
         *self
     }
 
     ghost in_parts = { refl };
 }
 
-/// Byte number `place` of a word, counted from the lowest.
-pub fn byte(word: u64, place: usize) -> u8
-    requires in_range { place < 8 }
-    ensures value { result ≡ byte_at word place }
+/// Byte number `position` of a word, counted from the lowest.
+pub fn byte(word: u64, position: usize) -> u8
+    requires in_range { position < 8 }
+    ensures value { result ≡ byte_at word position }
 {
-    (word >> (8 * place) & 0xff) as u8
+    (word >> (8 * position) & 0xff) as u8
 }

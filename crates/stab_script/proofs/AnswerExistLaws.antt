@@ -1,5 +1,5 @@
 -- Laws of answers: on items that can be edited each request has one, which leaves such items; so have requests one after another.
-use Rattle.stab_script.proofs.Names.{◌≡◌, ◌≤◌, ◌<◌, ◌^◌, ℕ, Bool, true, false, nat_lt, List, [], ◌∷◌, length, refl, sym, ap, ◌∙◌, subst, Option, Some, None, Result, Ok, Err, inl, inr, if◌then◌else◌, arith, slice_split, ltb-true, ltb-false, Refusal, TooDeep, QubitOutOfRange, LookbackTooFar, TooManySteps, BadCommand, Fault, TracesHaveReducedRows, is_byte, Items, OneItem, done, before, listed, entries, depth, Path, Edit, edited, list_verdict, split_list, looks_too_far, most_steps, named_qubits, qubits_of, check_of, check_within, unroll, item_fault, StandsForOne, IsCircuit, AreOfLines, AreAlike, PutsLines, TextsAreLines, ItemTextsAreLines, ItemTextsHaveOneMeaning, EditedItemsAreOfLines, SplitsLeaveTheSteps, SplitItemsAreOfLines, LinesKeepQubitsDistinct, listed-entries, State, run_of, IsSoundRun, RunsAreSound, check-fits, check-whole, DeterministicParities, CoinsHaveRows, CircuitsHaveDistances, DeterministicHasNoDecider, f01_bytes, printed, lines_of, Environment, Request, begin, put, delete, show, ask, deterministic, distance, refuse, Held, run_held, Answer, IsPut, Shows, IsDeterministicAnswer, IsDistanceAnswer, IsAnswer, IsAnswerToAll, options_asked, both, unless, judged, decided, refusing, replying, edit_of, edited_items, counted_shown, held_split, held_after, shown_or_refused, counted_answer, reply_text, greeting, session_numbers, CountedRequest, mark, split, changed, changed_records, sign, item, counts, coin_table, why, way, CanBeEdited, ItemEdit, Insert, Replace, Show, Measurements, Free, Detectors, Observables, Stabilisers, Circuit}
+use Rattle.stab_script.proofs.Names.{◌≡◌, ◌≤◌, ◌<◌, ◌^◌, ℕ, Bool, true, false, nat_lt, List, [], ◌∷◌, length, refl, sym, ap, ◌∙◌, subst, Option, Some, None, Result, Ok, Err, inl, inr, if◌then◌else◌, arith, slice_split, ltb-true, ltb-false, Refusal, TooDeep, QubitOutOfRange, LookbackTooFar, TooManySteps, BadCommand, Fault, TracesHaveReducedRows, is_byte, Items, OneItem, done, before, listed, entries, depth, Path, Edit, edited, list_verdict, split_list, looks_too_far, most_steps, named_qubits, qubits_of, check_of, check_within, unroll, item_fault, StandsForOne, IsCircuit, AreOfLines, AreAlike, PutsLines, TextsAreLines, ItemTextsAreLines, ItemTextsHaveOneMeaning, EditedItemsAreOfLines, SplitsLeaveTheSteps, SplitItemsAreOfLines, LinesKeepQubitsDistinct, listed-entries, State, run_of, IsSoundRun, RunsAreSound, check-fits, check-whole, DeterministicParities, CoinsHaveRows, CircuitsHaveDistances, DeterministicHasNoDecider, f01_bytes, printed, lines_of, Environment, Request, begin, put, delete, show, ask, deterministic, distance, refuse, Held, run_held, Answer, IsPut, Shows, IsDeterministicAnswer, IsDistanceAnswer, IsAnswer, IsAnswerToAll, options_asked, both, unless, judged, decided, refusing, replying, edit_of, edited_items, counted_shown, held_split, held_after, shown_or_refused, counted_answer, reply_text, greeting, session_numbers, CountedRequest, bookmark, split, changed, changed_records, sign, item, counts, coin_table, why, way, CanBeEdited, ItemEdit, Insert, Replace, Show, Measurements, Free, Detectors, Observables, Stabilisers, Circuit}
 use Rattle.stab_script.specs.CountedRequests.{numbers}
 use Rattle.stab_items.specs.declared.edit.Edit.TheVariants as circuit_edit
 use Rattle.stab_script.proofs.DistanceExistLaws.{distance_answered}
@@ -85,7 +85,7 @@ split_keeps steps lines n held path round can = by_result (split_list path round
 -- what only a counted script asks for leaves items that can be edited
 after_keeps : SplitsLeaveTheSteps → SplitItemsAreOfLines → (n : ℕ) (run : State) (held : Held) (r : CountedRequest) → CanBeEdited n held.items
     → CanBeEdited n (held_after run held r).items
-after_keeps steps lines n run held mark can = can
+after_keeps steps lines n run held bookmark can = can
 after_keeps steps lines n run held (split place round) can = split_keeps steps lines n held place round can
 after_keeps steps lines n run held numbers can = can
 after_keeps steps lines n run held changed can = can

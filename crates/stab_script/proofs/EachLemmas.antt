@@ -1,7 +1,6 @@
 -- Lines of errors: one after another, cut off or whole, and what they mean for runs.
 use Rattle.stab_script.proofs.Names.{◌≡◌, refl, sym, ap, subst, ◌∙◌, ℕ, ◌<◌, Bool, List, [], ◌∷◌, ◌++◌, length, Result, Ok, Err, flat_map, map, codes, entry, one_places, Items, unroll, Path, path_at, WroteUpTo}
-use Rattle.std.proofs.Common.{ap₂, All, append_assoc}
-use Rattle.std.proofs.lemmas.List.Elements.{All-nil, All-cons, All-head, All-tail}
+use Rattle.std.proofs.Common.{ap₂, arith, zero, suc, All, append_assoc, get_or, slice_index_or}
 use Rattle.std.specs.Prelude.{IsErrAnd}
 use Rattle.stab_io.specs.Devices.{OutputView, CutOff}
 use Rattle.stab_io.specs.declared.refusal.Fault.{Fault}
@@ -21,20 +20,21 @@ use Rattle.stab_ways.specs.PutIn.{string_after, string_flips}
 use Rattle.stab_ways.specs.Ways.{placed}
 use Rattle.stab_ways.specs.Laws.{StringsFlipRuns}
 use Rattle.stab_script.specs.WayTexts.{bits_flipped, left_line}
-use Rattle.stab_script.specs.EachTexts.{AreErrorLines, error_line, error_text, errors_text, string_of_error}
+use Rattle.stab_script.specs.EachTexts.{AreErrorLines, error_line, errors_text, string_of_error}
+use Rattle.stab_script.specs.inner.ErrorNumbers.{numbered_text}
 
 -- the parts of a line, as they are written
-pub line_parts : (items : Items) (f : FaultPlace) (path : Path) (kinds : Kinds) (bits : List Bool) (left : List PlacedLetter) → path ≡ path_at items f.step → kinds ≡ whole_kinds items
-    → fault_text f.before path f.letter f.qubit ++ (flat_map (entry kinds) (one_places bits) ++ (codes " " ++ left_line left)) ≡ error_text items f bits left
-line_parts items f path kinds bits left here are =
-    ap₂ (λ p k. fault_text f.before p f.letter f.qubit ++ (flat_map (entry k) (one_places bits) ++ (codes " " ++ left_line left))) here are
+pub line_parts : (items : Items) (f : FaultPlace) (path : Path) (kinds : Kinds) (flipped : List ℕ) (left : List PlacedLetter) → path ≡ path_at items f.step → kinds ≡ whole_kinds items
+    → fault_text f.before path f.letter f.qubit ++ (flat_map (entry kinds) flipped ++ (codes " " ++ left_line left)) ≡ numbered_text items f flipped left
+line_parts items f path kinds flipped left here are =
+    ap₂ (λ p k. fault_text f.before p f.letter f.qubit ++ (flat_map (entry k) flipped ++ (codes " " ++ left_line left))) here are
 
 -- are the line of the error
-pub line_whole : (items : Items) (f : FaultPlace) (bits : List Bool) (left : List PlacedLetter)
-    → bits ≡ bits_flipped items (string_flips (qubits_of items) f.before (string_of_error items f) (unroll items))
+pub line_whole : (items : Items) (f : FaultPlace) (flipped : List ℕ) (left : List PlacedLetter)
+    → flipped ≡ one_places (bits_flipped items (string_flips (qubits_of items) f.before (string_of_error items f) (unroll items)))
     → left ≡ placed 0 (string_after (qubits_of items) f.before (string_of_error items f) (unroll items) (length (unroll items)))
-    → error_text items f bits left ≡ error_line items f
-line_whole items f bits left b l = ap₂ (λ bs ls. error_text items f bs ls) b l
+    → numbered_text items f flipped left ≡ error_line items f
+line_whole items f flipped left b l = ap₂ (λ bs ls. numbered_text items f bs ls) b l
 
 -- the line of a fault, and lines of some
 abbrev pub line_of : Items → PlacedFault → List ℕ
@@ -52,12 +52,15 @@ wrote_and_cut {a} {b} {c} all left part rest f (Err y) here wrote cut is =
     subst (λ g. CutOff a c all g) (sym is)
     (subst (λ l. CutOff a c l f) (append_assoc wrote.0 part rest ∙ ap (λ l. wrote.0 ++ l) (sym here) ∙ sym wrote.1) (cut_off_after wrote.0 part rest f wrote.2 cut))
 
--- the qubits of faults, by the values that stand for them
-pub all_placed : (n : ℕ) (faults : List PlacedFault) → All (λ (f : FaultPlace). f.qubit < n) (map fault_placed faults) → All (λ (f : PlacedFault). f.qubit < n) faults
-all_placed n [] all = All-nil (λ (f : PlacedFault). f.qubit < n)
-all_placed n (f ∷ faults) all =
-    All-cons (λ (f : PlacedFault). f.qubit < n) f faults (All-head (λ (f : FaultPlace). f.qubit < n) (fault_placed f) (map fault_placed faults) all)
-    (all_placed n faults (All-tail (λ (f : FaultPlace). f.qubit < n) (fault_placed f) (map fault_placed faults) all))
+-- rows of faults, by the values that stand for them
+pub rows_placed : (row : FaultPlace → List ℕ) (faults : List PlacedFault) → map row (map fault_placed faults) ≡ map (λ f. row (fault_placed f)) faults
+rows_placed row [] = refl
+rows_placed row (f ∷ faults) = ap (λ rows. row (fault_placed f) ∷ rows) (rows_placed row faults)
+
+pub mapped-at : {A : Type 0} (row : A → List ℕ) (xs : List A) (k : ℕ) (d : A) → k < length xs → slice_index_or (map row xs) k [] ≡ row (get_or xs k d)
+mapped-at row [] k d lt = absurd (omega (arith, lt))
+mapped-at row (x ∷ xs) zero d lt = refl
+mapped-at row (x ∷ xs) (suc k) d lt = mapped-at row xs k d (omega (arith, lt))
 
 -- the lines of all errors, with what they mean for runs
 pub are_lines : (everywhere : Bool) (items : Items) → StringsFlipRuns → All (StepFits (qubits_of items)) (unroll items) → AreErrorLines everywhere items (errors_text everywhere items)

@@ -1,9 +1,9 @@
 -- Laws of endings: what the parts of an edit command pass on makes its end.
-use Rattle.stab_script.proofs.Names.{◌≡◌, refl, subst, Bool, List, ℕ, Option, Result, Ok, Err, ap, ◌⊎◌, inl, inr, InputView, OutputView, Fault, Items, GaveCircuit, Source, Asked, TakesTurns, EditsInTurn, EndsOn, EndsEdit, environment_of, qubits_for, Environment, coins_of_shot, false, Held, Request, Answer, IsAnswer, IsPlainAnswer, IsAnswerToAll, opened, begin, put, delete, show, ask, deterministic, distance, refuse, EndsEditBy, EndsPlainEdit}
+use Rattle.stab_script.proofs.Names.{◌≡◌, refl, subst, Bool, List, ℕ, Option, Result, Ok, Err, ap, ◌⊎◌, inl, inr, InputView, OutputView, Fault, Items, GaveCircuit, Source, Asked, TakesTurns, EditsInTurn, EndsOn, EndsEdit, environment_of, qubits_for, Environment, coins_of_shot, false, Held, Request, Answer, IsAnswer, IsPlainAnswer, IsAnswerToAll, held_at_first, begin, put, delete, show, ask, deterministic, distance, refuse, EndsEditBy, EndsPlainEdit}
 
 -- what requests are answered on items in an environment
 abbrev answered_in : Environment → Items → List Request → Answer → Type 0
-answered_in environment items requests a = IsAnswerToAll environment (opened environment items) requests a
+answered_in environment items requests a = IsAnswerToAll environment (held_at_first environment items) requests a
 
 -- A call that went on with a script.
 edit_ends : (counted : Bool) (qubits : Option ℕ) (source : Source) (i i' s s' : InputView) (o o' : OutputView) (items : Items) (r : Result Bool Fault)

@@ -1,11 +1,10 @@
 -- Faults and ways: both say of a deterministic bit whether a letter flips it.
 use Rattle.stab_script.proofs.Names.{◌≡◌, sym, ap, subst, ◌∙◌, ℕ, ◌+◌, ◌<◌, Bool, true, false, List, [], ◌∷◌, ◌++◌, length, arith}
-use Rattle.std.proofs.Common.{refl, All, take, drop, replicate, length-append, take-append-drop, set, length-set, get_or, zero, suc}
+use Rattle.std.proofs.Common.{refl, All, take, drop, replicate, length-append, take-append-drop, length-set, get_or, zero, suc}
 use Rattle.std.proofs.lemmas.List.{length-replicate}
 use Rattle.stab_gates.specs.declared.letter.Letter.{Letter}
 use Rattle.stab_gates.specs.Letters.{◌⊕◌}
 use Rattle.stab_pauli.specs.Paulis.{single}
-use Rattle.stab_circuit.specs.Items.{Items}
 use Rattle.stab_circuit.specs.Steps.{unroll, observables_of}
 use Rattle.stab_items.specs.Steps.{Step, one, two, controlled, collapse, product, detector, observable, detectors_of, is_detector}
 use Rattle.stab_items.proofs.StepLemmas.{detectors_of-append}
@@ -16,11 +15,11 @@ use Rattle.stab_run.specs.Points.{RunOutput, origin, outputs, with_additions}
 use Rattle.stab_run.specs.Laws.{RunsArePointsWithOutputs}
 use Rattle.stab_run.specs.ProgramStates.{StepFits}
 use Rattle.stab_frames.specs.Flips.{flipped}
-use Rattle.stab_frames.specs.Frames.{Frame, frame_of, identity_frame}
+use Rattle.stab_frames.specs.Frames.{Frame, identity_frame}
 use Rattle.stab_frames.specs.Fronts.{IsFlippedRun}
 use Rattle.stab_frames.specs.FrameSteps.{flips_given}
 use Rattle.stab_regions.specs.FaultLaws.{DeterministicParities, FaultsFlipParities}
-use Rattle.stab_regions.specs.Faults.{FaultPlace, IsDeterministic, bit, bits_in, bits_of, flips}
+use Rattle.stab_regions.specs.Faults.{bit, flips}
 use Rattle.stab_regions.specs.Parities.{parity_deterministic, parity_flips}
 use Rattle.stab_regions.proofs.DetectorLemmas.{count-detectors}
 use Rattle.stab_ways.specs.PutIn.{by_letters, frame_begun, string_flips, way_after, way_flips}

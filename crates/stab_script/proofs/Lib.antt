@@ -23,5 +23,6 @@ mod WordLemmas
 mod LineLemmas
 mod SendLemmas
 mod EachLemmas
+mod ErrorNumberLemmas
 mod FaultWayLemmas
 pub mod WayReplyLemmas

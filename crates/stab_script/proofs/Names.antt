@@ -45,9 +45,9 @@ pub use Rattle.stab_script.specs.PlaceCounts.{counts_of, place_after, steps_up_t
 pub use Rattle.stab_script.specs.Replies.{ReplyBytes}
 pub use Rattle.stab_script.specs.Requests.{opened_in, asked_if_any, request_asked}
 pub use Rattle.stab_script.specs.ScriptWords.{is_place_number, most_numbers, numbers_after, Gathered, first_word, after_word, path_if_any, place_of, is_nothing}
-pub use Rattle.stab_script.specs.Scripts.{Request, begin, put, delete, show, ask, deterministic, distance, refuse, ScriptReader, Gathering, Reading, silent, line_ended, begun, line_alone, opened_after, gathered_with, gathering_ended, line_gathered, line_after, read_byte, then_read, show_by, show_of, Environment, Held, Answer, IsAnswer, IsAnswerToAll, both, replying, read_last, closed, run_held, IsPut, Shows, IsDeterministicAnswer, IsDistanceAnswer, IsPlainAnswer, options_asked, unless, judged, decided, refusing, edit_of, edited_items, counted_shown, held_split, held_after, shown_or_refused, counted_answer, put_at, delete_at, counted_of, distance_of, request_by, put_gathered, read_end, empty_reader, requests_of, opened, requests_in, most_script}
+pub use Rattle.stab_script.specs.Scripts.{Request, begin, put, delete, show, ask, deterministic, distance, refuse, ScriptReader, Gathering, Reading, silent, line_ended, begun, line_alone, opened_after, gathered_with, gathering_ended, line_gathered, line_after, read_byte, then_read, show_by, show_of, Environment, Held, Answer, IsAnswer, IsAnswerToAll, both, replying, read_last, closed, run_held, IsPut, Shows, IsDeterministicAnswer, IsDistanceAnswer, IsPlainAnswer, options_asked, unless, judged, decided, refusing, edit_of, edited_items, counted_shown, held_split, held_after, shown_or_refused, counted_answer, put_at, delete_at, counted_of, distance_of, request_by, put_gathered, read_end, empty_reader, requests_of, held_at_first, requests_in, most_script}
 unfoldable pub use Rattle.stab_script.specs.Scripts.{request_of, read_line, read}
-pub use Rattle.stab_script.specs.Signs.{is_letter, letter_at, lettered, string_within, string_without_sign, sign_in, sign_line, string_of_word}
+pub use Rattle.stab_script.specs.Signs.{is_string_byte, letter_of_byte, lettered, string_within, string_without_sign, sign_in, sign_line, string_of_word}
 pub use Rattle.stab_script.specs.declared.reply.StepCounts.{StepCounts}
 pub use Rattle.stab_script.specs.inner.StepCounts.{added, IsOfSteps}
 pub use Rattle.std.proofs.Math.Seq.{take-append-add}
@@ -90,9 +90,9 @@ pub use Rattle.stab_results.specs.declared.format.Format.TheVariants.{F01}
 pub use Rattle.stab_run.specs.Coins.{seed_coin, Seeded, Listed, list_coin}
 pub use Rattle.stab_run.specs.Laws.{IsSoundRun, RunsAreSound}
 pub use Rattle.stab_run.specs.ProgramStates.{StepFits}
-pub use Rattle.stab_script.specs.CountedRequests.{CountedRequest, mark, split, changed, changed_records, sign, item, counts, coin_table, why, way, alone, round_number_of, counted_split, counted_show}
+pub use Rattle.stab_script.specs.CountedRequests.{CountedRequest, bookmark, split, changed, changed_records, sign, item, counts, coin_table, why, way, alone, round_number_of, counted_split, counted_show}
 pub use Rattle.stab_script.specs.Watchers.{Asked, given_by, asked, Logs}
-pub use Rattle.stab_script.specs.declared.changes.MarkedBits.{MarkedBits}
+pub use Rattle.stab_script.specs.declared.changes.BookmarkedBits.{BookmarkedBits}
 pub use Rattle.stab_script.specs.declared.editor.Answered.{Answered}
 pub use Rattle.stab_script.specs.declared.request.ItemEdit.{ItemEdit}
 pub use Rattle.stab_script.specs.declared.request.ItemEdit.TheVariants.{Insert, Replace}

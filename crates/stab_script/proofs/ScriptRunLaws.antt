@@ -1,11 +1,11 @@
 -- Laws of script runs: what was read and answered so far, and how a script ends from there.
-use Rattle.stab_script.proofs.Names.{Answer, ◌≡◌, ◌≤◌, ◌<◌, ℕ, ◌+◌, ◌-◌, Bool, false, ◌||◌, List, [], ◌∷◌, ◌++◌, length, take, refl, sym, ap, ◌∙◌, subst, arith, append_assoc, length-append, Result, Ok, Err, inl, inr, append-nil, take_all, take-append-add, IsErrAnd, InputView, OutputView, Gave, GaveAndFailed, GaveAll, IsAtEnd, TooLong, ReadFault, Fault, whole, gave_none, gave_more, gave_and_failed, took_more, Items, Environment, Request, begin, opened, IsAnswerToAll, both, ScriptReader, Reading, read, read_end, requests_in, requests_of, empty_reader, most_script, AnswersScript, BreaksOff, AnswersFront, EndsScript, Progress, Reported, ReportedSome, FlushFails, Sent, Finishes}
+use Rattle.stab_script.proofs.Names.{Answer, ◌≡◌, ◌≤◌, ◌<◌, ℕ, ◌+◌, ◌-◌, Bool, false, ◌||◌, List, [], ◌∷◌, ◌++◌, length, take, refl, sym, ap, ◌∙◌, subst, arith, append_assoc, length-append, Result, Ok, Err, inl, inr, append-nil, take_all, take-append-add, IsErrAnd, InputView, OutputView, Gave, GaveAndFailed, GaveAll, IsAtEnd, TooLong, ReadFault, Fault, whole, gave_none, gave_more, gave_and_failed, took_more, Items, Environment, Request, begin, held_at_first, IsAnswerToAll, both, ScriptReader, Reading, read, read_end, requests_in, requests_of, empty_reader, most_script, AnswersScript, BreaksOff, AnswersFront, EndsScript, Progress, Reported, ReportedSome, FlushFails, Sent, Finishes}
 use Rattle.stab_script.proofs.ReadingLaws.{read_append, read_none}
 use Rattle.stab_script.proofs.ReportLaws.{answers_then, reported_then, reported_some_after}
 
 -- the progress before a script
 abbrev pub before_script : Environment → Items → Progress
-before_script environment items = record { environment = environment; held = opened environment items; refused = false }
+before_script environment items = record { environment = environment; held = held_at_first environment items; refused = false }
 
 -- what was read of a script so far, and answered
 pub record AnsweredSoFar (environment : Environment) (items : Items) (now : Progress) (reader : ScriptReader) (taken : ℕ) (s s' : InputView) (o o' : OutputView) : Type 0 where
@@ -45,7 +45,7 @@ reported_more {environment} {items} {mid} {new} {reader} {o} {o'} {o''} bytes pi
     reported_then (requests_in bytes) (read (read empty_reader bytes).reader piece).requests before here in
     record {
       answer = all.answer;
-      answers = subst (λ (l : List Request). IsAnswerToAll environment (opened environment items) l all.answer) (sym (after_requests bytes piece)) all.answers;
+      answers = subst (λ (l : List Request). IsAnswerToAll environment (held_at_first environment items) l all.answer) (sym (after_requests bytes piece)) all.answers;
       took = all.took;
       leaves = all.leaves;
     }
@@ -64,7 +64,7 @@ so_far_more {environment} {items} {mid} {new} {reader} {reader'} {taken} piece t
 
 -- what is said of requests and their answer besides
 abbrev pub Said : Environment → Items → (List Request → Answer → Type 0) → List Request → Answer → Type 0
-Said environment items P requests a = IsAnswerToAll environment (opened environment items) requests a × P requests a
+Said environment items P requests a = IsAnswerToAll environment (held_at_first environment items) requests a × P requests a
 
 -- it holds of more requests, if the answer goes on
 abbrev pub Lasts : Environment → (List Request → Answer → Type 0) → Type 0
@@ -210,7 +210,7 @@ ended_sent {environment} {items} {now} {reader} {taken} {s} {s'} {s''} {o} {o'} 
       within = omega (arith, before.counted);
       gave = gave_whole before.bytes before.gave gave;
       answer = both a sent.answer;
-      answers = (answers_then environment (opened environment items) (requests_in before.bytes) last a sent.answer before.reported.answers here, lasts (requests_in before.bytes) last a sent.answer p here);
+      answers = (answers_then environment (held_at_first environment items) (requests_in before.bytes) last a sent.answer before.reported.answers here, lasts (requests_in before.bytes) last a sent.answer p here);
       sent = record { between = sent.sent.between; took = took_more a.reply sent.answer.reply before.reported.took sent.sent.took; flushed = sent.sent.flushed };
       flag = sent.flag ∙ ap (λ (x : Progress). x.refused || sent.answer.refused) before.reported.leaves;
     }
@@ -255,7 +255,7 @@ ended_unflushed {environment} {items} {now} {reader} {taken} {s} {s'} {s''} {o} 
       rest = [];
       split = ap requests_of (append-nil before.bytes) ∙ sym (append-nil (requests_of before.bytes));
       answer = both a failed.answer;
-      answers = (answers_then environment (opened environment items) (requests_in before.bytes) last a failed.answer before.reported.answers here, lasts (requests_in before.bytes) last a failed.answer p here);
+      answers = (answers_then environment (held_at_first environment items) (requests_in before.bytes) last a failed.answer before.reported.answers here, lasts (requests_in before.bytes) last a failed.answer p here);
       cut = inr (failed.fault, record { between = failed.failed.between; took = took_more a.reply failed.answer.reply before.reported.took failed.failed.took; failed = failed.failed.failed });
     }
 

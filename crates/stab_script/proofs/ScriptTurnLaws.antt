@@ -1,5 +1,5 @@
 -- Laws of script turns: the log of a script's reads, so far and at the end, in turn with its answer.
-use Rattle.stab_script.proofs.Names.{◌≡◌, ℕ, ◌+◌, Bool, IsTrue, List, [], ◌∷◌, ◌++◌, length, take, refl, sym, ap, ◌∙◌, subst, append_assoc, append-nil, length-append, Option, Some, None, Result, Ok, Err, ◌⊎◌, inl, inr, InputView, OutputView, Gave, Reads, DeviceFault, Fault, gave_more, gave_and_failed, Items, Environment, Held, Request, Answer, IsAnswerToAll, both, replying, opened, ScriptReader, begin, requests_in, read, empty_reader, Asked, given_by, asked, Logs, all_given, InTurn, TakesTurns, EndsScript, Progress, Reported}
+use Rattle.stab_script.proofs.Names.{◌≡◌, ℕ, ◌+◌, Bool, IsTrue, List, [], ◌∷◌, ◌++◌, length, take, refl, sym, ap, ◌∙◌, subst, append_assoc, append-nil, length-append, Option, Some, None, Result, Ok, Err, ◌⊎◌, inl, inr, InputView, OutputView, Gave, Reads, DeviceFault, Fault, gave_more, gave_and_failed, Items, Environment, Held, Request, Answer, IsAnswerToAll, both, replying, held_at_first, ScriptReader, begin, requests_in, read, empty_reader, Asked, given_by, asked, Logs, all_given, InTurn, TakesTurns, EndsScript, Progress, Reported}
 use Rattle.stab_script.proofs.ReportLaws.{answers_then, both_assoc, both_nothing}
 use Rattle.stab_script.specs.ScriptTurns.{Answered, GoesOn}
 use Rattle.stab_script.proofs.ScriptRunLaws.{before_script, AnsweredSoFar, so_far_none, so_far_more, reported_more, Said, Lasts, said_more, ends_as}
@@ -34,7 +34,7 @@ in_turn_on environment items start first rest a b before (x ∷ xs) next turns =
         here.0,
         here.1 ++ rest,
         ap (λ l. l ++ rest) here.2 ∙ append_assoc (requests_in before) here.1 rest,
-        goes_on_more environment (opened environment items) (requests_in before) here.1 rest here.0 a b here.3 next,
+        goes_on_more environment (held_at_first environment items) (requests_in before) here.1 rest here.0 a b here.3 next,
         here.4,
       ),
       in_turn_on environment items start first rest a b (before ++ x.given) xs next turns.1,
@@ -59,7 +59,7 @@ caught_up environment items {now} {o} bytes r buf reported h = (
   reported.answer,
   [],
   sym (append-nil (requests_in bytes)),
-  goes_on_none environment (opened environment items) (requests_in bytes) reported.answer reported.answers,
+  goes_on_none environment (held_at_first environment items) (requests_in bytes) reported.answer reported.answers,
   ap length (reported.took.moved h) ∙ length-append o.written reported.answer.reply,
 )
 
@@ -139,7 +139,7 @@ EndsFrom environment items requests answer s s'' o o'' r = (P : List Request →
 
 -- so it ends with an answer
 ends_plainly : (environment : Environment) (items : Items) (requests : List Request) (answer : Answer) (s s'' : InputView) (o o'' : OutputView) (r : Result Bool Fault) → EndsFrom environment items requests answer s s'' o o'' r
-    → EndsScript (IsAnswerToAll environment (opened environment items)) s s'' o o'' r
+    → EndsScript (IsAnswerToAll environment (held_at_first environment items)) s s'' o o'' r
 ends_plainly environment items requests answer s s'' o o'' r ends = ends_as s s'' o o'' r (λ xs a said. said.0) (ends (λ xs a. Unit {0}) (λ first rest a b p q. tt) tt)
 
 -- and in turn
@@ -212,6 +212,6 @@ pub ended_in_turn : {environment : Environment} {items : Items} {now : Progress}
     (s'' : InputView) (o'' : OutputView) (read_result : Result ℕ DeviceFault) (buf : List ℕ) (r : Result Bool Fault)
     → (before : AnsweredInTurn environment items now reader taken s s' o o' log log') → Logs log' log'' (asked o' read_result buf ∷ []) → Reads s' s'' read_result buf
     → EndsFrom environment items (requests_in before.0.bytes) before.0.reported.answer s s'' o o'' r
-    → EndsScript (IsAnswerToAll environment (opened environment items)) s s'' o o'' r × TakesTurns environment items s s'' o o'' log log'' r
+    → EndsScript (IsAnswerToAll environment (held_at_first environment items)) s s'' o o'' r × TakesTurns environment items s s'' o o'' log log'' r
 ended_in_turn {environment} {items} {now} {reader} {taken} {s} {s'} {o} s'' o'' read_result buf r before more reads ends =
     (ends_plainly environment items (requests_in before.0.bytes) before.0.reported.answer s s'' o o'' r ends, last_in_turn s'' o'' read_result buf r before more reads ends)

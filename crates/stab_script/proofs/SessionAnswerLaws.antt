@@ -1,10 +1,10 @@
 -- Laws of answers from a session: what its calls say is what scripts are answered.
-use Rattle.stab_script.proofs.Names.{◌≡◌, ◌≢◌, ℕ, Bool, true, false, min, length, List, refl, sym, ap, subst, ◌∙◌, Option, Some, None, Result, Ok, Err, inl, inr, ◌⊎◌, IfOk, IfErr, IsErrAnd, Refusal, OutOfMemory, Fault, IsCallFault, Items, OneItem, before, done, listed, entries, Path, item_at, printed, Edit, edited, verdict, list_verdict, listed-entries, entries-listed, SessionState, IsEditedBy, IsAsBefore, unroll, steps_cap, check_within, State, CountedRequest, check-whole, steps_counted, refused_text, Signed, member, IsSignIn, sign_in, sign_line, ReplyBytes, GivesText, Held, unless, judged, decided, refusing, counted_shown, held_after, shown_or_refused, counted_answer, held_of, answered, ShotBits, made_text, reply_text, text_found, MarkedBits}
+use Rattle.stab_script.proofs.Names.{◌≡◌, ◌≢◌, ℕ, Bool, true, false, min, length, List, refl, sym, ap, subst, ◌∙◌, Option, Some, None, Result, Ok, Err, inl, inr, ◌⊎◌, IfOk, IfErr, IsErrAnd, Refusal, OutOfMemory, Fault, IsCallFault, Items, OneItem, before, done, listed, entries, Path, item_at, printed, Edit, edited, verdict, list_verdict, listed-entries, entries-listed, SessionState, IsEditedBy, IsAsBefore, unroll, steps_cap, check_within, State, CountedRequest, check-whole, steps_counted, refused_text, Signed, member, IsSignIn, sign_in, sign_line, ReplyBytes, GivesText, Held, unless, judged, decided, refusing, counted_shown, held_after, shown_or_refused, counted_answer, held_of, answered, ShotBits, made_text, reply_text, text_found, BookmarkedBits}
 use Rattle.stab_script.proofs.SignAnswerLaws.{reported_sign}
 
--- items and a mark
+-- items and a bookmark
 abbrev held_with : Items → ShotBits → Held
-held_with items m = record { items = items; mark = m }
+held_with items m = record { items = items; bookmark = m }
 
 -- what an edit that was made leaves
 pub made_items : {C : Type 0} (sequence : C → ℕ → Bool) (e : Edit) (old new : SessionState C) → IsEditedBy sequence e old new
@@ -29,7 +29,7 @@ pub refused_answer : (kept : Bool) (n : ℕ) (r : Result (List OneItem) Refusal)
 refused_answer kept n r held f is some = refused_by kept n r held f (list_verdict n r) refl is some
 
 -- what is said of an edit that was made
-pub reported_made : {C : Type 0} (sequence : C → ℕ → Bool) (kept : Bool) (e : Edit) (old new : SessionState C) (m : MarkedBits) (reply : List ℕ) → IsEditedBy sequence e old new → reply ≡ made_text kept
+pub reported_made : {C : Type 0} (sequence : C → ℕ → Bool) (kept : Bool) (e : Edit) (old new : SessionState C) (m : BookmarkedBits) (reply : List ℕ) → IsEditedBy sequence e old new → reply ≡ made_text kept
     → answered (held_of new m) reply false ≡ decided kept (held_of old m) (judged old.qubits (edited e (entries old.items)))
 reported_made sequence kept e old new m reply is same =
     ap (λ l. answered (held_of new m) l false) same ∙ sym (ap (decided kept (held_of old m)) (made_items sequence e old new is))
@@ -39,11 +39,11 @@ same_refusal {held} {others} {reply} {refused} r e f g =
     ap (λ x. answered x reply refused) e ∙ ap (λ l. answered others l refused) f ∙ ap (λ b. answered others (refused_text r) b) g
 
 -- what is said of an edit that was refused
-pub reported_refusal : {C : Type 0} (sequence : C → ℕ → Bool) (kept : Bool) (e : Edit) (old new : SessionState C) (m : MarkedBits) (f : Fault) (reply : List ℕ) (refused : Bool) → IsAsBefore sequence old new
+pub reported_refusal : {C : Type 0} (sequence : C → ℕ → Bool) (kept : Bool) (e : Edit) (old new : SessionState C) (m : BookmarkedBits) (f : Fault) (reply : List ℕ) (refused : Bool) → IsAsBefore sequence old new
     → IsCallFault (verdict old.qubits e (entries old.items)) f → f.refusal ≢ OutOfMemory → reply ≡ refused_text f.refusal → refused ≡ true
     → answered (held_of new m) reply refused ≡ decided kept (held_of old m) (judged old.qubits (edited e (entries old.items)))
 reported_refusal sequence kept e old new m f reply refused is fault some same true_is =
-    same_refusal f.refusal (ap (λ x. held_with x (held_of old m).mark) is.items) same true_is ∙ refused_answer kept old.qubits (edited e (entries old.items)) (held_of old m) f fault some
+    same_refusal f.refusal (ap (λ x. held_with x (held_of old m).bookmark) is.items) same true_is ∙ refused_answer kept old.qubits (edited e (entries old.items)) (held_of old m) f fault some
 
 -- the steps of a circuit that nothing refuses are counted to the end
 pub steps_reported : (n k : ℕ) (items : Items) → check_within n items ≡ None → k ≡ min (length (unroll items)) steps_cap → k ≡ length (unroll items)

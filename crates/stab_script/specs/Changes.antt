@@ -1,4 +1,4 @@
--- Changes: which bits of a run differ from those at the mark.
+-- Changes: which bits of a run differ from those at the bookmark.
 -- Source: this project's own; the notation is that of Stim's result format `dets`.
 use Rattle.std.specs.Prelude.{ℕ, ◌==◌, Bool, List, [], ◌∷◌, ◌++◌, length, drop, codes, decimal, if◌then◌else◌}
 use Rattle.std.specs.List.{flat_map}
@@ -8,17 +8,17 @@ use Rattle.stab_report.specs.Coins.{ShotBits}
 use Rattle.stab_results.specs.declared.format.Kinds.{Kinds}
 use Rattle.stab_results.specs.declared.format.Kinds.TheVariants.{Measurements, Detectors}
 use Rattle.stab_results.specs.Formats.{entry, one_places}
-use Rattle.stab_script.specs.declared.changes.MarkedBits.{MarkedBits}
+use Rattle.stab_script.specs.declared.changes.BookmarkedBits.{BookmarkedBits}
 
--- a mark that nothing is compared with
-abbrev pub no_mark : ShotBits
-no_mark = record { records = []; detectors = []; observables = [] }
+-- a bookmark that nothing is compared with
+abbrev pub no_bookmark : ShotBits
+no_bookmark = record { records = []; detectors = []; observables = [] }
 
--- the mark that the code's bits are
-abbrev pub mark_shown : MarkedBits → ShotBits
-mark_shown m = record { records = m.records.items; detectors = m.detectors.items; observables = m.observables.items }
+-- the bookmark that the code's bits are
+abbrev pub bookmark_shown : BookmarkedBits → ShotBits
+bookmark_shown m = record { records = m.records.items; detectors = m.detectors.items; observables = m.observables.items }
 
--- for each place that both lists have, whether their bits differ there
+-- for each position that both lists have, whether their bits differ there
 abbrev pub changes : (old new : List Bool) → List Bool
 changes [] new = []
 changes (a ∷ old) [] = []
@@ -34,10 +34,10 @@ count_line name old new = if length old == length new then [] else name ++ (code
 
 -- what changed of detectors and observables
 abbrev pub changed_text : ShotBits → State → List ℕ
-changed_text mark run =
-    entries_line (Detectors (length (changes mark.detectors run.detectors))) (changes mark.detectors run.detectors ++ changes mark.observables run.observables)
-    ++ (count_line (codes "detectors") mark.detectors run.detectors ++ count_line (codes "observables") mark.observables run.observables)
+changed_text bookmark run =
+    entries_line (Detectors (length (changes bookmark.detectors run.detectors))) (changes bookmark.detectors run.detectors ++ changes bookmark.observables run.observables)
+    ++ (count_line (codes "detectors") bookmark.detectors run.detectors ++ count_line (codes "observables") bookmark.observables run.observables)
 
 -- what changed of records
 abbrev pub changed_records_text : ShotBits → State → List ℕ
-changed_records_text mark run = entries_line Measurements (changes mark.records run.records) ++ count_line (codes "records") mark.records run.records
+changed_records_text bookmark run = entries_line Measurements (changes bookmark.records run.records) ++ count_line (codes "records") bookmark.records run.records

@@ -12,7 +12,7 @@ use Rattle.stab_script.specs.ScriptWords.{first_word, after_word, is_place_numbe
 -- where it is in the unrolled circuit, the table of coins, the coins that decide a detector or an observable, the way of the string of a word
 -- that is put in at the place of another
 pub data CountedRequest : Type 0 where
-  mark : CountedRequest
+  bookmark : CountedRequest
   split : (place : Path) → (round : ℕ) → CountedRequest
   numbers : CountedRequest
   changed : CountedRequest

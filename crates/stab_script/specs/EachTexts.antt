@@ -27,7 +27,7 @@ error_text items f bits left =
     fault_text f.before (path_at items f.step) f.letter f.qubit
     ++ (flat_map (entry (whole_kinds items)) (one_places bits) ++ (codes " " ++ left_line left))
 
--- the same, by what the string of the error flips and leaves if it is put in at its place
+-- the same, by what the string of the error flips and leaves if it is put in at its site
 abbrev pub error_line : Items → FaultPlace → List ℕ
 error_line items f =
     error_text items f

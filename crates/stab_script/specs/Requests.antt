@@ -2,7 +2,7 @@
 -- Source: this project's own.
 use Rattle.std.specs.Prelude.{List, ℕ, [], ◌∷◌, Option, Some, None}
 use Rattle.stab_script.specs.Scripts.{Request, begin, put, delete, show, ask, deterministic, distance, refuse, Gathering}
-use Rattle.stab_script.specs.CountedRequests.{CountedRequest, mark, split, numbers, changed, changed_records, sign, item, counts, coin_table, why, way}
+use Rattle.stab_script.specs.CountedRequests.{CountedRequest, bookmark, split, numbers, changed, changed_records, sign, item, counts, coin_table, why, way}
 use Rattle.stab_script.specs.declared.counted.CountedRequest.{CountedRequest as CountedAsked}
 use Rattle.stab_script.specs.declared.counted.CountedRequest.TheVariants as counted_asks
 use Rattle.stab_script.specs.declared.request.Request.{Request as Asked}
@@ -10,7 +10,7 @@ use Rattle.stab_script.specs.declared.request.Request.TheVariants as asks
 
 -- what the code's request of a counted script asks for
 abbrev pub counted_asked : CountedAsked → CountedRequest
-counted_asked counted_asks.Mark = mark
+counted_asked counted_asks.Bookmark = bookmark
 counted_asked (counted_asks.Split place round) = split place round
 counted_asked counted_asks.Numbers = numbers
 counted_asked counted_asks.Changed = changed

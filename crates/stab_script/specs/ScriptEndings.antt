@@ -11,7 +11,7 @@ use Rattle.stab_circuit.specs.Steps.{qubits_of, check_within}
 use Rattle.stab_report.specs.Endings.{Ends, TookAndFlushed, TookAndFlushFailed}
 use Rattle.stab_report.specs.Sources.{coins_of_shot}
 use Rattle.stab_jobs.specs.declared.job.Source.{Source}
-use Rattle.stab_script.specs.Scripts.{Environment, Request, Held, Answer, IsPlainAnswer, IsAnswer, AreAnswers, opened, requests_in, requests_of, most_script}
+use Rattle.stab_script.specs.Scripts.{Environment, Request, Held, Answer, IsPlainAnswer, IsAnswer, AreAnswers, held_at_first, requests_in, requests_of, most_script}
 
 -- the script was read to its end: its answer was written and flushed once, and the call says whether a line was refused
 pub record AnswersScript (answered : List Request → Answer → Type 0) (s s' : InputView) (o o' : OutputView) (refused : Bool) : Type 0 where
@@ -36,7 +36,7 @@ pub record BreaksOff (answered : List Request → Answer → Type 0) (s s' : Inp
   pub answers : answered first answer
   pub cut : CutOff o o' answer.reply f ⊎ ((f ≡ whole WriteFault) × TookAndFlushFailed o o' answer.reply)
 
--- why reading a script ends within it: its input failed, or it is too long, of which at most one read too much was read
+-- why reading a script ends within it: its input failed, or it is too long, and then at most one read went past the limit
 abbrev pub EndsWithin : InputView → InputView → List ℕ → Fault → Type 0
 EndsWithin s s' bytes f =
     ((f ≡ whole ReadFault) × GaveAndFailed s s' bytes × (length bytes ≤ most_script))
@@ -76,7 +76,7 @@ EndsOn answered n items s s' o o' (Err f) =
 abbrev pub EndsEditBy : (Environment → Held → Request → Answer → Type 0) → (counted : Bool) → Option ℕ → Source → InputView → InputView → InputView → InputView → OutputView → OutputView → Result Bool Fault → Type 0
 EndsEditBy answers counted qubits source i i' s s' o o' r =
     Ends (λ _. (s' ≡ s) × (o' ≡ o))
-    (λ items. EndsOn (AreAnswers (answers (environment_of counted qubits source items)) (opened (environment_of counted qubits source items) items)) (qubits_for qubits items) items s s' o o')
+    (λ items. EndsOn (AreAnswers (answers (environment_of counted qubits source items)) (held_at_first (environment_of counted qubits source items) items)) (qubits_for qubits items) items s s' o o')
     i i' r
 
 -- How a call of `edit` ends whose script is not counted.

@@ -6,7 +6,7 @@ use Rattle.stab_io.specs.declared.refusal.Fault.{Fault}
 use Rattle.stab_circuit.specs.Items.{Items}
 use Rattle.stab_report.specs.Endings.{GaveCircuit}
 use Rattle.stab_jobs.specs.declared.job.Source.{Source}
-use Rattle.stab_script.specs.Scripts.{Environment, Held, Request, Answer, IsAnswerToAll, both, opened, requests_in}
+use Rattle.stab_script.specs.Scripts.{Environment, Held, Request, Answer, IsAnswerToAll, both, held_at_first, requests_in}
 use Rattle.stab_script.specs.ScriptEndings.{environment_of, EndsScript}
 use Rattle.stab_script.specs.Watchers.{Asked}
 
@@ -23,7 +23,7 @@ GoesOn s held first rest front whole = IsAnswerToAll s held first front × ((lat
 -- with them the answer to these requests begins
 abbrev pub Answered : Environment → Items → (start : ℕ) → List Request → Answer → (before : List ℕ) → Asked → Type 0
 Answered environment items start requests answer before a =
-    (front : Answer) × (rest : List Request) × (requests ≡ requests_in before ++ rest) × GoesOn environment (opened environment items) (requests_in before) rest front answer
+    (front : Answer) × (rest : List Request) × (requests ≡ requests_in before ++ rest) × GoesOn environment (held_at_first environment items) (requests_in before) rest front answer
     × (a.written ≡ start + length front.reply)
 
 -- the same at each read, if these bytes were handed over before the first
@@ -34,7 +34,7 @@ InTurn environment items start requests answer before (a ∷ later) = Answered e
 -- an answer to requests, in turn with these reads
 abbrev pub AnswersInTurn : Environment → Items → OutputView → List Asked → List Request → Answer → Type 0
 AnswersInTurn environment items o reads requests answer =
-    IsAnswerToAll environment (opened environment items) requests answer × (IsTrue o.honest → InTurn environment items (length o.written) requests answer [] reads)
+    IsAnswerToAll environment (held_at_first environment items) requests answer × (IsTrue o.honest → InTurn environment items (length o.written) requests answer [] reads)
 
 -- a log has the reads of a script besides those that it had, and the script ended with an answer that is in turn with them
 pub record LogsInTurn (environment : Environment) (items : Items) (s s' : InputView) (o o' : OutputView) (log log' : Option (List Asked)) (r : Result Bool Fault) : Type 0 where

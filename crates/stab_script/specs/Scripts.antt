@@ -15,7 +15,7 @@ use Rattle.stab_items.specs.Edits.{edited, list_verdict}
 use Rattle.stab_circuit.specs.Circuits.{most_bytes, item_fault, StandsForOne}
 use Rattle.stab_circuit.specs.Prints.{printed}
 use Rattle.stab_run.specs.Runs.{State, run_of}
-use Rattle.stab_report.specs.Coins.{ShotBits, bits_of}
+use Rattle.stab_report.specs.Coins.{ShotBits, shot_bits_of}
 use Rattle.stab_results.specs.Formats.{f01_bytes}
 use Rattle.stab_report.specs.FaultLines.{refused_text}
 use Rattle.stab_results.specs.declared.format.Format.TheVariants.{F01}
@@ -30,9 +30,9 @@ use Rattle.stab_items.specs.Places.{item_at}
 use Rattle.stab_items.specs.Splits.{split}
 use Rattle.stab_script.specs.ScriptWords.{first_word, after_word, place_of, Gathered, more, is_nothing}
 use Rattle.stab_script.specs.CountedRequests as counted_asks
-use Rattle.stab_script.specs.CountedRequests.{CountedRequest, alone, mark, numbers, changed, changed_records, sign, round_number_of, counted_split, counted_show}
+use Rattle.stab_script.specs.CountedRequests.{CountedRequest, alone, bookmark, numbers, changed, changed_records, sign, round_number_of, counted_split, counted_show}
 use Rattle.stab_script.specs.CountedReplies.{text_found, reply_text, made_text, greeting, session_numbers, numbers_line}
-use Rattle.stab_script.specs.Changes.{no_mark, changed_text, changed_records_text}
+use Rattle.stab_script.specs.Changes.{no_bookmark, changed_text, changed_records_text}
 use Rattle.stab_script.specs.PlaceCounts.{place_text}
 use Rattle.stab_script.specs.CoinReplies.{coins_shown, why_shown}
 use Rattle.stab_script.specs.Signs.{string_of_word, sign_in, sign_line}
@@ -99,7 +99,7 @@ request_by word rest =
     else if bytes_eq word (codes "replace") then put_at Replace (place_of (first_word rest)) (after_word rest)
     else if bytes_eq word (codes "delete") then delete_at (place_of (first_word rest)) (after_word rest)
     else if bytes_eq word (codes "show") then show_of rest
-    else if bytes_eq word (codes "mark") then counted_of (alone rest mark)
+    else if bytes_eq word (codes "mark") then counted_of (alone rest bookmark)
     else if bytes_eq word (codes "split") then counted_of (counted_split rest)
     else refuse BadCommand
 
@@ -230,20 +230,20 @@ pub record Environment : Type 0 where
 -- what requests change: the items, and the bits that changes are counted from
 pub record Held : Type 0 where
   pub items : Items
-  pub mark : ShotBits
+  pub bookmark : ShotBits
 
 -- the run of what is held
 abbrev pub run_held : Environment → Held → State
 run_held s held = run_of s.qubits s.coins held.items
 
--- the mark before a script, which only a counted one has
-abbrev pub first_mark : (counted : Bool) → State → ShotBits
-first_mark false run = no_mark
-first_mark true run = bits_of run
+-- the bookmark before a script, which only a counted one has
+abbrev pub first_bookmark : (counted : Bool) → State → ShotBits
+first_bookmark false run = no_bookmark
+first_bookmark true run = shot_bits_of run
 
 -- what is held before a script
-abbrev pub opened : Environment → Items → Held
-opened s items = record { items = items; mark = first_mark s.counted (run_of s.qubits s.coins items) }
+abbrev pub held_at_first : Environment → Items → Held
+held_at_first s items = record { items = items; bookmark = first_bookmark s.counted (run_of s.qubits s.coins items) }
 
 -- the edit that puts an item in at a place
 abbrev pub edit_of : ItemEdit → Path → OneItem → Edit
@@ -300,11 +300,11 @@ Shows n run items Circuit text = text ≡ printed items
 
 -- what only a counted script is shown of what is held and its run, or why not
 abbrev pub counted_shown : ℕ → State → Held → CountedRequest → Result (List ℕ) Refusal
-counted_shown n run held mark = Ok []
+counted_shown n run held bookmark = Ok []
 counted_shown n run held (counted_asks.split place round) = text_found (λ list. []) (split place round (entries held.items))
 counted_shown n run held numbers = Ok (numbers_line (session_numbers n run held.items))
-counted_shown n run held changed = Ok (changed_text held.mark run)
-counted_shown n run held changed_records = Ok (changed_records_text held.mark run)
+counted_shown n run held changed = Ok (changed_text held.bookmark run)
+counted_shown n run held changed_records = Ok (changed_records_text held.bookmark run)
 counted_shown n run held (sign word) = text_found (λ p. sign_line (sign_in (member run.trace) p)) (string_of_word n word)
 counted_shown n run held (counted_asks.item place) = text_found (λ x. printed (before x done)) (item_at place (entries held.items))
 counted_shown n run held (counted_asks.counts place) = text_found (λ x. place_text place held.items) (item_at place (entries held.items))
@@ -319,7 +319,7 @@ held_split held (Err r) = held
 
 -- what is held after it: `mark` and a split alone change that
 abbrev pub held_after : State → Held → CountedRequest → Held
-held_after run held mark = record held { mark = bits_of run }
+held_after run held bookmark = record held { bookmark = shot_bits_of run }
 held_after run held (counted_asks.split place round) = held_split held (split place round (entries held.items))
 held_after run held request = held
 
@@ -384,4 +384,4 @@ IsAnswerToAll s held requests a = AreAnswers (IsAnswer s) held requests a
 
 -- the answer to a whole script, if these are the items at first
 abbrev pub IsAnswerToScript : Environment → Items → (script : List ℕ) → Answer → Type 0
-IsAnswerToScript s items script a = IsAnswerToAll s (opened s items) (requests_of script) a
+IsAnswerToScript s items script a = IsAnswerToAll s (held_at_first s items) (requests_of script) a

@@ -19,16 +19,16 @@ abbrev pub unsigned : List ℕ → List ℕ
 unsigned word = if starts_with_byte word 43 || starts_with_byte word 45 then drop 1 word else word
 
 -- whether a byte is a letter of a string: I or _, X, Y, Z
-abbrev pub is_letter : ℕ → Bool
-is_letter b = b == 73 || (b == 95 || (b == 88 || (b == 89 || b == 90)))
+abbrev pub is_string_byte : ℕ → Bool
+is_string_byte b = b == 73 || (b == 95 || (b == 88 || (b == 89 || b == 90)))
 
 -- the letter of such a byte
-abbrev pub letter_at : ℕ → Letter
-letter_at b = if b == 88 then letter.X else if b == 89 then letter.Y else if b == 90 then letter.Z else letter.I
+abbrev pub letter_of_byte : ℕ → Letter
+letter_of_byte b = if b == 88 then letter.X else if b == 89 then letter.Y else if b == 90 then letter.Z else letter.I
 
 -- the string of one letter for each qubit
 abbrev pub lettered : (n : ℕ) → List ℕ → Result Signed Refusal
-lettered n word = if length word == n then Ok (record { negative = false; letters = map letter_at word }) else Err BadTarget
+lettered n word = if length word == n then Ok (record { negative = false; letters = map letter_of_byte word }) else Err BadTarget
 
 -- the string of factors, if all are on qubits below n
 abbrev pub string_within : (n : ℕ) → List Factor → Result Signed Refusal
@@ -36,7 +36,7 @@ string_within n factors = if list_all (λ f. nat_lt f.qubit n) factors then Ok (
 
 -- the string of letters, or of a product
 abbrev pub string_without_sign : (n : ℕ) → List ℕ → Result Signed Refusal
-string_without_sign n word = if list_all is_letter word then lettered n word else (product_of word >>= λ factors. string_within n factors)
+string_without_sign n word = if list_all is_string_byte word then lettered n word else (product_of word >>= λ factors. string_within n factors)
 
 -- the string of a word on n qubits
 unfoldable pub string_of_word : (n : ℕ) → List ℕ → Result Signed Refusal

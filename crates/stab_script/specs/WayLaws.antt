@@ -13,7 +13,7 @@ use Rattle.stab_ways.specs.PutIn.{string_flips}
 abbrev pub parities_flipped : Items → RunOutput → List Bool
 parities_flipped items flips = flips.detectors ++ with_additions flips.additions (replicate (observables_of items) false)
 
--- a fault flips a detector or observable that is the same for all random bits exactly if its letter, put in at its place as a string, does
+-- a fault flips a detector or observable that is the same for all random bits exactly if its letter, put in at its site as a string, does
 abbrev pub FaultsAreWays : Type 0
 FaultsAreWays =
     (n : ℕ) (items : Items) (f : FaultPlace) (i : ℕ) → All (StepFits n) (unroll items) → f.qubit < n → i < bits_in items → IsDeterministic n items i →

@@ -2,3 +2,4 @@
 pub mod StepCounts
 pub mod Distances
 pub mod SessionAnswers
+pub mod ErrorNumbers

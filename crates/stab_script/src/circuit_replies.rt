@@ -19,14 +19,13 @@ use crate::lines::{bits_flipped, write_way};
 use crate::reply::Reply;
 use crate::words::read_put_in;
 use stab_circuit::Circuit;
-use stab_commands::{
-    FaultLayout, Unwatched, find_distance, has_bit, write_coins, write_distance, write_why,
-};
+use stab_commands::{find_distance, has_bit, write_coins, write_distance, write_why};
 use stab_io::{Fault, Refusal};
-use stab_jobs::{DistanceOptions, ErrorLetters};
+use stab_jobs::{DistanceOptions, ErrorLetters, FaultLayout};
 use stab_pauli::Pauli;
 use stab_regions::deterministic;
 use stab_report::Bit;
+use stab_search::Unwatched;
 use stab_ways::{placed, way_of};
 use std::alloc::Global;
 

@@ -16,7 +16,7 @@ use std::alloc::Global;
 #[derive(Drop)]
 pub enum CountedRequest {
     /// That changes are counted from now on.
-    Mark,
+    Bookmark,
     /// That a round, counted from 0, is split off the block at a place.
     Split { place: Path, round: u64 },
     /// The numbers of the circuit.

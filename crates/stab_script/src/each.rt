@@ -1,67 +1,91 @@
 //! The command that writes what each error flips and leaves: those that a circuit marks, or errors everywhere.
-ghost use Rattle.std.specs.Prelude.{◌≡◌, ◌<◌, None, All, length, IfOk, IfErr};
-ghost use Rattle.std.specs.List.{flat_map};
+ghost use Rattle.std.specs.Prelude.{◌≡◌, ◌<◌, ◌≤◌, ◌∷◌, None, drop, length, map, nat_lt, IfOk, IfErr};
+ghost use Rattle.std.specs.List.{filter, flat_map};
 ghost use Rattle.stab_io.specs.Devices.{WritesAll, WritesAllOrFault};
 ghost use Rattle.stab_io.specs.declared.refusal.Refusal.TheVariants.{OutOfMemory};
 ghost use Rattle.stab_circuit.specs.Steps.{check_of, qubits_of, unroll};
 ghost use Rattle.stab_items.specs.Views.{circuit_items};
+ghost use Rattle.stab_regions.specs.Effects.{effect_of_fault};
+ghost use Rattle.stab_regions.specs.Faults.{faults_of};
 ghost use Rattle.stab_report.specs.Endings.{Sends, SendsUnflushed};
 ghost use Rattle.stab_report.specs.PlacedFaults.{fault_placed};
-ghost use Rattle.stab_ways.specs.PutIn.{string_after, string_flips};
-ghost use Rattle.stab_ways.specs.Ways.{placed as placed_from};
-ghost use Rattle.stab_script.specs.WayTexts.{bits_flipped as flipped_of};
-ghost use Rattle.stab_script.specs.EachTexts.{error_line, error_text, string_of_error};
+ghost use Rattle.stab_script.specs.EachTexts.{error_line};
 ghost use Rattle.stab_script.specs.Endings.{EndsPropagateEach, SendsErrors};
+ghost use Rattle.stab_script.specs.inner.ErrorNumbers.{letters_numbered, numbered_text};
 
-use crate::lines::{bits_flipped, kinds_of_all, path_of, write_left};
+use crate::lines::{kinds_of_all, path_of, write_left};
 use stab_circuit::{Circuit, read_circuit};
 use stab_io::{Fault, Input, Output, Refusal, write_all};
-use stab_pauli::Pauli;
+use stab_pauli::Letter;
+use stab_regions::{EffectTable, fault_effects};
 use stab_report::{PlacedFault, finish, placed_faults, write_place};
-use stab_results::write_ones;
+use stab_results::write_entries;
+use stab_ways::PlacedLetter;
 use stab_ways::laws::strings_flip_runs;
-use stab_ways::{PlacedLetter, placed, way_of};
-use std::alloc::Global;
+use std::alloc::{AllocError, Global};
 
-/// Writes the line of an error, by the bits that it flips and the string that it leaves.
+/// Writes the line of an error, by the numbers of what it flips and the string that it leaves.
 fn write_error<O: Output>(
     out: &mut O,
     circuit: &Circuit,
     fault: PlacedFault,
-    bits: &[bool],
+    flipped: &[u32],
     left: &[PlacedLetter],
 ) -> Result<(), Refusal>
     requires checked { check_of (circuit_items circuit.now) ≡ None }
-    ensures writes { WritesAll (O.seen out.old) (O.seen out.new) (error_text (circuit_items circuit.now) (fault_placed fault) bits.now left.now) result }
+    ensures writes { WritesAll (O.seen out.old) (O.seen out.new) (numbered_text (circuit_items circuit.now) (fault_placed fault) flipped.now left.now) result }
 {
     let path = path_of(circuit, fault.step);
     write_place(out, fault.before, &path, fault.letter, fault.qubit)?;
-    write_ones(out, kinds_of_all(circuit), bits)?;
+    write_entries(out, kinds_of_all(circuit), flipped)?;
     write_all(out, b" ")?;
     write_left(out, left)
 }
 
-/// What an error flips, a bit for each record, detector and observable, and what it leaves at the end.
-#[derive(Drop)]
-struct Effect {
-    bits: Vec<bool>,
-    left: Vec<PlacedLetter>,
+/// How many of some numbers are below one.
+fn count_below(numbers: &[u32], first: usize) -> usize
+    ensures value { result ≡ length (filter (λ k. nat_lt k first) numbers.now) }
+{
+    numbers
+        .iter()
+        .filter(|number| (**number as usize) < first)
+        .count()
 }
 
-/// What an error flips and leaves.
-fn effect_of(alloc: Global, circuit: &Circuit, fault: PlacedFault) -> Result<Effect, Refusal>
-    requires checked { check_of (circuit_items circuit.now) ≡ None }
-    requires qubit { fault.qubit < qubits_of (circuit_items circuit.now) }
-    ensures bits { IfOk result (λ e. e.bits.items ≡ flipped_of (circuit_items circuit.now) (string_flips (qubits_of (circuit_items circuit.now)) fault.before (string_of_error (circuit_items circuit.now) (fault_placed fault)) (unroll (circuit_items circuit.now)))) }
-    ensures left { IfOk result (λ e. e.left.items ≡ placed_from 0 (string_after (qubits_of (circuit_items circuit.now)) fault.before (string_of_error (circuit_items circuit.now) (fault_placed fault)) (unroll (circuit_items circuit.now)) (length (unroll (circuit_items circuit.now))))) }
-    ensures err { IfErr result (λ r. r ≡ OutOfMemory) }
+/// The first letter of those whose parts have these numbers, and how many parts it has.
+fn first_letter(numbers: &[u32], first: usize) -> (PlacedLetter, usize)
+    requires some { 0 < length numbers.now }
+    ensures some { 0 < result.1 }
+    ensures within { result.1 ≤ length numbers.now }
+    ensures value { letters_numbered first numbers.now ≡ result.0 ∷ letters_numbered first (drop result.1 numbers.now) }
 {
-    let string = Pauli::single(alloc, circuit.qubits(), fault.qubit, fault.letter)?;
-    // Ticks are fewer than the places where a string changes, and neither are written.
-    let way = way_of(alloc, circuit, true, fault.before, &string)?;
-    let bits = bits_flipped(alloc, circuit, &way.end)?;
-    let left = placed(alloc, way.end.letters())?;
-    Ok(Effect { bits, left })
+    let number = numbers[0] as usize;
+    let part = number.saturating_sub(first);
+    let qubit = part / 2;
+    if part % 2 == 1 {
+        let letter = Letter::Z;
+        return (PlacedLetter { letter, qubit }, 1);
+    }
+    if numbers.len() > 1 && numbers[1] as usize == number + 1 {
+        let letter = Letter::Y;
+        return (PlacedLetter { letter, qubit }, 2);
+    }
+    let letter = Letter::X;
+    (PlacedLetter { letter, qubit }, 1)
+}
+
+/// The letters whose parts have these numbers.
+fn letters_of(alloc: Global, numbers: &[u32], first: usize) -> Result<Vec<PlacedLetter>, AllocError>
+    ensures value { IfOk result (λ v. v.items ≡ letters_numbered first numbers.now) }
+{
+    let mut letters = Vec::new(alloc);
+    let mut k = 0;
+    'numbers: while k < numbers.len() {
+        let (letter, parts) = first_letter(&numbers[k..], first);
+        letters.push(letter)?;
+        k += parts;
+    }
+    Ok(letters)
 }
 
 /// Writes the same line as `write_error`, and answers with a fault.
@@ -69,37 +93,40 @@ fn put_error<O: Output>(
     out: &mut O,
     circuit: &Circuit,
     fault: PlacedFault,
-    effect: &Effect,
+    flipped: &[u32],
+    left: &[PlacedLetter],
 ) -> Result<(), Fault>
     requires checked { check_of (circuit_items circuit.now) ≡ None }
-    ensures writes { WritesAllOrFault (O.seen out.old) (O.seen out.new) (error_text (circuit_items circuit.now) (fault_placed fault) effect.now.bits.items effect.now.left.items) result }
+    ensures writes { WritesAllOrFault (O.seen out.old) (O.seen out.new) (numbered_text (circuit_items circuit.now) (fault_placed fault) flipped.now left.now) result }
 {
-    match write_error(
-        out,
-        circuit,
-        fault,
-        effect.bits.as_slice(),
-        effect.left.as_slice(),
-    ) {
+    match write_error(out, circuit, fault, flipped, left) {
         Ok(()) => Ok(()),
         Err(refusal) => Err(Fault::whole(refusal)),
     }
 }
 
-/// Finds what an error flips and leaves, and writes its line.
+/// Finds the line of an error, and writes it.
 fn send_error<O: Output>(
     alloc: Global,
     circuit: &Circuit,
     out: &mut O,
     fault: PlacedFault,
+    row: &[u32],
 ) -> Result<(), Fault>
     requires checked { check_of (circuit_items circuit.now) ≡ None }
-    requires qubit { fault.qubit < qubits_of (circuit_items circuit.now) }
+    requires row { row.now ≡ effect_of_fault (qubits_of (circuit_items circuit.now)) (circuit_items circuit.now) (fault_placed fault) }
     ensures sends { SendsUnflushed (error_line (circuit_items circuit.now) (fault_placed fault)) (O.seen out.old) (O.seen out.new) result }
 {
-    match effect_of(alloc, circuit, fault) {
-        Ok(effect) => put_error(out, circuit, fault, &effect),
-        Err(refusal) => Err(Fault::whole(refusal)),
+    // This shows a proof that the qubits of each pair differ.
+    let _ = circuit.items();
+    let recorded = circuit.records() + circuit.detectors();
+    let Some(first) = recorded.checked_add(circuit.observables()) else {
+        return Err(Fault::whole(Refusal::OutOfMemory));
+    };
+    let (flipped, parts) = row.split_at(count_below(row, first));
+    match letters_of(alloc, parts, first) {
+        Ok(left) => put_error(out, circuit, fault, flipped, left.as_slice()),
+        Err(_) => Err(Fault::whole(Refusal::OutOfMemory)),
     }
 }
 
@@ -109,13 +136,14 @@ fn send_errors<O: Output>(
     circuit: &Circuit,
     out: &mut O,
     faults: &[PlacedFault],
+    effects: &EffectTable,
 ) -> Result<(), Fault>
     requires checked { check_of (circuit_items circuit.now) ≡ None }
-    requires qubits { All (λ f. f.qubit < qubits_of (circuit_items circuit.now)) faults.now }
+    requires rows { effects.now ≡ map (λ f. effect_of_fault (qubits_of (circuit_items circuit.now)) (circuit_items circuit.now) (fault_placed f)) faults.now }
     ensures sends { SendsUnflushed (flat_map (λ f. error_line (circuit_items circuit.now) (fault_placed f)) faults.now) (O.seen out.old) (O.seen out.new) result }
 {
-    'faults: for fault in faults {
-        send_error(alloc, circuit, out, *fault)?;
+    'faults: for k in 0..faults.len() {
+        send_error(alloc, circuit, out, faults[k], effects.row(k))?;
     }
     Ok(())
 }
@@ -126,13 +154,33 @@ fn send_all<O: Output>(
     circuit: &Circuit,
     out: &mut O,
     faults: &[PlacedFault],
+    effects: &EffectTable,
 ) -> Result<(), Fault>
     requires checked { check_of (circuit_items circuit.now) ≡ None }
-    requires qubits { All (λ f. f.qubit < qubits_of (circuit_items circuit.now)) faults.now }
+    requires rows { effects.now ≡ map (λ f. effect_of_fault (qubits_of (circuit_items circuit.now)) (circuit_items circuit.now) (fault_placed f)) faults.now }
     ensures sends { Sends (flat_map (λ f. error_line (circuit_items circuit.now) (fault_placed f)) faults.now) (O.seen out.old) (O.seen out.new) result }
 {
-    send_errors(alloc, circuit, out, faults)?;
+    send_errors(alloc, circuit, out, faults, effects)?;
     finish(out)
+}
+
+/// The errors that are asked for, and what each flips and leaves.
+#[derive(Drop)]
+struct Errors {
+    faults: Vec<PlacedFault>,
+    effects: EffectTable,
+}
+
+/// Finds them.
+fn errors_of(alloc: Global, circuit: &Circuit, everywhere: bool) -> Result<Errors, Refusal>
+    requires checked { check_of (circuit_items circuit.now) ≡ None }
+    ensures faults { IfOk result (λ e. map fault_placed e.faults.items ≡ faults_of everywhere (unroll (circuit_items circuit.now))) }
+    ensures effects { IfOk result (λ e. e.effects ≡ map (λ f. effect_of_fault (qubits_of (circuit_items circuit.now)) (circuit_items circuit.now) (fault_placed f)) e.faults.items) }
+    ensures err { IfErr result (λ r. r ≡ OutOfMemory) }
+{
+    let faults = placed_faults(alloc, circuit, everywhere)?;
+    let effects = fault_effects(alloc, circuit, circuit.qubits(), everywhere)?;
+    Ok(Errors { faults, effects })
 }
 
 /// Finds what each error flips and leaves, writes their lines, and flushes.
@@ -148,8 +196,14 @@ fn send_each<O: Output>(
     strings_flip_runs();
     // This shows a proof that the qubits of each pair differ.
     let _ = circuit.items();
-    match placed_faults(alloc, circuit, everywhere) {
-        Ok(faults) => send_all(alloc, circuit, out, faults.as_slice()),
+    match errors_of(alloc, circuit, everywhere) {
+        Ok(errors) => send_all(
+            alloc,
+            circuit,
+            out,
+            errors.faults.as_slice(),
+            &errors.effects,
+        ),
         Err(refusal) => Err(Fault::whole(refusal)),
     }
 }

@@ -20,7 +20,7 @@ pub struct Answered {
     pub refused: bool,
 }
 
-/// What answers requests: it keeps the items of a circuit and the bits at a mark, and edits and shows them.
+/// What answers requests: it keeps the items of a circuit and the bits at a bookmark, and edits and shows them.
 pub trait Answer: Drop {
     // What answers are made by, besides what is held.
     ghost environment: { Self → Environment };

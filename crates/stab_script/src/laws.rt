@@ -70,8 +70,8 @@ pub fn first_replies_come_first()
     traces_have_one_list();
 }
 
-/// Of a detector or observable that is the same for all random bits, `faults` and the way of a letter say the same: whether the letter,
-/// put in at a place, flips it.
+/// Of a detector or observable that is the same for all random bits, `faults` and the way of a letter say the same: whether the letter
+/// flips it, if it is put in there.
 pub fn faults_are_ways()
     ensures law { FaultsAreWays }
 {

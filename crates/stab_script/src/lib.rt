@@ -1,6 +1,6 @@
 //! Edit scripts, what their lines ask for and the texts of replies, and the commands `edit` and `propagate`.
 //!
-//! What answers requests is a trait, `Answer`, over the items and the mark that are held: a session answers them.
+//! What answers requests is a trait, `Answer`, over the items and the bookmark that are held: a session answers them.
 //!
 //! In the order in which data flows; each module uses only those before it:
 //!
@@ -10,7 +10,7 @@
 //! - `request`: what a line asks for.
 //! - `reader`: what is known between two bytes of a script.
 //! - `reply`: replies to requests.
-//! - `changes`: the bits at a mark, and what changed since.
+//! - `changes`: the bits at a bookmark, and what changed since.
 //! - `place_counts`: where the steps of an item are in the unrolled circuit.
 //! - `signs`: the Pauli strings of words.
 //! - `editor`: a script as it comes, and each reply written in one go.
@@ -19,7 +19,7 @@
 //! - `words`: the place and the string that the words of a command line or a script ask about.
 //! - `lines`: the way of a string as lines.
 //! - `circuit_replies`: what a script asks of its circuit as a whole: deterministic bits, coins, the way of a string and the distance.
-//! - `marks`: the bits that changes are counted from.
+//! - `bookmarks`: the bits that changes are counted from.
 //! - `session_answers`: requests of a script, answered from a session.
 //! - `session_edit`: a script, answered from a session that is opened for it.
 //! - `edit`: the command that edits a circuit by a script.
@@ -41,6 +41,7 @@
 //! Proved of `propagate`: what is written is the way of the string, as `stab_ways` says it, with what that means for runs.
 #![tactic(auto)]
 
+mod bookmarks;
 mod changes;
 mod circuit_replies;
 mod counted;
@@ -51,7 +52,6 @@ mod gathered;
 pub mod laws;
 mod lines;
 mod logged_input;
-mod marks;
 mod place;
 mod place_counts;
 mod propagate;
@@ -64,7 +64,7 @@ mod signs;
 mod watcher;
 mod words;
 
-pub use changes::{MarkedBits, push_changes};
+pub use changes::{BookmarkedBits, push_changes};
 pub use counted::{CountedRequest, read_round};
 pub use each::run_propagate_each;
 pub use edit::{run_edit, run_edit_watched};

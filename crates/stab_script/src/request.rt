@@ -196,7 +196,7 @@ fn request_by(alloc: Global, word: &[u8], rest: &[u8]) -> Result<Request, Fault>
     } else if word == b"show".as_slice() {
         read_show(alloc, rest)
     } else if word == b"mark".as_slice() {
-        Ok(counted_if_some(alone(rest, CountedRequest::Mark)))
+        Ok(counted_if_some(alone(rest, CountedRequest::Bookmark)))
     } else if word == b"split".as_slice() {
         Ok(counted_if_some(read_split(rest)))
     } else {

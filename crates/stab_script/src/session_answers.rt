@@ -1,9 +1,9 @@
 //! Answers from a session: edits of it, and what is shown of it.
-use crate::changes::{MarkedBits, push_changes};
+use crate::bookmarks::{bookmark_at, first_bookmark};
+use crate::changes::{BookmarkedBits, push_changes};
 use crate::circuit_replies::{show_coins, show_deterministic, show_distance, show_way, show_why};
 use crate::counted::CountedRequest;
 use crate::editor::{Answer, Answered};
-use crate::marks::{first_mark, mark_at};
 use crate::place_counts::show_place;
 use crate::reply::{Reply, SessionNumbers, memory};
 use crate::request::{ItemEdit, Request, Show};
@@ -21,7 +21,7 @@ pub(crate) struct SessionAnswers<C: Coins> {
     alloc: Global,
     counted: bool,
     session: Session<C>,
-    mark: MarkedBits,
+    bookmark: BookmarkedBits,
 }
 
 // Written out, so that a proof sees the drop of a value as one call, and not one for each of its parts.
@@ -31,7 +31,7 @@ impl<C: Coins> Drop for SessionAnswers<C> {
             alloc: _,
             counted: _,
             session: _,
-            mark: _,
+            bookmark: _,
         } = self;
     }
 }
@@ -46,21 +46,21 @@ impl<C: Coins> SessionAnswers<C> {
     ghost use Rattle.stab_circuit.specs.Prints.{printed};
     ghost use Rattle.stab_items.specs.Splits.{split as split_list};
     ghost use Rattle.stab_report.specs.FaultLines.{refused_text};
-    ghost use Rattle.stab_report.specs.Coins.{bits_of};
-    ghost use Rattle.stab_script.specs.Changes.{changed_text, changed_records_text, mark_shown};
+    ghost use Rattle.stab_report.specs.Coins.{shot_bits_of};
+    ghost use Rattle.stab_script.specs.Changes.{changed_text, changed_records_text, bookmark_shown};
     ghost use Rattle.stab_script.specs.CountedReplies.{text_found, session_numbers, reply_text};
     ghost use Rattle.stab_script.specs.CoinReplies.{coins_shown, why_shown};
     ghost use Rattle.stab_script.specs.Words.{put_in_of};
     ghost use Rattle.stab_script.specs.WayTexts.{way_text};
     ghost use Rattle.stab_script.specs.PlaceCounts.{place_text};
     ghost use Rattle.stab_script.specs.Signs.{string_of_word, sign_in, sign_line};
-    ghost use Rattle.stab_script.specs.Scripts.{IsDistanceAnswer, IsPut, IsDeterministicAnswer, decided, edited_items, edit_of, first_mark as first_mark_of, counted_answer, counted_shown, held_after, held_split, options_asked};
+    ghost use Rattle.stab_script.specs.Scripts.{IsDistanceAnswer, IsPut, IsDeterministicAnswer, decided, edited_items, edit_of, first_bookmark as first_bookmark_of, counted_answer, counted_shown, held_after, held_split, options_asked};
     ghost use Rattle.stab_script.specs.CountedAnswers.{GivesText};
     ghost use Rattle.stab_script.specs.Requests.{counted_asked};
     ghost use Rattle.stab_script.specs.inner.SessionAnswers.{ShowsOf, session_environment, session_run, held_of, answered};
     ghost use Rattle.stab_script.specs.declared.request.Show.TheVariants.{Stabilisers};
 
-    /// A session that answers requests; one of a counted script has its first mark. Fault
+    /// A session that answers requests; one of a counted script has its first bookmark. Fault
     /// `OutOfMemory` alone.
     pub(crate) fn new(
         alloc: Global,
@@ -69,15 +69,15 @@ impl<C: Coins> SessionAnswers<C> {
     ) -> Result<SessionAnswers<C>, Fault>
         ensures session { IfOk result (λ a. a.session ≡ session) }
         ensures counted { IfOk result (λ a. a.counted ≡ counted) }
-        ensures mark { IfOk result (λ a. mark_shown a.mark ≡ first_mark_of counted (session_run C.sequence session)) }
+        ensures bookmark { IfOk result (λ a. bookmark_shown a.bookmark ≡ first_bookmark_of counted (session_run C.sequence session)) }
         ensures err { IfErr result (λ f. f ≡ whole OutOfMemory) }
     {
-        let mark = first_mark(alloc, counted, &session)?;
+        let bookmark = first_bookmark(alloc, counted, &session)?;
         Ok(SessionAnswers {
             alloc,
             counted,
             session,
-            mark,
+            bookmark,
         })
     }
 
@@ -85,7 +85,7 @@ impl<C: Coins> SessionAnswers<C> {
     fn show_rows(&mut self) -> Result<Reply, Fault>
         ensures session { self.new.session ≡ self.old.session }
         ensures counted { self.new.counted ≡ self.old.counted }
-        ensures mark { self.new.mark ≡ self.old.mark }
+        ensures bookmark { self.new.bookmark ≡ self.old.bookmark }
         ensures shows { IfOk result (λ r. ShowsOf C.sequence self.old.session Stabilisers r.written) }
         ensures err { IfErr result (λ f. f ≡ whole OutOfMemory) }
     {
@@ -99,7 +99,7 @@ impl<C: Coins> SessionAnswers<C> {
     fn show(&mut self, what: Show) -> Result<Reply, Fault>
         ensures session { self.new.session ≡ self.old.session }
         ensures counted { self.new.counted ≡ self.old.counted }
-        ensures mark { self.new.mark ≡ self.old.mark }
+        ensures bookmark { self.new.bookmark ≡ self.old.bookmark }
         ensures shows { IfOk result (λ r. ShowsOf C.sequence self.old.session what r.written) }
         ensures err { IfErr result (λ f. f ≡ whole OutOfMemory) }
     {
@@ -129,20 +129,20 @@ impl<C: Coins> SessionAnswers<C> {
 
     /// What changed of detectors and observables.
     fn changed(&self) -> Result<Reply, Fault>
-        ensures shows { IfOk result (λ r. r.written ≡ changed_text (mark_shown self.now.mark) (session_run C.sequence self.now.session)) }
+        ensures shows { IfOk result (λ r. r.written ≡ changed_text (bookmark_shown self.now.bookmark) (session_run C.sequence self.now.session)) }
         ensures err { IfErr result (λ f. f ≡ whole OutOfMemory) }
     {
         let detectors = self.session.detectors();
         let observables = self.session.observables();
         let mut bits = Vec::new(self.alloc);
-        push_changes(&mut bits, self.mark.detectors.as_slice(), detectors)?;
+        push_changes(&mut bits, self.bookmark.detectors.as_slice(), detectors)?;
         let kinds = Kinds::Detectors(bits.len());
-        push_changes(&mut bits, self.mark.observables.as_slice(), observables)?;
+        push_changes(&mut bits, self.bookmark.observables.as_slice(), observables)?;
         let mut reply = Reply::entries(self.alloc, kinds, bits.as_slice())?;
-        reply.add_count(b"detectors", self.mark.detectors.as_slice(), detectors)?;
+        reply.add_count(b"detectors", self.bookmark.detectors.as_slice(), detectors)?;
         reply.add_count(
             b"observables",
-            self.mark.observables.as_slice(),
+            self.bookmark.observables.as_slice(),
             observables,
         )?;
         Ok(reply)
@@ -150,14 +150,14 @@ impl<C: Coins> SessionAnswers<C> {
 
     /// What changed of records.
     fn changed_records(&self) -> Result<Reply, Fault>
-        ensures shows { IfOk result (λ r. r.written ≡ changed_records_text (mark_shown self.now.mark) (session_run C.sequence self.now.session)) }
+        ensures shows { IfOk result (λ r. r.written ≡ changed_records_text (bookmark_shown self.now.bookmark) (session_run C.sequence self.now.session)) }
         ensures err { IfErr result (λ f. f ≡ whole OutOfMemory) }
     {
         let records = self.session.records();
         let mut bits = Vec::new(self.alloc);
-        push_changes(&mut bits, self.mark.records.as_slice(), records)?;
+        push_changes(&mut bits, self.bookmark.records.as_slice(), records)?;
         let mut reply = Reply::entries(self.alloc, Kinds::Measurements, bits.as_slice())?;
-        reply.add_count(b"records", self.mark.records.as_slice(), records)?;
+        reply.add_count(b"records", self.bookmark.records.as_slice(), records)?;
         Ok(reply)
     }
 
@@ -165,7 +165,7 @@ impl<C: Coins> SessionAnswers<C> {
     fn sign(&mut self, word: &[u8]) -> Result<Reply, Refusal>
         ensures session { self.new.session ≡ self.old.session }
         ensures counted { self.new.counted ≡ self.old.counted }
-        ensures mark { self.new.mark ≡ self.old.mark }
+        ensures bookmark { self.new.bookmark ≡ self.old.bookmark }
         ensures shows { GivesText result (text_found (λ p. sign_line (sign_in (member (session_run C.sequence self.old.session).trace) p)) (string_of_word self.old.session.qubits word.now)) }
     {
         let string = read_string(self.alloc, self.session.qubits(), word)?;
@@ -221,23 +221,23 @@ impl<C: Coins> SessionAnswers<C> {
     }
 
     /// Counts changes from now on.
-    fn mark(&mut self) -> Result<Reply, Fault>
+    fn bookmark(&mut self) -> Result<Reply, Fault>
         ensures session { self.new.session ≡ self.old.session }
         ensures counted { self.new.counted ≡ self.old.counted }
-        ensures mark { OnOk result (mark_shown self.new.mark ≡ bits_of (session_run C.sequence self.old.session)) }
-        ensures kept { OnErr result (self.new.mark ≡ self.old.mark) }
+        ensures bookmark { OnOk result (bookmark_shown self.new.bookmark ≡ shot_bits_of (session_run C.sequence self.old.session)) }
+        ensures kept { OnErr result (self.new.bookmark ≡ self.old.bookmark) }
         ensures written { IfOk result (λ r. r.written ≡ []) }
         ensures err { IfErr result (λ f. f ≡ whole OutOfMemory) }
     {
-        self.mark = mark_at(self.alloc, &self.session)?;
+        self.bookmark = bookmark_at(self.alloc, &self.session)?;
         Ok(Reply::new(self.alloc))
     }
 
     /// Splits a round off the block at a place.
     fn split(&mut self, place: Path, round: u64) -> Result<Reply, Refusal>
         ensures environment { session_environment C.sequence self.new.counted self.new.session ≡ session_environment C.sequence self.old.counted self.old.session }
-        ensures held { OnOk result (held_of self.new.session self.new.mark ≡ held_split (held_of self.old.session self.old.mark) (split_list place round (entries self.old.session.items))) }
-        ensures kept { OnErr result (held_of self.new.session self.new.mark ≡ held_of self.old.session self.old.mark) }
+        ensures held { OnOk result (held_of self.new.session self.new.bookmark ≡ held_split (held_of self.old.session self.old.bookmark) (split_list place round (entries self.old.session.items))) }
+        ensures kept { OnErr result (held_of self.new.session self.new.bookmark ≡ held_of self.old.session self.old.bookmark) }
         ensures shows { GivesText result (text_found (λ list. []) (split_list place round (entries self.old.session.items))) }
     {
         match self.session.split(place, round) {
@@ -249,12 +249,12 @@ impl<C: Coins> SessionAnswers<C> {
     /// What only a counted script is shown.
     fn show_counted(&mut self, request: &CountedRequest) -> Result<Reply, Refusal>
         ensures environment { session_environment C.sequence self.new.counted self.new.session ≡ session_environment C.sequence self.old.counted self.old.session }
-        ensures kept { OnErr result (held_of self.new.session self.new.mark ≡ held_of self.old.session self.old.mark) }
-        ensures held { OnOk result (held_of self.new.session self.new.mark ≡ held_after (session_run C.sequence self.old.session) (held_of self.old.session self.old.mark) (counted_asked request.now)) }
-        ensures shows { GivesText result (counted_shown self.old.session.qubits (session_run C.sequence self.old.session) (held_of self.old.session self.old.mark) (counted_asked request.now)) }
+        ensures kept { OnErr result (held_of self.new.session self.new.bookmark ≡ held_of self.old.session self.old.bookmark) }
+        ensures held { OnOk result (held_of self.new.session self.new.bookmark ≡ held_after (session_run C.sequence self.old.session) (held_of self.old.session self.old.bookmark) (counted_asked request.now)) }
+        ensures shows { GivesText result (counted_shown self.old.session.qubits (session_run C.sequence self.old.session) (held_of self.old.session self.old.bookmark) (counted_asked request.now)) }
     {
         match request {
-            CountedRequest::Mark => memory(self.mark()),
+            CountedRequest::Bookmark => memory(self.bookmark()),
             CountedRequest::Split { place, round } => self.split(*place, *round),
             CountedRequest::Numbers => memory(Reply::numbers(self.alloc, self.numbers())),
             CountedRequest::Changed => memory(self.changed()),
@@ -272,7 +272,7 @@ impl<C: Coins> SessionAnswers<C> {
     #[tactic(auto, using(crate::proofs::SessionAnswerLaws::reported_counted, crate::proofs::SessionAnswerLaws::counted_refused))]
     fn answer_counted(&mut self, request: &CountedRequest) -> Result<Answered, Fault>
         ensures environment { OnOk result (session_environment C.sequence self.new.counted self.new.session ≡ session_environment C.sequence self.old.counted self.old.session) }
-        ensures answers { IfOk result (λ a. answered (held_of self.new.session self.new.mark) a.reply.written a.refused ≡ counted_answer self.old.counted self.old.session.qubits (session_run C.sequence self.old.session) (held_of self.old.session self.old.mark) (counted_asked request.now)) }
+        ensures answers { IfOk result (λ a. answered (held_of self.new.session self.new.bookmark) a.reply.written a.refused ≡ counted_answer self.old.counted self.old.session.qubits (session_run C.sequence self.old.session) (held_of self.old.session self.old.bookmark) (counted_asked request.now)) }
         ensures err { IfErr result (λ f. f ≡ whole OutOfMemory) }
     {
         if !self.counted {
@@ -294,7 +294,7 @@ impl<C: Coins> SessionAnswers<C> {
     /// script may make.
     #[tactic(auto, using(crate::proofs::PlaceCountLaws::session_checked))]
     fn answer_deterministic(&self) -> Result<Answered, Fault>
-        ensures answers { IfOk result (λ a. IsDeterministicAnswer self.now.counted (held_of self.now.session self.now.mark) (answered (held_of self.now.session self.now.mark) a.reply.written a.refused)) }
+        ensures answers { IfOk result (λ a. IsDeterministicAnswer self.now.counted (held_of self.now.session self.now.bookmark) (answered (held_of self.now.session self.now.bookmark) a.reply.written a.refused)) }
         ensures err { IfErr result (λ f. f ≡ whole OutOfMemory) }
     {
         if !self.counted {
@@ -311,7 +311,7 @@ impl<C: Coins> SessionAnswers<C> {
     /// The answer to a request for a distance, which only a counted script may make.
     #[tactic(auto, using(crate::proofs::PlaceCountLaws::session_checked, crate::proofs::DistanceLaws::distance_reported, crate::proofs::DistanceLaws::distance_refused))]
     fn answer_distance(&self, everywhere: bool, most: usize) -> Result<Answered, Fault>
-        ensures answers { IfOk result (λ a. IsDistanceAnswer self.now.counted (held_of self.now.session self.now.mark) (options_asked everywhere most) (answered (held_of self.now.session self.now.mark) a.reply.written a.refused)) }
+        ensures answers { IfOk result (λ a. IsDistanceAnswer self.now.counted (held_of self.now.session self.now.bookmark) (options_asked everywhere most) (answered (held_of self.now.session self.now.bookmark) a.reply.written a.refused)) }
         ensures err { IfErr result (λ f. f ≡ whole OutOfMemory) }
     {
         if !self.counted {
@@ -348,7 +348,7 @@ impl<C: Coins> SessionAnswers<C> {
     /// Makes an edit.
     fn apply(&mut self, edit: Edit) -> Result<Answered, Fault>
         ensures environment { OnOk result (session_environment C.sequence self.new.counted self.new.session ≡ session_environment C.sequence self.old.counted self.old.session) }
-        ensures answers { IfOk result (λ a. answered (held_of self.new.session self.new.mark) a.reply.written a.refused ≡ decided self.old.counted (held_of self.old.session self.old.mark) (edited_items self.old.session.qubits edit self.old.session.items)) }
+        ensures answers { IfOk result (λ a. answered (held_of self.new.session self.new.bookmark) a.reply.written a.refused ≡ decided self.old.counted (held_of self.old.session self.old.bookmark) (edited_items self.old.session.qubits edit self.old.session.items)) }
         ensures err { IfErr result (λ f. f ≡ whole OutOfMemory) }
     {
         match self.session.apply(edit) {
@@ -369,7 +369,7 @@ impl<C: Coins> SessionAnswers<C> {
     /// Makes an edit that puts in an item.
     fn put_item(&mut self, edit: ItemEdit, place: Path, item: Item) -> Result<Answered, Fault>
         ensures environment { OnOk result (session_environment C.sequence self.new.counted self.new.session ≡ session_environment C.sequence self.old.counted self.old.session) }
-        ensures answers { IfOk result (λ a. answered (held_of self.new.session self.new.mark) a.reply.written a.refused ≡ decided self.old.counted (held_of self.old.session self.old.mark) (edited_items self.old.session.qubits (edit_of edit place item) self.old.session.items)) }
+        ensures answers { IfOk result (λ a. answered (held_of self.new.session self.new.bookmark) a.reply.written a.refused ≡ decided self.old.counted (held_of self.old.session self.old.bookmark) (edited_items self.old.session.qubits (edit_of edit place item) self.old.session.items)) }
         ensures err { IfErr result (λ f. f ≡ whole OutOfMemory) }
     {
         match edit {
@@ -381,7 +381,7 @@ impl<C: Coins> SessionAnswers<C> {
     /// Makes an edit that puts in the item of a text.
     fn put(&mut self, edit: ItemEdit, place: Path, text: &[u8]) -> Result<Answered, Fault>
         ensures environment { OnOk result (session_environment C.sequence self.new.counted self.new.session ≡ session_environment C.sequence self.old.counted self.old.session) }
-        ensures answers { IfOk result (λ a. IsPut self.old.counted (held_of self.old.session self.old.mark) (λ item. edited_items self.old.session.qubits (edit_of edit place item) self.old.session.items) text.now (answered (held_of self.new.session self.new.mark) a.reply.written a.refused)) }
+        ensures answers { IfOk result (λ a. IsPut self.old.counted (held_of self.old.session self.old.bookmark) (λ item. edited_items self.old.session.qubits (edit_of edit place item) self.old.session.items) text.now (answered (held_of self.new.session self.new.bookmark) a.reply.written a.refused)) }
         ensures err { IfErr result (λ f. f ≡ whole OutOfMemory) }
     {
         match read_item(self.alloc, text) {
@@ -402,7 +402,7 @@ impl<C: Coins> Answer for SessionAnswers<C> {
 
     ghost environment = { λ a. session_environment C.sequence a.counted a.session };
 
-    ghost held = { λ a. held_of a.session a.mark };
+    ghost held = { λ a. held_of a.session a.bookmark };
 
     fn answer(&mut self, request: Request) -> Result<Answered, Fault> {
         match request {

@@ -5,7 +5,7 @@ ghost use Rattle.stab_gates.specs.Limits.{most_qubits};
 ghost use Rattle.stab_circuit.specs.Steps.{check_within};
 ghost use Rattle.stab_items.specs.Views.{circuit_items};
 ghost use Rattle.stab_circuit.specs.Limits.{most_stride};
-ghost use Rattle.stab_script.specs.Scripts.{opened, IsAnswerToAll};
+ghost use Rattle.stab_script.specs.Scripts.{held_at_first, IsAnswerToAll};
 ghost use Rattle.stab_script.specs.ScriptEndings.{EndsScript, EndsOn};
 ghost use Rattle.stab_script.specs.ScriptTurns.{TakesTurns};
 
@@ -30,8 +30,8 @@ pub(crate) fn run_script<A: Answer, S: Input, O: Output, W: Watcher<S, O>>(
     script: &mut S,
     out: &mut O,
 ) -> Result<bool, Fault>
-    requires opened { A.held answers ≡ opened (A.environment answers) (A.held answers).items }
-    ensures ends { EndsScript (IsAnswerToAll (A.environment answers) (opened (A.environment answers) (A.held answers).items)) (S.seen script.old) (S.seen script.new) (O.seen out.old) (O.seen out.new) result }
+    requires opened { A.held answers ≡ held_at_first (A.environment answers) (A.held answers).items }
+    ensures ends { EndsScript (IsAnswerToAll (A.environment answers) (held_at_first (A.environment answers) (A.held answers).items)) (S.seen script.old) (S.seen script.new) (O.seen out.old) (O.seen out.new) result }
     ensures turns { TakesTurns (A.environment answers) (A.held answers).items (S.seen script.old) (S.seen script.new) (O.seen out.old) (O.seen out.new) (W.log script.old) (W.log script.new) result }
 {
     let mut editor = Editor::new(alloc, answers);
@@ -101,7 +101,7 @@ pub fn edit_circuit<C: Coins, S: Input, O: Output, W: Watcher<S, O>>(
     requires in_range { n ≤ most_qubits }
     requires stride_above { 1 ≤ stride }
     requires stride_within { stride ≤ most_stride }
-    ensures ends { EndsOn (IsAnswerToAll (record { counted = counted; qubits = n; coins = C.sequence coins }) (opened (record { counted = counted; qubits = n; coins = C.sequence coins }) (circuit_items circuit))) n (circuit_items circuit) (S.seen script.old) (S.seen script.new) (O.seen out.old) (O.seen out.new) result }
+    ensures ends { EndsOn (IsAnswerToAll (record { counted = counted; qubits = n; coins = C.sequence coins }) (held_at_first (record { counted = counted; qubits = n; coins = C.sequence coins }) (circuit_items circuit))) n (circuit_items circuit) (S.seen script.old) (S.seen script.new) (O.seen out.old) (O.seen out.new) result }
     ensures turns { ((script.new ≡ script.old) × (out.new ≡ out.old)) ⊎ TakesTurns (record { counted = counted; qubits = n; coins = C.sequence coins }) (circuit_items circuit) (S.seen script.old) (S.seen script.new) (O.seen out.old) (O.seen out.new) (W.log script.old) (W.log script.new) result }
 {
     let session = open_session(alloc, circuit, n, stride, coins)?;

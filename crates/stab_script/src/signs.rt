@@ -3,7 +3,7 @@ ghost use Rattle.std.specs.Prelude.{◌≡◌, ◌<◌, IfOk, length, nat_lt, tr
 ghost use Rattle.std.specs.List.{list_all};
 ghost use Rattle.stab_instructions.specs.Results.{Gives};
 ghost use Rattle.stab_circuit.specs.Steps.{is_inverted as inverted_of};
-ghost use Rattle.stab_script.specs.Signs.{unsigned as unsigned_of, is_letter as is_letter_of, letter_at as letter_of, lettered, string_within, string_without_sign, string_of_word};
+ghost use Rattle.stab_script.specs.Signs.{unsigned as unsigned_of, is_string_byte as is_letter_of, letter_of_byte as letter_of, lettered, string_within, string_without_sign, string_of_word};
 
 use stab_circuit::{read_product, starts_with};
 use stab_instructions::Factor;
@@ -68,7 +68,7 @@ fn read_letters(alloc: Global, n: usize, word: &[u8]) -> Result<Pauli, Refusal>
     Ok(string)
 }
 
-/// Whether the factors' marks make the sign the other one.
+/// Whether the factors' `!` invert the sign.
 fn is_inverted(factors: &[Factor]) -> bool
     ensures value { result ≡ inverted_of factors.now }
 {

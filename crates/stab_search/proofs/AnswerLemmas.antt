@@ -1,5 +1,5 @@
 -- Answers: each table has one, since all lists of a number of rows can be tried.
-use Rattle.stab_search.proofs.Names.{◌≡◌, ℕ, zero, suc, ◌+◌, ◌≤◌, ◌<◌, ◌⊎◌, inl, inr, refl, sym, ◌∙◌, subst, arith, Bool, true, false, List, [], ◌∷◌, ◌++◌, length, append-nil, append_assoc, ◌^◌, Vec, null_ptr, cases_lt, false≢true, ◌⊕◌, Answer, Least, NoneWithin, NoneAtAll, ErrorTable, odd, flips, IsLogicalError, IsLeast, HasSome, HasNoneWithin, IsAnswer, Each, IsShortest}
+use Rattle.stab_search.proofs.Names.{◌≡◌, ℕ, zero, suc, ◌+◌, ◌≤◌, ◌<◌, ◌⊎◌, inl, inr, refl, sym, ◌∙◌, subst, arith, Bool, true, false, List, [], ◌∷◌, ◌++◌, length, append-nil, append_assoc, ◌^◌, Vec, null_ptr, cases_lt, false≢true, ◌⊕◌, Answer, Least, NoneWithin, NoneAtAll, ErrorTable, odd, flipped_by_rows, IsLogicalError, IsLeast, HasSome, HasNoneWithin, IsAnswer, Each}
 use Rattle.std.proofs.lemmas.Bool.{ne_eqb}
 use Rattle.stab_search.proofs.FlipLemmas.{named_by, odd-named}
 use Rattle.stab_search.proofs.ListLemmas.{by-bit, all-each, each-all, each-push}
@@ -12,11 +12,11 @@ tried P zero each = inr (λ k lt is. omega (arith, lt))
 tried P (suc end) each = by_last (each end (omega arith)) (tried P end (λ k lt. each k (omega (arith, lt))))
   where
     last : (k : ℕ) → k < suc end → (P end → ⊥) → ((j : ℕ) → j < end → P j → ⊥) → P k → ⊥
-    last k lt never none is = by_place (cases_lt k end)
+    last k lt never none is = by_position (cases_lt k end)
       where
-        by_place : (k < end) ⊎ (end ≤ k) → ⊥
-        by_place (inl less) = none k less is
-        by_place (inr le) = let same : k ≡ end = omega (arith, lt, le) in never (subst P same is)
+        by_position : (k < end) ⊎ (end ≤ k) → ⊥
+        by_position (inl less) = none k less is
+        by_position (inr le) = let same : k ≡ end = omega (arith, lt, le) in never (subst P same is)
 
     by_last : P end ⊎ (P end → ⊥) → ((k : ℕ) × (k < end) × P k) ⊎ ((k : ℕ) → k < end → P k → ⊥) → ((k : ℕ) × (k < suc end) × P k) ⊎ ((k : ℕ) → k < suc end → P k → ⊥)
     by_last (inl is) earlier = inl (end, omega arith, is)
@@ -41,31 +41,31 @@ module _ (t : ErrorTable) where
 
   module _ (errors : List ℕ) where
     abbrev Flipped : ℕ → Type 0
-    Flipped i = flips t.rows errors i ≡ true
+    Flipped i = flipped_by_rows t.rows errors i ≡ true
 
     abbrev Observed : ℕ → Type 0
     Observed o = (t.detectors ≤ o) × Flipped o
 
     flipped : (i : ℕ) → Flipped i ⊎ (Flipped i → ⊥)
-    flipped i = by-bit (flips t.rows errors i) inl (λ e. inr (λ is. false-or-true (flips t.rows errors i) is e))
+    flipped i = by-bit (flipped_by_rows t.rows errors i) inl (λ e. inr (λ is. false-or-true (flipped_by_rows t.rows errors i) is e))
 
     observed : (o : ℕ) → Observed o ⊎ (Observed o → ⊥)
-    observed o = by_place (cases_lt o t.detectors) (flipped o)
+    observed o = by_position (cases_lt o t.detectors) (flipped o)
       where
-        by_place : (o < t.detectors) ⊎ (t.detectors ≤ o) → Flipped o ⊎ (Flipped o → ⊥) → Observed o ⊎ (Observed o → ⊥)
-        by_place (inl lt) bit = inr (λ is. omega (arith, lt, is.0))
-        by_place (inr le) (inl is) = inl (le, is)
-        by_place (inr le) (inr never) = inr (λ is. never is.1)
+        by_position : (o < t.detectors) ⊎ (t.detectors ≤ o) → Flipped o ⊎ (Flipped o → ⊥) → Observed o ⊎ (Observed o → ⊥)
+        by_position (inl lt) bit = inr (λ is. omega (arith, lt, is.0))
+        by_position (inr le) (inl is) = inl (le, is)
+        by_position (inr le) (inr never) = inr (λ is. never is.1)
 
     abbrev end : ℕ
     end = (end-of (named_by t.rows errors)).0
 
     below : (o : ℕ) → Flipped o → o < end
-    below o is = by_place (cases_lt o end)
+    below o is = by_position (cases_lt o end)
       where
-        by_place : (o < end) ⊎ (end ≤ o) → o < end
-        by_place (inl lt) = lt
-        by_place (inr le) = absurd (false-or-true (flips t.rows errors o) is (sym (odd-named t.rows errors o) ∙ (end-of (named_by t.rows errors)).1 o le))
+        by_position : (o < end) ⊎ (end ≤ o) → o < end
+        by_position (inl lt) = lt
+        by_position (inr le) = absurd (false-or-true (flipped_by_rows t.rows errors o) is (sym (odd-named t.rows errors o) ∙ (end-of (named_by t.rows errors)).1 o le))
 
     is-logical : Each Inside errors → IsLogicalError t errors ⊎ (IsLogicalError t errors → ⊥)
     is-logical inside = by_detectors (tried Flipped t.detectors (λ d lt. flipped d))
@@ -74,13 +74,13 @@ module _ (t : ErrorTable) where
             → IsLogicalError t errors ⊎ (IsLogicalError t errors → ⊥)
         by_observables undetected (inl found) = inl (record {
           inside = all-each Inside errors inside;
-          undetected = λ d lt. by-bit (flips t.rows errors d) (λ e. absurd (undetected d lt e)) (λ e. e);
+          undetected = λ d lt. by-bit (flipped_by_rows t.rows errors d) (λ e. absurd (undetected d lt e)) (λ e. e);
           observed = (found.0, found.2.0, found.2.1);
         })
         by_observables undetected (inr none) = inr (λ e. none e.observed.0 (below e.observed.0 e.observed.2) (e.observed.1, e.observed.2))
 
         by_detectors : ((d : ℕ) × (d < t.detectors) × Flipped d) ⊎ ((d : ℕ) → d < t.detectors → Flipped d → ⊥) → IsLogicalError t errors ⊎ (IsLogicalError t errors → ⊥)
-        by_detectors (inl found) = inr (λ e. false-or-true (flips t.rows errors found.0) found.2 (e.undetected found.0 found.1))
+        by_detectors (inl found) = inr (λ e. false-or-true (flipped_by_rows t.rows errors found.0) found.2 (e.undetected found.0 found.1))
         by_detectors (inr none) = by_observables none (tried Observed end (λ o lt. observed o))
 
   -- rows chosen, and this number more
@@ -119,22 +119,32 @@ module _ (t : ErrorTable) where
           inl (found.0 ∷ found.2.0, omega (arith, found.2.1), subst (IsLogicalError t) (append_assoc chosen (found.0 ∷ []) found.2.0) found.2.2)
       by_next (inr none) = inr (λ found. let next = one-more size chosen found in none next.0 next.1 next.2)
 
-  -- a shortest logical error of at most this many rows, or none
+  -- a least logical error of at most this many rows, or none
 
-  shortest : (most : ℕ) → ((errors : List ℕ) × IsShortest t most errors) ⊎ HasNoneWithin t most
+  shortest : (most : ℕ) → ((set : List ℕ) × IsLeast t most set) ⊎ HasNoneWithin t most
   shortest zero = inr (none-empty t)
   shortest (suc most) = by_fewer (shortest most)
     where
-      by_size : HasNoneWithin t most → Completes (suc most) [] ⊎ (Completes (suc most) [] → ⊥) → ((errors : List ℕ) × IsShortest t (suc most) errors) ⊎ HasNoneWithin t (suc most)
-      by_size none (inl found) = inl (found.0, record { logical = found.2; within = omega (arith, found.1); least = λ others e. omega (arith, found.1, none others e) })
-      by_size none (inr never) = inr (λ errors e. by_place errors e (cases_lt (suc most) (length errors)))
+      by_size : HasNoneWithin t most → Completes (suc most) [] ⊎ (Completes (suc most) [] → ⊥) → ((set : List ℕ) × IsLeast t (suc most) set) ⊎ HasNoneWithin t (suc most)
+      by_size none (inl found) =
+          let set = gathering found.0 in
+          inl (
+            set.0,
+            record {
+              ascending = set.1.ascending;
+              logical = gathered-logical t found.0 set.0 set.1 found.2;
+              within = omega (arith, set.1.fewer, found.1);
+              least = λ others e. omega (arith, set.1.fewer, found.1, none others e);
+            },
+          )
+      by_size none (inr never) = inr (λ errors e. by_position errors e (cases_lt (suc most) (length errors)))
         where
-          by_place : (errors : List ℕ) → IsLogicalError t errors → (suc most < length errors) ⊎ (length errors ≤ suc most) → suc most < length errors
-          by_place errors e (inl lt) = lt
-          by_place errors e (inr le) = absurd (never (errors, omega (arith, le, none errors e), e))
+          by_position : (errors : List ℕ) → IsLogicalError t errors → (suc most < length errors) ⊎ (length errors ≤ suc most) → suc most < length errors
+          by_position errors e (inl lt) = lt
+          by_position errors e (inr le) = absurd (never (errors, omega (arith, le, none errors e), e))
 
-      by_fewer : ((errors : List ℕ) × IsShortest t most errors) ⊎ HasNoneWithin t most → ((errors : List ℕ) × IsShortest t (suc most) errors) ⊎ HasNoneWithin t (suc most)
-      by_fewer (inl (errors, is)) = inl (errors, record { logical = is.logical; within = omega (arith, is.within); least = is.least })
+      by_fewer : ((set : List ℕ) × IsLeast t most set) ⊎ HasNoneWithin t most → ((set : List ℕ) × IsLeast t (suc most) set) ⊎ HasNoneWithin t (suc most)
+      by_fewer (inl (set, is)) = inl (set, record { ascending = is.ascending; logical = is.logical; within = omega (arith, is.within); least = is.least })
       by_fewer (inr none) = by_size none (completes (suc most) [] tt)
 
   -- so there is an answer
@@ -151,34 +161,22 @@ module _ (t : ErrorTable) where
     small = few;
   }
 
-  least-set : (most : ℕ) (errors : List ℕ) → IsShortest t most errors → (set : List ℕ) × IsLeast t most set
-  least-set most errors is =
-      let set = gathering errors in (
-        set.0,
-        record {
-          ascending = set.1.ascending;
-          logical = gathered-logical t errors set.0 set.1 is.logical;
-          within = omega (arith, set.1.fewer, is.within);
-          least = λ others e. omega (arith, set.1.fewer, is.least others e);
-        },
-      )
-
   -- if there is a logical error, there is a least one
   pub least-of : HasSome t → (most : ℕ) × (set : List ℕ) × IsLeast t most set
   least-of (errors, e) = by_shortest (shortest (length errors))
     where
-      by_shortest : ((xs : List ℕ) × IsShortest t (length errors) xs) ⊎ HasNoneWithin t (length errors) → (most : ℕ) × (set : List ℕ) × IsLeast t most set
-      by_shortest (inl (xs, is)) = let set = least-set (length errors) xs is in (length errors, set.0, set.1)
+      by_shortest : ((set : List ℕ) × IsLeast t (length errors) set) ⊎ HasNoneWithin t (length errors) → (most : ℕ) × (set : List ℕ) × IsLeast t most set
+      by_shortest (inl (set, is)) = (length errors, set, is)
       by_shortest (inr none) = let less : length errors < length errors = none errors e in absurd (omega (arith, less))
 
   pub answer : (most : ℕ) → most < 2 ^ 63 → (a : Answer) × IsAnswer t most a
   answer most few = by_shortest (shortest most)
     where
-      by_any : HasNoneWithin t most → ((errors : List ℕ) × IsShortest t (length t.rows) errors) ⊎ HasNoneWithin t (length t.rows) → (a : Answer) × IsAnswer t most a
-      by_any none (inl (errors, is)) = (NoneWithin, (none, (errors, is.logical)))
+      by_any : HasNoneWithin t most → ((set : List ℕ) × IsLeast t (length t.rows) set) ⊎ HasNoneWithin t (length t.rows) → (a : Answer) × IsAnswer t most a
+      by_any none (inl (set, is)) = (NoneWithin, (none, (set, is.logical)))
       by_any none (inr never) =
           (NoneAtAll, λ errors e. let less : length errors < length errors = none-up_to t (length errors) (length t.rows) (omega arith) never errors e in omega (arith, less))
 
-      by_shortest : ((errors : List ℕ) × IsShortest t most errors) ⊎ HasNoneWithin t most → (a : Answer) × IsAnswer t most a
+      by_shortest : ((set : List ℕ) × IsLeast t most set) ⊎ HasNoneWithin t most → (a : Answer) × IsAnswer t most a
       by_shortest (inr none) = by_any none (shortest (length t.rows))
-      by_shortest (inl (errors, is)) = let set = least-set most errors is in (Least (held set.0 (omega (arith, few, set.1.within))), set.1)
+      by_shortest (inl (set, is)) = (Least (held set (omega (arith, few, is.within))), is)

@@ -7,11 +7,11 @@ pub bound-all : (t : ErrorTable) (bound end reached : ℕ) → ((r i : ℕ) → 
     → ((o : ℕ) → t.detectors ≤ o → o < reached → HasAtLeast t o bound) → HasBound t bound
 bound-all t bound end reached beyond le each errors logical =
     let o = logical.observed.0 in
-    by_place o logical.observed.1 (cases_lt o reached) errors logical.inside logical.undetected logical.observed.2
+    by_position o logical.observed.1 (cases_lt o reached) errors logical.inside logical.undetected logical.observed.2
   where
-    by_place : (o : ℕ) → t.detectors ≤ o → (o < reached) ⊎ (reached ≤ o) → HasAtLeast t o bound
-    by_place o from (inl lt) = each o from lt
-    by_place o from (inr past) = λ xs inside undetected is.
+    by_position : (o : ℕ) → t.detectors ≤ o → (o < reached) ⊎ (reached ≤ o) → HasAtLeast t o bound
+    by_position o from (inl lt) = each o from lt
+    by_position o from (inr past) = λ xs inside undetected is.
         absurd (false≢true (sym (unnamed t o (λ r l. beyond r o l (omega arith)) xs inside undetected) ∙ is))
 
 -- a logical error of no more errors than the bound is a least one

@@ -1,5 +1,5 @@
 -- Choices: of errors with weights that complete what is flipped one is among those listed.
-use Rattle.stab_search.proofs.Names.{◌≡◌, ℕ, ◌-◌, ◌*◌, ◌≤◌, ◌<◌, ◌⊎◌, inl, inr, sym, ◌∙◌, ap, arith, true, false, List, [], ◌∷◌, length, get_or, slice_index, ◌⊕◌, parity-false, IsAscending, ErrorTable, odd, row, flips, IsLogicalError, HasNoneWithin, Each, has, key_of, shares, Completes, ways, HasNoFewer, IsWay, MeetsEach}
+use Rattle.stab_search.proofs.Names.{◌≡◌, ℕ, ◌-◌, ◌*◌, ◌≤◌, ◌<◌, ◌⊎◌, inl, inr, sym, ◌∙◌, ap, arith, true, false, List, [], ◌∷◌, length, get_or, slice_index, ◌⊕◌, parity-false, IsAscending, ErrorTable, odd, row, flipped_by_rows, IsLogicalError, HasNoneWithin, Each, has, key_of, shares, Completes, ways, HasNoFewer, IsWay, MeetsEach}
 use Rattle.stab_search.proofs.CoverLemmas.{no-fewer, above, some-shared}
 use Rattle.stab_search.proofs.EndLemmas.{completes-observed}
 use Rattle.stab_search.proofs.FlipLemmas.{namer, key-same}
@@ -14,7 +14,7 @@ completes-logical t s rest nothing c = record {
   observed = let o = c.observed.0 in (
     o,
     c.observed.1,
-    sym (parity-false (flips t.rows rest o)) ∙ ap (λ b. flips t.rows rest o ⊕ b) (sym (ap (odd o) nothing)) ∙ c.observed.2,
+    sym (parity-false (flipped_by_rows t.rows rest o)) ∙ ap (λ b. flipped_by_rows t.rows rest o ⊕ b) (sym (ap (odd o) nothing)) ∙ c.observed.2,
   );
 }
 
@@ -22,7 +22,7 @@ pub logical-completes : (t : ErrorTable) (rest : List ℕ) → Each (λ r. r < l
 logical-completes t rest inside e = record {
   inside = inside;
   undetected = λ d lt. e.undetected d lt;
-  observed = (e.observed.0, e.observed.1, parity-false (flips t.rows rest e.observed.0) ∙ e.observed.2);
+  observed = (e.observed.0, e.observed.1, parity-false (flipped_by_rows t.rows rest e.observed.0) ∙ e.observed.2);
 }
 
 module _ (t : ErrorTable) (weights s : List ℕ) where
@@ -41,7 +41,7 @@ module _ (t : ErrorTable) (weights s : List ℕ) where
   meet-keyed numbers left at few one all (h ∷ r ∷ rest) way = let count = way.count in absurd (omega arith)
 
   -- one flips a detector that is flipped
-  pub meet-flipping : (left : ℕ) (at : List ℕ) (rest : List ℕ) (i : ℕ) → IsWay t weights s left rest → flips t.rows rest i ≡ true
+  pub meet-flipping : (left : ℕ) (at : List ℕ) (rest : List ℕ) (i : ℕ) → IsWay t weights s left rest → flipped_by_rows t.rows rest i ≡ true
       → ((e : ℕ) → e < length t.rows → 0 < slice_index weights e → odd i (row t.rows e) ≡ true → has e at ≡ true) → (e : ℕ) × ((has e rest ≡ true) × (has e at ≡ true))
   meet-flipping left at rest i way flipped all =
       let one = namer t.rows rest i flipped in (
@@ -54,17 +54,17 @@ module _ (t : ErrorTable) (weights s : List ℕ) where
       )
 
   module _ (ds : List ℕ) (inside : Each (λ d. d < t.detectors) ds) (are_flipped : Each (λ d. odd d s ≡ true) ds) (left : ℕ) where
-    flip-each : (rest : List ℕ) → Completes t s rest → Each (λ d. flips t.rows rest d ≡ true) ds
+    flip-each : (rest : List ℕ) → Completes t s rest → Each (λ d. flipped_by_rows t.rows rest d ≡ true) ds
     flip-each rest c = both ds inside are_flipped
       where
-        both : (xs : List ℕ) → Each (λ d. d < t.detectors) xs → Each (λ d. odd d s ≡ true) xs → Each (λ d. flips t.rows rest d ≡ true) xs
+        both : (xs : List ℕ) → Each (λ d. d < t.detectors) xs → Each (λ d. odd d s ≡ true) xs → Each (λ d. flipped_by_rows t.rows rest d ≡ true) xs
         both [] a b = tt
         both (x ∷ xs) a b = (c.undetected x a.0 ∙ b.0, both xs a.1 b.1)
 
     pub meet-detector : (d : ℕ) (at : List ℕ) → has d ds ≡ true
         → ((e : ℕ) → e < length t.rows → 0 < slice_index weights e → odd d (row t.rows e) ≡ true → has e at ≡ true) → MeetsEach t weights s left at
     meet-detector d at among all rest way =
-        meet-flipping left at rest d way (each-has (λ k. flips t.rows rest k ≡ true) d ds (flip-each rest way.completes) among) all
+        meet-flipping left at rest d way (each-has (λ k. flipped_by_rows t.rows rest k ≡ true) d ds (flip-each rest way.completes) among) all
 
     -- one flips many of the detectors
     pub meet-many : (least : ℕ) (at : List ℕ) → 0 < least → (least - 1) * left < length ds

@@ -1,13 +1,13 @@
 -- Classes of detectors: a logical error's parts in one of the classes are a logical error of no more errors.
-use Rattle.stab_search.proofs.Names.{◌≡◌, ◌≢◌, ℕ, zero, suc, ◌+◌, ◌≤◌, ◌<◌, ◌⊎◌, inl, inr, refl, sym, ◌∙◌, ap, subst, arith, Bool, true, false, List, [], ◌∷◌, ◌++◌, length, map, get_or, slice_index, drop, drop-cons, cases_eq, false≢true, length-append, if◌then◌else◌, ◌==◌, eqb-true, eqb-false, eq-eqb, ne_eqb, ◌⊕◌, parity-assoc, parity-comm, parity-false, AscendsFrom, ErrorTable, odd, row, flips, IsLogicalError, Each, class_of, AreOfClass, HaveClasses, Counts, Splits}
+use Rattle.stab_search.proofs.Names.{◌≡◌, ◌≢◌, ℕ, zero, suc, ◌+◌, ◌≤◌, ◌<◌, ◌⊎◌, inl, inr, refl, sym, ◌∙◌, ap, subst, arith, Bool, true, false, List, [], ◌∷◌, ◌++◌, length, map, get_or, slice_index, drop, drop-cons, cases_eq, false≢true, length-append, if◌then◌else◌, ◌==◌, eqb-true, eqb-false, eq-eqb, ne_eqb, ◌⊕◌, parity-assoc, parity-comm, parity-false, AscendsFrom, ErrorTable, odd, row, flipped_by_rows, IsLogicalError, Each, class_of, AreOfClass, HaveClasses, Counts, Splits}
 use Rattle.stab_search.proofs.Totals.{has-odd}
 use Rattle.stab_search.proofs.ListLemmas.{by-bit, all-each, each-all, has-at}
 
-flips-append : (rows : List (List ℕ)) (xs ys : List ℕ) (i : ℕ) → flips rows (xs ++ ys) i ≡ flips rows xs i ⊕ flips rows ys i
+flips-append : (rows : List (List ℕ)) (xs ys : List ℕ) (i : ℕ) → flipped_by_rows rows (xs ++ ys) i ≡ flipped_by_rows rows xs i ⊕ flipped_by_rows rows ys i
 flips-append rows [] ys i = refl
 flips-append rows (x ∷ xs) ys i =
     ap (λ b. odd i (row rows x) ⊕ b) (flips-append rows xs ys i)
-    ∙ sym (parity-assoc (odd i (row rows x)) (flips rows xs i) (flips rows ys i))
+    ∙ sym (parity-assoc (odd i (row rows x)) (flipped_by_rows rows xs i) (flipped_by_rows rows ys i))
 
 each-append : (P : ℕ → Type 0) (xs ys : List ℕ) → Each P xs → Each P ys → Each P (xs ++ ys)
 each-append P [] ys a b = b
@@ -80,28 +80,28 @@ one-with f k m (x ∷ xs) a =
     omega arith)
 
 -- what errors flip is what those of a class do and the others
-flips-classes : (rows : List (List ℕ)) (f : ℕ → ℕ) (k i : ℕ) (xs : List ℕ) → flips rows xs i ≡ flips rows (with_class f k xs) i ⊕ flips rows (without_class f k xs) i
+flips-classes : (rows : List (List ℕ)) (f : ℕ → ℕ) (k i : ℕ) (xs : List ℕ) → flipped_by_rows rows xs i ≡ flipped_by_rows rows (with_class f k xs) i ⊕ flipped_by_rows rows (without_class f k xs) i
 flips-classes rows f k i [] = refl
 flips-classes rows f k i (x ∷ xs) =
     by-bit (f x == k)
     (λ e.
     ap (λ b. odd i (row rows x) ⊕ b) (flips-classes rows f k i xs)
-    ∙ sym (parity-assoc (odd i (row rows x)) (flips rows (with_class f k xs) i) (flips rows (without_class f k xs) i))
-    ∙ ap (λ ys. flips rows ys i ⊕ flips rows (without_class f k xs) i) (sym (with-here f k x xs e))
-    ∙ ap (λ ys. flips rows (with_class f k (x ∷ xs)) i ⊕ flips rows ys i) (sym (without-here f k x xs e)))
+    ∙ sym (parity-assoc (odd i (row rows x)) (flipped_by_rows rows (with_class f k xs) i) (flipped_by_rows rows (without_class f k xs) i))
+    ∙ ap (λ ys. flipped_by_rows rows ys i ⊕ flipped_by_rows rows (without_class f k xs) i) (sym (with-here f k x xs e))
+    ∙ ap (λ ys. flipped_by_rows rows (with_class f k (x ∷ xs)) i ⊕ flipped_by_rows rows ys i) (sym (without-here f k x xs e)))
     (λ e.
     ap (λ b. odd i (row rows x) ⊕ b) (flips-classes rows f k i xs)
-    ∙ cross (odd i (row rows x)) (flips rows (with_class f k xs) i) (flips rows (without_class f k xs) i)
-    ∙ ap (λ ys. flips rows ys i ⊕ (odd i (row rows x) ⊕ flips rows (without_class f k xs) i)) (sym (with-there f k x xs e))
-    ∙ ap (λ ys. flips rows (with_class f k (x ∷ xs)) i ⊕ flips rows ys i) (sym (without-there f k x xs e)))
+    ∙ cross (odd i (row rows x)) (flipped_by_rows rows (with_class f k xs) i) (flipped_by_rows rows (without_class f k xs) i)
+    ∙ ap (λ ys. flipped_by_rows rows ys i ⊕ (odd i (row rows x) ⊕ flipped_by_rows rows (without_class f k xs) i)) (sym (with-there f k x xs e))
+    ∙ ap (λ ys. flipped_by_rows rows (with_class f k (x ∷ xs)) i ⊕ flipped_by_rows rows ys i) (sym (without-there f k x xs e)))
   where
     cross : (a b c : Bool) → a ⊕ (b ⊕ c) ≡ b ⊕ (a ⊕ c)
     cross a b c = sym (parity-assoc a b c) ∙ ap (λ t. t ⊕ c) (parity-comm a b) ∙ parity-assoc b a c
 
 -- errors of which none flips a number do not flip it together
-flips-none : (rows : List (List ℕ)) (i : ℕ) (xs : List ℕ) → Each (λ r. odd i (row rows r) ≡ false) xs → flips rows xs i ≡ false
+flips-none : (rows : List (List ℕ)) (i : ℕ) (xs : List ℕ) → Each (λ r. odd i (row rows r) ≡ false) xs → flipped_by_rows rows xs i ≡ false
 flips-none rows i [] a = refl
-flips-none rows i (x ∷ xs) a = ap (λ b. b ⊕ flips rows xs i) a.0 ∙ flips-none rows i xs a.1
+flips-none rows i (x ∷ xs) a = ap (λ b. b ⊕ flipped_by_rows rows xs i) a.0 ∙ flips-none rows i xs a.1
 
 -- those of another class, after those of one were left out
 
@@ -133,31 +133,31 @@ length-without_class f k (x ∷ xs) =
     (λ e. let same = ap length (without-there f k x xs e) in let later = length-without_class f k xs in omega arith)
 
 -- what errors flip together, those of some class flip
-some-class : (rows : List (List ℕ)) (f : ℕ → ℕ) (i n : ℕ) (xs : List ℕ) → length xs ≤ n → flips rows xs i ≡ true → (k : ℕ) × (flips rows (with_class f k xs) i ≡ true)
+some-class : (rows : List (List ℕ)) (f : ℕ → ℕ) (i n : ℕ) (xs : List ℕ) → length xs ≤ n → flipped_by_rows rows xs i ≡ true → (k : ℕ) × (flipped_by_rows rows (with_class f k xs) i ≡ true)
 some-class rows f i n [] le e = absurd (false≢true e)
 some-class rows f i zero (x ∷ xs) le e = absurd (omega arith)
 some-class rows f i (suc n) (x ∷ xs) le e =
-    by-bit (flips rows (with_class f (f x) (x ∷ xs)) i)
+    by-bit (flipped_by_rows rows (with_class f (f x) (x ∷ xs)) i)
     (λ here. (f x, here))
     (λ not.
     let k = f x in
     let here : (f x == f x) ≡ true = eq-eqb (f x) (f x) refl in
     let shorter = length-without_class f k xs in
-    let rest : flips rows (without_class f k (x ∷ xs)) i ≡ true =
-    sym (ap (λ b. b ⊕ flips rows (without_class f k (x ∷ xs)) i) not) ∙ sym (flips-classes rows f k i (x ∷ xs)) ∙ e in
-    let later = some-class rows f i n (without_class f k xs) (omega arith) (ap (λ ys. flips rows ys i) (sym (without-here f k x xs here)) ∙ rest) in
+    let rest : flipped_by_rows rows (without_class f k (x ∷ xs)) i ≡ true =
+    sym (ap (λ b. b ⊕ flipped_by_rows rows (without_class f k (x ∷ xs)) i) not) ∙ sym (flips-classes rows f k i (x ∷ xs)) ∙ e in
+    let later = some-class rows f i n (without_class f k xs) (omega arith) (ap (λ ys. flipped_by_rows rows ys i) (sym (without-here f k x xs here)) ∙ rest) in
     found k later.0 later.1 here)
   where
-    found : (k j : ℕ) → flips rows (with_class f j (without_class f k xs)) i ≡ true → (f x == k) ≡ true → (m : ℕ) × (flips rows (with_class f m (x ∷ xs)) i ≡ true)
-    found k j is here = by_place (cases_eq j k)
+    found : (k j : ℕ) → flipped_by_rows rows (with_class f j (without_class f k xs)) i ≡ true → (f x == k) ≡ true → (m : ℕ) × (flipped_by_rows rows (with_class f m (x ∷ xs)) i ≡ true)
+    found k j is here = by_position (cases_eq j k)
       where
-        by_place : (j ≡ k) ⊎ (j ≡ k → ⊥) → (m : ℕ) × (flips rows (with_class f m (x ∷ xs)) i ≡ true)
-        by_place (inl same) =
+        by_position : (j ≡ k) ⊎ (j ≡ k → ⊥) → (m : ℕ) × (flipped_by_rows rows (with_class f m (x ∷ xs)) i ≡ true)
+        by_position (inl same) =
             absurd
             (false≢true
-            (sym (ap (λ ys. flips rows ys i) (ap (λ m. with_class f m (without_class f k xs)) same ∙ with-without_same f k xs)) ∙ is))
-        by_place (inr other) =
-            (j, ap (λ ys. flips rows ys i) (with-there f j x xs (ne_eqb (f x) j (λ same. other (sym same ∙ eqb-true (f x) k here))) ∙ sym (with-without f k j xs other)) ∙ is)
+            (sym (ap (λ ys. flipped_by_rows rows ys i) (ap (λ m. with_class f m (without_class f k xs)) same ∙ with-without_same f k xs)) ∙ is))
+        by_position (inr other) =
+            (j, ap (λ ys. flipped_by_rows rows ys i) (with-there f j x xs (ne_eqb (f x) j (λ same. other (sym same ∙ eqb-true (f x) k here))) ∙ sym (with-without f k j xs other)) ∙ is)
 
 -- The law of classes.
 
@@ -175,11 +175,11 @@ module _ (t kept : ErrorTable) (classes : List ℕ) (detectors : kept.detectors 
   parts-inside [] a = tt
   parts-inside (x ∷ xs) a = each-append (λ r. r < length kept.rows) (split x a.0).0 (all_parts xs a.1) (split x a.0).1.inside (parts-inside xs a.1)
 
-  parts-flip : (xs : List ℕ) (a : Each (λ r. r < length t.rows) xs) (i : ℕ) → Counts classes kept.detectors i → flips kept.rows (all_parts xs a) i ≡ flips t.rows xs i
+  parts-flip : (xs : List ℕ) (a : Each (λ r. r < length t.rows) xs) (i : ℕ) → Counts classes kept.detectors i → flipped_by_rows kept.rows (all_parts xs a) i ≡ flipped_by_rows t.rows xs i
   parts-flip [] a i counts = refl
   parts-flip (x ∷ xs) a i counts =
       flips-append kept.rows (split x a.0).0 (all_parts xs a.1) i
-      ∙ ap (λ b. b ⊕ flips kept.rows (all_parts xs a.1) i) ((split x a.0).1.same i counts)
+      ∙ ap (λ b. b ⊕ flipped_by_rows kept.rows (all_parts xs a.1) i) ((split x a.0).1.same i counts)
       ∙ ap (λ b. odd i (row t.rows x) ⊕ b) (parts-flip xs a.1 i counts)
 
   -- no more of one class than errors
@@ -210,11 +210,11 @@ module _ (t kept : ErrorTable) (classes : List ℕ) (detectors : kept.detectors 
     parts = all_parts errors a
 
     -- the parts of a class flip no detector
-    class-undetected : (k d : ℕ) → d < kept.detectors → flips kept.rows (with_class class k parts) d ≡ false
+    class-undetected : (k d : ℕ) → d < kept.detectors → flipped_by_rows kept.rows (with_class class k parts) d ≡ false
     class-undetected k d lt = by_class (cases_eq (slice_index classes d) 0) (cases_eq k (slice_index classes d))
       where
         by_class : (slice_index classes d ≡ 0) ⊎ (slice_index classes d ≡ 0 → ⊥) → (k ≡ slice_index classes d) ⊎ (k ≡ slice_index classes d → ⊥)
-            → flips kept.rows (with_class class k parts) d ≡ false
+            → flipped_by_rows kept.rows (with_class class k parts) d ≡ false
         by_class (inl none) here =
             flips-none kept.rows d (with_class class k parts)
             (each-none (λ r. (r < length kept.rows) × (class r ≡ k)) d (with_class class k parts) (λ r p. ignored d r lt p.0 none)
@@ -224,12 +224,12 @@ module _ (t kept : ErrorTable) (classes : List ℕ) (detectors : kept.detectors 
             (each-none (λ r. (r < length kept.rows) × (class r ≡ k)) d (with_class class k parts) (λ r p. distinct d r lt p.0 (λ same. other (sym p.1 ∙ same)))
             (each-with class k (λ r. r < length kept.rows) parts (parts-inside errors a)))
         by_class (inr counts) (inl same) =
-            let others : flips kept.rows (without_class class k parts) d ≡ false =
+            let others : flipped_by_rows kept.rows (without_class class k parts) d ≡ false =
             flips-none kept.rows d (without_class class k parts)
             (each-none (λ r. (r < length kept.rows) × (class r ≢ k)) d (without_class class k parts) (λ r p. distinct d r lt p.0 (λ is. p.1 (is ∙ sym same)))
             (each-without_class class k (λ r. r < length kept.rows) parts (parts-inside errors a))) in
-            sym (parity-false (flips kept.rows (with_class class k parts) d))
-            ∙ ap (λ b. flips kept.rows (with_class class k parts) d ⊕ b) (sym others)
+            sym (parity-false (flipped_by_rows kept.rows (with_class class k parts) d))
+            ∙ ap (λ b. flipped_by_rows kept.rows (with_class class k parts) d ⊕ b) (sym others)
             ∙ sym (flips-classes kept.rows class k d parts)
             ∙ parts-flip errors a d (inr counts)
             ∙ logical.undetected d (subst (λ n. d < n) detectors lt)
@@ -268,24 +268,24 @@ module _ (t kept : ErrorTable) (classes : List ℕ) (detectors : kept.detectors 
 -- each number of a list has a class
 pub of-class : (classes : List ℕ) (detectors : ℕ) (is : List ℕ) (k : ℕ)
     → ((j : ℕ) → j < length is → get_or is j 0 < detectors → (slice_index classes (get_or is j 0) ≡ k) × (k ≢ 0)) → AreOfClass classes detectors is k
-of-class classes detectors is k each d lt flips =
-    let place = has-at d is (has-odd d is flips) in
-    subst (λ e. (slice_index classes e ≡ k) × (k ≢ 0)) place.1.1 (each place.0 place.1.0 (subst (λ e. e < detectors) (sym place.1.1) lt))
+of-class classes detectors is k each d lt flipped_by_rows =
+    let position = has-at d is (has-odd d is flipped_by_rows) in
+    subst (λ e. (slice_index classes e ≡ k) × (k ≢ 0)) position.1.1 (each position.0 position.1.0 (subst (λ e. e < detectors) (sym position.1.1) lt))
 
 -- each number of a list is ignored
 pub none-counting : (classes : List ℕ) (detectors : ℕ) (is : List ℕ)
     → ((j : ℕ) → j < length is → (get_or is j 0 < detectors) × (slice_index classes (get_or is j 0) ≡ 0)) → (i : ℕ) → Counts classes detectors i → odd i is ≡ false
-none-counting classes detectors is each i counts = by-bit (odd i is) (λ flips. absurd (both flips counts)) (λ not. not)
+none-counting classes detectors is each i counts = by-bit (odd i is) (λ flipped_by_rows. absurd (both flipped_by_rows counts)) (λ not. not)
   where
     both : odd i is ≡ true → Counts classes detectors i → ⊥
-    both flips counts =
-        let place = has-at i is (has-odd i is flips) in
-        let here = subst (λ e. (e < detectors) × (slice_index classes e ≡ 0)) place.1.1 (each place.0 place.1.0) in
-        by_place here counts
+    both flipped_by_rows counts =
+        let position = has-at i is (has-odd i is flipped_by_rows) in
+        let here = subst (λ e. (e < detectors) × (slice_index classes e ≡ 0)) position.1.1 (each position.0 position.1.0) in
+        by_position here counts
       where
-        by_place : (i < detectors) × (slice_index classes i ≡ 0) → (detectors ≤ i) ⊎ (slice_index classes i ≢ 0) → ⊥
-        by_place here (inl le) = let lt = here.0 in omega arith
-        by_place here (inr not) = not here.1
+        by_position : (i < detectors) × (slice_index classes i ≡ 0) → (detectors ≤ i) ⊎ (slice_index classes i ≢ 0) → ⊥
+        by_position here (inl le) = let lt = here.0 in omega arith
+        by_position here (inr not) = not here.1
 
 -- classes of errors that go on ascending
 pub distinct-next : (f : ℕ → ℕ) (xs : List ℕ) (k from : ℕ) → k < length xs → from ≤ f (get_or xs k 0) → AscendsFrom (f (get_or xs k 0) + 1) (map f (drop (k + 1) xs))

@@ -1,5 +1,5 @@
 -- Counts: as many sets as ways, if each row has weight 1.
-use Rattle.stab_search.proofs.Names.{◌≡◌, ℕ, zero, suc, ◌+◌, ◌*◌, ◌-◌, ◌≤◌, ◌<◌, ◌⊎◌, inl, inr, refl, sym, ◌∙◌, ap, subst, arith, Bool, List, [], ◌∷◌, ◌++◌, length, length-map, map, drop, nat_lt, cases_lt, lt-ltb, le-ltb, if◌then◌else◌, ◌⊕◌, parity-comm, parity-assoc, parity-twice, AscendsFrom, IsAscending, ErrorTable, odd, flips, Each, Completes, ways, ones, IsLogicalSetOf, AreAsMany, IsCount, HasNoneBelow, HasNoneWithin, HasBound, HasNoFewer, AreGroups, Reports, Option, Some, None}
+use Rattle.stab_search.proofs.Names.{◌≡◌, ℕ, zero, suc, ◌+◌, ◌*◌, ◌-◌, ◌≤◌, ◌<◌, ◌⊎◌, inl, inr, refl, sym, ◌∙◌, ap, subst, arith, Bool, List, [], ◌∷◌, ◌++◌, length, length-map, map, drop, nat_lt, cases_lt, lt-ltb, le-ltb, if◌then◌else◌, ◌⊕◌, parity-comm, parity-assoc, parity-twice, AscendsFrom, IsAscending, ErrorTable, odd, flipped_by_rows, Each, Completes, ways, ones, IsLogicalSetOf, AreAsMany, IsCount, HasNoneBelow, HasNoneWithin, HasBound, HasNoFewer, AreGroups, Reports, Option, Some, None}
 use Rattle.stab_search.proofs.ChoiceLemmas.{completes-logical, logical-completes}
 use Rattle.stab_search.proofs.DistinctLemmas.{bound-whole}
 use Rattle.stab_search.proofs.EndLemmas.{completes-nothing}
@@ -86,15 +86,15 @@ module _ (detectors : ℕ) (r : List ℕ) (rows : List (List ℕ)) (s es : List 
   take-completes c = record {
     inside = inside-down es c.inside.1;
     undetected = λ d lt.
-        sym (parity-twice (odd d r) (flips rows es d))
+        sym (parity-twice (odd d r) (flipped_by_rows rows es d))
         ∙ ap (λ b. odd d r ⊕ b) (ap (λ b. odd d r ⊕ b) (sym (flips-shift r rows es d)) ∙ c.undetected d lt)
         ∙ sym (odd-append d r s);
     observed = let o = c.observed.0 in (
       o,
       c.observed.1,
-      ap (λ b. flips rows es o ⊕ b) (odd-append o r s)
-          ∙ sym (parity-assoc (flips rows es o) (odd o r) (odd o s))
-          ∙ ap (λ b. b ⊕ odd o s) (parity-comm (flips rows es o) (odd o r))
+      ap (λ b. flipped_by_rows rows es o ⊕ b) (odd-append o r s)
+          ∙ sym (parity-assoc (flipped_by_rows rows es o) (odd o r) (odd o s))
+          ∙ ap (λ b. b ⊕ odd o s) (parity-comm (flipped_by_rows rows es o) (odd o r))
           ∙ ap (λ b. (odd o r ⊕ b) ⊕ odd o s) (sym (flips-shift r rows es o))
           ∙ c.observed.2,
     );
@@ -139,13 +139,13 @@ module _ (detectors : ℕ) (r : List ℕ) (rows : List (List ℕ)) (left : ℕ) 
       ]
 
   chosen-distinct : (j k : ℕ) → j < a + b → k < a + b → chosen j ≡ chosen k → j ≡ k
-  chosen-distinct j k lj lk e = by_places (cases_lt j a) (cases_lt k a)
+  chosen-distinct j k lj lk e = by_positions (cases_lt j a) (cases_lt k a)
     where
-      by_places : (j < a) ⊎ (a ≤ j) → (k < a) ⊎ (a ≤ k) → j ≡ k
-      by_places (inl x) (inl y) = skipped.distinct j k x y (up-same (skipped.set j) (skipped.set k) (sym (is-before j x) ∙ e ∙ is-before k y))
-      by_places (inl x) (inr y) = absurd (not-first (skipped.set j) (map suc (taken.set (k - a))) (sym (is-before j x) ∙ e ∙ is-after k y))
-      by_places (inr x) (inl y) = absurd (not-first (skipped.set k) (map suc (taken.set (j - a))) (sym (is-before k y) ∙ sym e ∙ is-after j x))
-      by_places (inr x) (inr y) =
+      by_positions : (j < a) ⊎ (a ≤ j) → (k < a) ⊎ (a ≤ k) → j ≡ k
+      by_positions (inl x) (inl y) = skipped.distinct j k x y (up-same (skipped.set j) (skipped.set k) (sym (is-before j x) ∙ e ∙ is-before k y))
+      by_positions (inl x) (inr y) = absurd (not-first (skipped.set j) (map suc (taken.set (k - a))) (sym (is-before j x) ∙ e ∙ is-after k y))
+      by_positions (inr x) (inl y) = absurd (not-first (skipped.set k) (map suc (taken.set (j - a))) (sym (is-before k y) ∙ sym e ∙ is-after j x))
+      by_positions (inr x) (inr y) =
           let same = taken.distinct (j - a) (k - a) (omega arith) (omega arith)
           (up-same (taken.set (j - a)) (taken.set (k - a)) (rest-same 0 (map suc (taken.set (j - a))) (map suc (taken.set (k - a))) (sym (is-after j x) ∙ e ∙ is-after k y))) in
           omega arith

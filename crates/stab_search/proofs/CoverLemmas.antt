@@ -1,5 +1,5 @@
 -- Covers: of some errors that flip N detectors back, one flips at least N over their number.
-use Rattle.stab_search.proofs.Names.{◌≡◌, ℕ, ◌+◌, ◌-◌, ◌*◌, ◌≤◌, ◌<◌, inl, inr, refl, sym, ◌∙◌, ap, subst, arith, true, false, ◌||◌, List, [], ◌∷◌, length, get_or, cases_lt, false≢true, if◌then◌else◌, ◌==◌, eqb-true, ErrorTable, odd, row, flips, Each, has, Vec, shares, MayBe, Ends, Meet}
+use Rattle.stab_search.proofs.Names.{◌≡◌, ℕ, ◌+◌, ◌-◌, ◌*◌, ◌≤◌, ◌<◌, inl, inr, refl, sym, ◌∙◌, ap, subst, arith, true, false, ◌||◌, List, [], ◌∷◌, length, get_or, cases_lt, false≢true, if◌then◌else◌, ◌==◌, eqb-true, ErrorTable, odd, row, flipped_by_rows, Each, has, Vec, shares, MayBe, Ends, Meet}
 use Rattle.stab_search.proofs.FlipLemmas.{namer}
 use Rattle.stab_search.proofs.ListLemmas.{by-bit, each-has, has-here, has-there, has-at}
 
@@ -18,20 +18,20 @@ shares-more rows [] d ds = refl
 shares-more rows (e ∷ es) d ds = let later = shares-more rows es d ds in omega arith
 
 one-of : (rows : List (List ℕ)) (d g : ℕ) (es : List ℕ) → has g es ≡ true → odd d (row rows g) ≡ true → 1 ≤ ones rows d es
-one-of rows d g [] e flips = absurd (false≢true e)
-one-of rows d g (x ∷ xs) e flips =
+one-of rows d g [] e flipped_by_rows = absurd (false≢true e)
+one-of rows d g (x ∷ xs) e flipped_by_rows =
     by-bit (odd d (row rows x))
     (λ here. let is = ap (λ b. (if b then 1 else 0) + ones rows d xs) here in omega arith)
-    (λ not. let later = one-of rows d g xs (rest not) flips in omega arith)
+    (λ not. let later = one-of rows d g xs (rest not) flipped_by_rows in omega arith)
   where
     rest : odd d (row rows x) ≡ false → has g xs ≡ true
     rest not =
         by-bit (x == g)
-        (λ same. absurd (false≢true (sym not ∙ subst (λ k. odd d (row rows k) ≡ true) (sym (eqb-true x g same)) flips)))
+        (λ same. absurd (false≢true (sym not ∙ subst (λ k. odd d (row rows k) ≡ true) (sym (eqb-true x g same)) flipped_by_rows)))
         (λ other. ap (λ b. b || has g xs) (sym other) ∙ e)
 
 -- errors that flip each of some detectors flip as many at least
-pub no-fewer : (t : ErrorTable) (es ds : List ℕ) → Each (λ d. flips t.rows es d ≡ true) ds → length ds ≤ all-shares t.rows es ds
+pub no-fewer : (t : ErrorTable) (es ds : List ℕ) → Each (λ d. flipped_by_rows t.rows es d ≡ true) ds → length ds ≤ all-shares t.rows es ds
 no-fewer t es [] a = omega arith
 no-fewer t es (d ∷ ds) a =
     let later = no-fewer t es ds a.1 in
@@ -61,13 +61,13 @@ some-shared rows e (d ∷ ds) lt =
     (later.0, (has-there later.0 d ds later.1.0, later.1.1)))
 
 pub shared : (rows : List (List ℕ)) (e d : ℕ) (ds : List ℕ) → has d ds ≡ true → odd d (row rows e) ≡ true → 0 < shares rows e ds
-shared rows e d [] e' flips = absurd (false≢true e')
-shared rows e d (x ∷ xs) there flips =
+shared rows e d [] e' flipped_by_rows = absurd (false≢true e')
+shared rows e d (x ∷ xs) there flipped_by_rows =
     by-bit (x == d)
     (λ same.
-    let is = ap (λ b. (if b then 1 else 0) + shares rows e xs) (subst (λ k. odd k (row rows e) ≡ true) (sym (eqb-true x d same)) flips) in
+    let is = ap (λ b. (if b then 1 else 0) + shares rows e xs) (subst (λ k. odd k (row rows e) ≡ true) (sym (eqb-true x d same)) flipped_by_rows) in
     omega arith)
-    (λ other. let later = shared rows e d xs (ap (λ b. b || has d xs) (sym other) ∙ there) flips in omega arith)
+    (λ other. let later = shared rows e d xs (ap (λ b. b || has d xs) (sym other) ∙ there) flipped_by_rows in omega arith)
 
 -- an error of a set that may be tried
 may-be : (t : ErrorTable) (pairs : List (Vec ℕ)) (first : ℕ) (path flipped rest : List ℕ) (e : ℕ) → Ends t pairs first path flipped rest → has e rest ≡ true
@@ -79,18 +79,18 @@ may-be t pairs first path flipped rest e ends there = record {
 }
 
 -- a member of a list that is among others is at some place there
-at-place : (rest at : List ℕ) (e : ℕ) → has e at ≡ true → has e rest ≡ true → (k : ℕ) × ((k < length at) × (has (get_or at k 0) rest ≡ true))
-at-place rest at e there in_rest =
-    let place = has-at e at there in
-    (place.0, (place.1.0, subst (λ r. has r rest ≡ true) (sym place.1.1) in_rest))
+at-position : (rest at : List ℕ) (e : ℕ) → has e at ≡ true → has e rest ≡ true → (k : ℕ) × ((k < length at) × (has (get_or at k 0) rest ≡ true))
+at-position rest at e there in_rest =
+    let position = has-at e at there in
+    (position.0, (position.1.0, subst (λ r. has r rest ≡ true) (sym position.1.1) in_rest))
 
 module _ (t : ErrorTable) (pairs : List (Vec ℕ)) (first : ℕ) (path flipped ds : List ℕ) (inside : Each (λ d. d < t.detectors) ds)
     (are_flipped : Each (λ d. odd d flipped ≡ true) ds) (left : ℕ) where
   -- each set flips all the detectors
-  flip-each : (rest : List ℕ) → Ends t pairs first path flipped rest → Each (λ d. flips t.rows rest d ≡ true) ds
+  flip-each : (rest : List ℕ) → Ends t pairs first path flipped rest → Each (λ d. flipped_by_rows t.rows rest d ≡ true) ds
   flip-each rest ends = both ds inside are_flipped
     where
-      both : (xs : List ℕ) → Each (λ d. d < t.detectors) xs → Each (λ d. odd d flipped ≡ true) xs → Each (λ d. flips t.rows rest d ≡ true) xs
+      both : (xs : List ℕ) → Each (λ d. d < t.detectors) xs → Each (λ d. odd d flipped ≡ true) xs → Each (λ d. flipped_by_rows t.rows rest d ≡ true) xs
       both [] a b = tt
       both (x ∷ xs) a b = (ends.completes.undetected x a.0 ∙ b.0, both xs a.1 b.1)
 
@@ -98,8 +98,8 @@ module _ (t : ErrorTable) (pairs : List (Vec ℕ)) (first : ℕ) (path flipped d
   pub meet-rarest : (d : ℕ) (at : List ℕ) → has d ds ≡ true
       → ((e : ℕ) → e < length t.rows → MayBe pairs first path e → odd d (row t.rows e) ≡ true → has e at ≡ true) → Meet t pairs first path flipped left at
   meet-rarest d at among all rest ends count =
-      let one = namer t.rows rest d (each-has (λ k. flips t.rows rest k ≡ true) d ds (flip-each rest ends) among) in
-      at-place rest at one.0
+      let one = namer t.rows rest d (each-has (λ k. flipped_by_rows t.rows rest k ≡ true) d ds (flip-each rest ends) among) in
+      at-position rest at one.0
       (all one.0 (each-has (λ r. r < length t.rows) one.0 rest ends.completes.inside one.1.0) (may-be t pairs first path flipped rest one.0 ends one.1.0) one.1.1)
       one.1.0
 
@@ -113,7 +113,7 @@ module _ (t : ErrorTable) (pairs : List (Vec ℕ)) (first : ℕ) (path flipped d
       let one = above t.rows rest ds (least - 1) (omega arith) in
       let many = one.1.1 in
       let shared = some-shared t.rows one.0 ds (omega arith) in
-      at-place rest at one.0
+      at-position rest at one.0
       (all one.0 shared.0 (each-has (λ r. r < length t.rows) one.0 rest ends.completes.inside one.1.0)
       (may-be t pairs first path flipped rest one.0 ends one.1.0) (omega arith) shared.1.0 shared.1.1)
       one.1.0

@@ -1,5 +1,5 @@
 -- Distinct rows: what holds of them holds of the table.
-use Rattle.stab_search.proofs.Names.{◌≡◌, ℕ, suc, ◌<◌, refl, sym, ◌∙◌, ap, subst, arith, List, [], ◌∷◌, length, ◌⊕◌, ErrorTable, odd, row, flips, IsLogicalError, HasNone, Each, AreRowsOf, HasRow, HasBound, AreEnough}
+use Rattle.stab_search.proofs.Names.{◌≡◌, ℕ, suc, ◌<◌, refl, sym, ◌∙◌, ap, subst, arith, List, [], ◌∷◌, length, ◌⊕◌, ErrorTable, odd, row, flipped_by_rows, IsLogicalError, HasNone, Each, AreRowsOf, HasRow, HasBound, AreEnough}
 use Rattle.stab_search.proofs.ListLemmas.{each-all, all-each}
 
 module _ (detectors : ℕ) (rows chosen : List (List ℕ)) (all : (r : ℕ) → r < length rows → HasRow chosen (row rows r)) where
@@ -18,11 +18,11 @@ module _ (detectors : ℕ) (rows chosen : List (List ℕ)) (all : (r : ℕ) → 
   reps-inside [] a = tt
   reps-inside (x ∷ xs) a = ((all x a.0).1, reps-inside xs a.1)
 
-  reps-flips : (xs : List ℕ) (a : Each (λ r. r < length rows) xs) (i : ℕ) → flips chosen (reps xs a) i ≡ flips rows xs i
+  reps-flips : (xs : List ℕ) (a : Each (λ r. r < length rows) xs) (i : ℕ) → flipped_by_rows chosen (reps xs a) i ≡ flipped_by_rows rows xs i
   reps-flips [] a i = refl
   reps-flips (x ∷ xs) a i =
       ap (λ b. odd i (row chosen (all x a.0).0) ⊕ b) (reps-flips xs a.1 i)
-      ∙ ap (λ (ys : List ℕ). odd i ys ⊕ flips rows xs i) (all x a.0).2
+      ∙ ap (λ (ys : List ℕ). odd i ys ⊕ flipped_by_rows rows xs i) (all x a.0).2
 
   reps-length : (xs : List ℕ) (a : Each (λ r. r < length rows) xs) → length (reps xs a) ≡ length xs
   reps-length [] a = refl

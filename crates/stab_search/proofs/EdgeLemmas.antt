@@ -58,19 +58,19 @@ not-graphlike detectors (x ∷ y ∷ z ∷ rest) a more less graphlike =
     flips d there = sym (named-ascending (x ∷ y ∷ z ∷ rest) d a) ∙ there
 
 third-beyond : (detectors : ℕ) (is : List ℕ) → IsAscending is → IsGraphlike detectors is → ThirdBeyond detectors is
-third-beyond detectors is a graphlike more = by_place (cases_lt (get_or is 2 0) detectors)
+third-beyond detectors is a graphlike more = by_position (cases_lt (get_or is 2 0) detectors)
   where
-    by_place : (get_or is 2 0 < detectors) ⊎ (detectors ≤ get_or is 2 0) → detectors ≤ get_or is 2 0
-    by_place (inl less) = absurd (not-graphlike detectors is a more less graphlike)
-    by_place (inr le) = le
+    by_position : (get_or is 2 0 < detectors) ⊎ (detectors ≤ get_or is 2 0) → detectors ≤ get_or is 2 0
+    by_position (inl less) = absurd (not-graphlike detectors is a more less graphlike)
+    by_position (inr le) = le
 
 -- the node of a number is that number, if it is a detector
 node-same : (x detectors d : ℕ) → d < detectors → (min x detectors == d) ≡ (x == d)
-node-same x detectors d lt = by_place (cases_eq x d)
+node-same x detectors d lt = by_position (cases_eq x d)
   where
-    by_place : (x ≡ d) ⊎ (x ≡ d → ⊥) → (min x detectors == d) ≡ (x == d)
-    by_place (inl same) = eq-eqb (min x detectors) d (omega arith) ∙ sym (eq-eqb x d same)
-    by_place (inr other) = ne_eqb (min x detectors) d (λ e. other (omega arith)) ∙ sym (ne_eqb x d other)
+    by_position : (x ≡ d) ⊎ (x ≡ d → ⊥) → (min x detectors == d) ≡ (x == d)
+    by_position (inl same) = eq-eqb (min x detectors) d (omega arith) ∙ sym (eq-eqb x d same)
+    by_position (inr other) = ne_eqb (min x detectors) d (λ e. other (omega arith)) ∙ sym (ne_eqb x d other)
 
 no-node : (detectors d : ℕ) → d < detectors → (min detectors detectors == d) ≡ false
 no-node detectors d lt = node-same detectors detectors d lt ∙ ne_eqb detectors d (λ e. omega arith)

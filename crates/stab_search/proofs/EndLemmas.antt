@@ -1,5 +1,5 @@
 -- Ends: an error is tried, or none is left to try.
-use Rattle.stab_search.proofs.Names.{◌≡◌, ℕ, ◌+◌, ◌≤◌, ◌<◌, refl, sym, ◌∙◌, ap, subst, arith, Bool, true, false, ◌||◌, List, [], ◌∷◌, ◌++◌, length, get_or, bit_xor, ne_eqb, ◌==◌, eq-eqb, eqb-true, false≢true, length-append, list_any-append, ◌⊕◌, parity-comm, parity-assoc, parity-false, parity-self, parity-twice, AscendsFrom, IsAscending, ErrorTable, odd, row, flips, HasNoneWithin, has, listed, Vec, key_of, Completes, MayFollow, EndsWithin, NoEnds, NoEndsBy, Meet}
+use Rattle.stab_search.proofs.Names.{◌≡◌, ℕ, ◌+◌, ◌≤◌, ◌<◌, refl, sym, ◌∙◌, ap, subst, arith, Bool, true, false, ◌||◌, List, [], ◌∷◌, ◌++◌, length, get_or, bit_xor, ne_eqb, ◌==◌, eq-eqb, eqb-true, false≢true, length-append, list_any-append, ◌⊕◌, parity-comm, parity-assoc, parity-false, parity-self, parity-twice, AscendsFrom, IsAscending, ErrorTable, odd, row, flipped_by_rows, HasNoneWithin, has, listed, Vec, key_of, Completes, MayFollow, EndsWithin, NoEnds, NoEndsBy, Meet}
 use Rattle.stab_search.proofs.AscendingLemmas.{odd-below, named-ascending}
 use Rattle.stab_search.proofs.FlipLemmas.{flips-push, flips-without, key-same, key-sum}
 use Rattle.stab_search.proofs.Totals.{odd-append}
@@ -95,8 +95,8 @@ module _ (t : ErrorTable) (flipped next : List ℕ) (g : ℕ) (rest : List ℕ)
       o,
       e.observed.1,
       ap (λ b. b ⊕ odd o flipped) (flips-push t.rows rest g o)
-          ∙ parity-assoc (flips t.rows rest o) (odd o (row t.rows g)) (odd o flipped)
-          ∙ ap (λ b. flips t.rows rest o ⊕ b) (parity-comm (odd o (row t.rows g)) (odd o flipped) ∙ sym (merged o))
+          ∙ parity-assoc (flipped_by_rows t.rows rest o) (odd o (row t.rows g)) (odd o flipped)
+          ∙ ap (λ b. flipped_by_rows t.rows rest o ⊕ b) (parity-comm (odd o (row t.rows g)) (odd o flipped) ∙ sym (merged o))
           ∙ e.observed.2,
     );
   }
@@ -105,14 +105,14 @@ module _ (t : ErrorTable) (flipped next : List ℕ) (g : ℕ) (rest : List ℕ)
   completes-without there e = record {
     inside = each-without (λ r. r < length t.rows) g rest e.inside;
     undetected = λ d l.
-        parity-move (odd d (row t.rows g)) (flips t.rows (without g rest) d) (odd d flipped) (sym (flips-without t.rows g rest d there) ∙ e.undetected d l)
+        parity-move (odd d (row t.rows g)) (flipped_by_rows t.rows (without g rest) d) (odd d flipped) (sym (flips-without t.rows g rest d there) ∙ e.undetected d l)
         ∙ sym (merged d);
     observed = let o = e.observed.0 in (
       o,
       e.observed.1,
-      ap (λ b. flips t.rows (without g rest) o ⊕ b) (merged o ∙ parity-comm (odd o flipped) (odd o (row t.rows g)))
-          ∙ sym (parity-assoc (flips t.rows (without g rest) o) (odd o (row t.rows g)) (odd o flipped))
-          ∙ ap (λ b. b ⊕ odd o flipped) (parity-comm (flips t.rows (without g rest) o) (odd o (row t.rows g)) ∙ sym (flips-without t.rows g rest o there))
+      ap (λ b. flipped_by_rows t.rows (without g rest) o ⊕ b) (merged o ∙ parity-comm (odd o flipped) (odd o (row t.rows g)))
+          ∙ sym (parity-assoc (flipped_by_rows t.rows (without g rest) o) (odd o (row t.rows g)) (odd o flipped))
+          ∙ ap (λ b. b ⊕ odd o flipped) (parity-comm (flipped_by_rows t.rows (without g rest) o) (odd o (row t.rows g)) ∙ sym (flips-without t.rows g rest o there))
           ∙ e.observed.2,
     );
   }
@@ -129,7 +129,7 @@ no_ends-nothing t pairs first path flipped left none nothing rest ends count =
       observed = let o = e.observed.0 in (
         o,
         e.observed.1,
-        sym (parity-false (flips t.rows rest o)) ∙ ap (λ b. flips t.rows rest o ⊕ b) (sym (ap (odd o) nothing)) ∙ e.observed.2,
+        sym (parity-false (flipped_by_rows t.rows rest o)) ∙ ap (λ b. flipped_by_rows t.rows rest o ⊕ b) (sym (ap (odd o) nothing)) ∙ e.observed.2,
       );
     }) in
     omega arith
@@ -164,8 +164,8 @@ no_ends-over t pairs first path flipped left a some lt over (r ∷ rest) ends co
 pub no_ends-met : (t : ErrorTable) (pairs : List (Vec ℕ)) (first : ℕ) (path flipped : List ℕ) (left : ℕ) (at : List ℕ) → Meet t pairs first path flipped left at
     → ((k : ℕ) → k < length at → NoEndsBy t pairs first path flipped left (get_or at k 0)) → NoEnds t pairs first path flipped left
 no_ends-met t pairs first path flipped left at meet tried rest ends count =
-    let place = meet rest ends count in
-    tried place.0 place.1.0 rest ends count place.1.1
+    let position = meet rest ends count in
+    tried position.0 position.1.0 rest ends count position.1.1
 
 -- if one error is left, its key is that of what is flipped
 
@@ -180,9 +180,9 @@ module _ (t : ErrorTable) (numbers : List ℕ) (pairs : List (Vec ℕ)) (first :
       → NoEnds t pairs first path flipped 1
   no_ends-keyed at complete tried [] ends count = absurd (omega arith)
   no_ends-keyed at complete tried (h ∷ []) ends count =
-      let place = has-at h at (complete h ends.completes.inside.0 (key-last h ends.completes)) in
-      tried place.0 place.1.0 (h ∷ []) ends refl
-      (subst (λ r. has r (h ∷ []) ≡ true) (sym place.1.1) (has-here h []))
+      let position = has-at h at (complete h ends.completes.inside.0 (key-last h ends.completes)) in
+      tried position.0 position.1.0 (h ∷ []) ends refl
+      (subst (λ r. has r (h ∷ []) ≡ true) (sym position.1.1) (has-here h []))
   no_ends-keyed at complete tried (h ∷ r ∷ rest) ends count = absurd (omega arith)
 
   -- and with an error g in front of it that of both

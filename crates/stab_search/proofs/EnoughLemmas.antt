@@ -1,18 +1,19 @@
 -- Errors that are enough: what holds of their logical errors holds of the table's.
-use Rattle.stab_search.proofs.Names.{◌≡◌, ℕ, ◌≤◌, ◌<◌, refl, sym, ◌∙◌, ap, subst, arith, List, [], ◌∷◌, length, map, slice_index, ◌⊕◌, ErrorTable, odd, row, flips, IsLogicalError, IsLeast, HasNone, HasSome, HasNoneWithin, Each, AreRowsOf, IsShortest, IsLogicalWithin, IsLogicalSet, IsGathered, HaveClasses, Splits, AreEnough, length-map}
+use Rattle.stab_search.proofs.Names.{◌≡◌, ℕ, ◌≤◌, ◌<◌, refl, sym, ◌∙◌, ap, subst, arith, List, [], ◌∷◌, length, map, slice_index, ◌⊕◌, ErrorTable, odd, row, flipped_by_rows, IsLogicalError, HasNone, HasSome, HasNoneWithin, Each, AreRowsOf, IsLogicalWithin, IsLogicalSet, IsGathered, HaveClasses, Splits, AreEnough, length-map}
 use Rattle.stab_search.proofs.ListLemmas.{each-all, all-each}
 use Rattle.stab_search.proofs.ClassLemmas.{enough-classes}
+use Rattle.stab_search.proofs.ShortestLemmas.{gathered-logical}
 
 module _ (rows chosen : List (List ℕ)) (numbers : List ℕ) (are : AreRowsOf rows chosen numbers) where
   numbers-inside : (xs : List ℕ) → Each (λ k. k < length chosen) xs → Each (λ r. r < length rows) (map (slice_index numbers) xs)
   numbers-inside [] a = tt
   numbers-inside (x ∷ xs) a = ((are.same x a.0).0, numbers-inside xs a.1)
 
-  numbers-flips : (xs : List ℕ) → Each (λ k. k < length chosen) xs → (i : ℕ) → flips rows (map (slice_index numbers) xs) i ≡ flips chosen xs i
+  numbers-flips : (xs : List ℕ) → Each (λ k. k < length chosen) xs → (i : ℕ) → flipped_by_rows rows (map (slice_index numbers) xs) i ≡ flipped_by_rows chosen xs i
   numbers-flips [] a i = refl
   numbers-flips (x ∷ xs) a i =
       ap (λ b. odd i (row rows (slice_index numbers x)) ⊕ b) (numbers-flips xs a.1 i)
-      ∙ ap (λ (ys : List ℕ). odd i ys ⊕ flips chosen xs i) (sym (are.same x a.0).1)
+      ∙ ap (λ (ys : List ℕ). odd i ys ⊕ flipped_by_rows chosen xs i) (sym (are.same x a.0).1)
 
 -- a logical error of errors that are enough is one of the table, by their numbers there
 logical-enough : (t fewer : ErrorTable) (numbers : List ℕ) → AreEnough t fewer numbers → (errors : List ℕ) → IsLogicalError fewer errors
@@ -49,35 +50,13 @@ module _ (t fewer : ErrorTable) (numbers : List ℕ) (is : AreEnough t fewer num
   -- the set of the table's errors that a logical error is
   pub set-enough : (most : ℕ) (found set : List ℕ) → IsLogicalWithin fewer most found → IsGathered (map (slice_index numbers) found) set → IsLogicalSet t most set
   set-enough most found set s g =
-      let logical = logical-enough t fewer numbers is found s.logical in
       let same = length-map found (slice_index numbers) in
       let shorter = g.fewer in
       let within = s.within in
       record {
         ascending = g.ascending;
-        logical = record {
-          inside = all-each (λ r. r < length t.rows) set (g.inside (length t.rows) (each-all (λ r. r < length t.rows) (map (slice_index numbers) found) logical.inside));
-          undetected = λ d lt. g.flips t.rows d ∙ logical.undetected d lt;
-          observed = let o = logical.observed.0 in (o, logical.observed.1, g.flips t.rows o ∙ logical.observed.2);
-        };
+        logical = gathered-logical t (map (slice_index numbers) found) set g (logical-enough t fewer numbers is found s.logical);
         within = omega arith;
-      }
-
-  -- and that of a shortest one
-  pub least-enough : (most : ℕ) (found set : List ℕ) → IsShortest fewer most found → IsGathered (map (slice_index numbers) found) set → IsLeast t most set
-  least-enough most found set s g =
-      let whole = set-enough most found set (record { logical = s.logical; within = s.within }) g in
-      let same = length-map found (slice_index numbers) in
-      let shorter = g.fewer in
-      record {
-        ascending = whole.ascending;
-        logical = whole.logical;
-        within = whole.within;
-        least = λ others e.
-            let other = is.enough others e in
-            let short = s.least other.0 other.1.0 in
-            let few = other.1.1 in
-            omega arith;
       }
 
 -- of errors that are enough, those of one class each are

@@ -1,5 +1,5 @@
 -- The first error of a set, after which a search looks for the others.
-use Rattle.stab_search.proofs.Names.{◌≡◌, ℕ, ◌+◌, ◌≤◌, ◌<◌, sym, ◌∙◌, ap, subst, arith, Bool, true, false, ◌||◌, List, [], ◌∷◌, length, false≢true, ne_eqb, ◌⊕◌, parity-comm, parity-twice, parity-false, AscendsFrom, IsAscending, ErrorTable, odd, row, flips, IsLogicalError, Each, has, Vec, Ends, HasBefore}
+use Rattle.stab_search.proofs.Names.{◌≡◌, ℕ, ◌+◌, ◌≤◌, ◌<◌, sym, ◌∙◌, ap, subst, arith, Bool, true, false, ◌||◌, List, [], ◌∷◌, length, false≢true, ne_eqb, ◌⊕◌, parity-comm, parity-twice, parity-false, AscendsFrom, IsAscending, ErrorTable, odd, row, flipped_by_rows, IsLogicalError, Each, has, Vec, Ends, HasBefore}
 use Rattle.stab_search.proofs.ListLemmas.{each-map, each-all, each-above, each-has, has-here, has-there}
 use Rattle.stab_search.proofs.PairLemmas.{Unpaired, among}
 
@@ -16,8 +16,8 @@ pub first-ends : (t : ErrorTable) (pairs : List (Vec ℕ)) (f : ℕ) (rest : Lis
 first-ends t pairs f rest a e unpaired = record {
   completes = record {
     inside = (each-all (λ r. r < length t.rows) (f ∷ rest) e.inside).1;
-    undetected = λ d lt. parity-even (odd d (row t.rows f)) (flips t.rows rest d) (e.undetected d lt);
-    observed = (e.observed.0, e.observed.1, parity-comm (flips t.rows rest e.observed.0) (odd e.observed.0 (row t.rows f)) ∙ e.observed.2);
+    undetected = λ d lt. parity-even (odd d (row t.rows f)) (flipped_by_rows t.rows rest d) (e.undetected d lt);
+    observed = (e.observed.0, e.observed.1, parity-comm (flipped_by_rows t.rows rest e.observed.0) (odd e.observed.0 (row t.rows f)) ∙ e.observed.2);
   };
   follows = record {
     ascending = ascends-lower 0 (f + 1) rest (omega arith) a.1;

@@ -1,5 +1,5 @@
 -- Graphs: labels that differ by at most 1 along each edge bound the number of errors that flip an observable and no detector.
-use Rattle.stab_search.proofs.Names.{◌≡◌, ℕ, zero, suc, ◌+◌, ◌≤◌, ◌<◌, ◌⊎◌, inl, inr, refl, sym, ◌∙◌, ap, subst, arith, Bool, true, false, List, [], ◌∷◌, length, map, get_or, ne_eqb, lt-ltb, le-ltb, ◌==◌, nat_lt, eqb-true, eq-eqb, cases_eq, cases_lt, false≢true, ◌⊕◌, parity-false, parity-self, parity-comm, parity-assoc, parity-mid, parity-twice, Edge, Labels, ErrorTable, odd, row, flips, Each, has, edge, AreEdges, AreBits, HasAtLeast, label, AreLabels, IsFar, AreCovered}
+use Rattle.stab_search.proofs.Names.{◌≡◌, ℕ, zero, suc, ◌+◌, ◌≤◌, ◌<◌, ◌⊎◌, inl, inr, refl, sym, ◌∙◌, ap, subst, arith, Bool, true, false, List, [], ◌∷◌, length, map, get_or, ne_eqb, lt-ltb, le-ltb, ◌==◌, nat_lt, eqb-true, eq-eqb, cases_eq, cases_lt, false≢true, ◌⊕◌, parity-false, parity-self, parity-comm, parity-assoc, parity-mid, parity-twice, Edge, Labels, ErrorTable, odd, row, flipped_by_rows, Each, has, edge, AreEdges, AreBits, HasAtLeast, label, AreLabels, IsFar, AreCovered}
 use Rattle.stab_search.proofs.ListLemmas.{by-bit, each-all, each-has, each-without, without, length-without}
 use Rattle.stab_search.proofs.Totals.{total, bits as group, total-append, total-none, odd-total}
 use Rattle.stab_search.proofs.FlipLemmas.{flips-without, namer, named_by, odd-named}
@@ -49,20 +49,20 @@ module _ (t : ErrorTable) (edges : List Edge) (are : AreEdges t edges) where
 
   -- the edges flip a detector as their rows do
 
-  detector-flips : (xs : List ℕ) → Each Inside xs → (d : ℕ) → d < t.detectors → flips nodes xs d ≡ flips t.rows xs d
+  detector-flips : (xs : List ℕ) → Each Inside xs → (d : ℕ) → d < t.detectors → flipped_by_rows nodes xs d ≡ flipped_by_rows t.rows xs d
   detector-flips [] a d lt = refl
   detector-flips (x ∷ xs) a d lt =
-      ap (λ b. b ⊕ flips nodes xs d) (named x d a.0 ∙ sym ((are.each x a.0).same d lt))
+      ap (λ b. b ⊕ flipped_by_rows nodes xs d) (named x d a.0 ∙ sym ((are.each x a.0).same d lt))
       ∙ ap (λ b. odd d (row t.rows x) ⊕ b) (detector-flips xs a.1 d lt)
 
   -- and the boundary an even number of times, if they flip no detector
 
   node-one : (x : ℕ) → x ≤ t.detectors → nat_lt x t.detectors ⊕ (x == t.detectors) ≡ true
-  node-one x le = by_place (cases_lt x t.detectors)
+  node-one x le = by_position (cases_lt x t.detectors)
     where
-      by_place : (x < t.detectors) ⊎ (t.detectors ≤ x) → nat_lt x t.detectors ⊕ (x == t.detectors) ≡ true
-      by_place (inl lt) = ap (λ b. b ⊕ (x == t.detectors)) (lt-ltb x t.detectors lt) ∙ ap (λ b. true ⊕ b) (ne_eqb x t.detectors (λ e. omega arith))
-      by_place (inr ge) = ap (λ b. b ⊕ (x == t.detectors)) (le-ltb x t.detectors ge) ∙ eq-eqb x t.detectors (omega arith)
+      by_position : (x < t.detectors) ⊎ (t.detectors ≤ x) → nat_lt x t.detectors ⊕ (x == t.detectors) ≡ true
+      by_position (inl lt) = ap (λ b. b ⊕ (x == t.detectors)) (lt-ltb x t.detectors lt) ∙ ap (λ b. true ⊕ b) (ne_eqb x t.detectors (λ e. omega arith))
+      by_position (inr ge) = ap (λ b. b ⊕ (x == t.detectors)) (le-ltb x t.detectors ge) ∙ eq-eqb x t.detectors (omega arith)
 
   abbrev one : ℕ → Bool
   one i = nat_lt i t.detectors ⊕ (i == t.detectors)
@@ -77,7 +77,7 @@ module _ (t : ErrorTable) (edges : List Edge) (are : AreEdges t edges) where
       ∙ ap (λ b. true ⊕ (b ⊕ false)) (node-one (edge edges x).second (are.each x a.0).second))
       ∙ ends-even xs a.1
 
-  boundary-even : (xs : List ℕ) → Each Inside xs → ((d : ℕ) → d < t.detectors → flips t.rows xs d ≡ false) → flips nodes xs t.detectors ≡ false
+  boundary-even : (xs : List ℕ) → Each Inside xs → ((d : ℕ) → d < t.detectors → flipped_by_rows t.rows xs d ≡ false) → flipped_by_rows nodes xs t.detectors ≡ false
   boundary-even xs a undetected =
       sym (odd-named nodes xs t.detectors) ∙ odd-total t.detectors (named_by nodes xs)
       ∙ sym (ap (λ b. b ⊕ total false ◌⊕◌ (λ i. i == t.detectors) (named_by nodes xs)) detectors-even)
@@ -93,14 +93,14 @@ module _ (t : ErrorTable) (edges : List Edge) (are : AreEdges t edges) where
 
   -- no node is flipped
   abbrev Unflipped : List ℕ → Type 0
-  Unflipped xs = (x : ℕ) → x ≤ t.detectors → flips nodes xs x ≡ false
+  Unflipped xs = (x : ℕ) → x ≤ t.detectors → flipped_by_rows nodes xs x ≡ false
 
-  unflipped : (xs : List ℕ) → Each Inside xs → ((d : ℕ) → d < t.detectors → flips t.rows xs d ≡ false) → Unflipped xs
-  unflipped xs a undetected x le = by_place (cases_lt x t.detectors)
+  unflipped : (xs : List ℕ) → Each Inside xs → ((d : ℕ) → d < t.detectors → flipped_by_rows t.rows xs d ≡ false) → Unflipped xs
+  unflipped xs a undetected x le = by_position (cases_lt x t.detectors)
     where
-      by_place : (x < t.detectors) ⊎ (t.detectors ≤ x) → flips nodes xs x ≡ false
-      by_place (inl lt) = detector-flips xs a x lt ∙ undetected x lt
-      by_place (inr ge) = let same : x ≡ t.detectors = omega arith in ap (flips nodes xs) same ∙ boundary-even xs a undetected
+      by_position : (x < t.detectors) ⊎ (t.detectors ≤ x) → flipped_by_rows nodes xs x ≡ false
+      by_position (inl lt) = detector-flips xs a x lt ∙ undetected x lt
+      by_position (inr ge) = let same : x ≡ t.detectors = omega arith in ap (flipped_by_rows nodes xs) same ∙ boundary-even xs a undetected
 
   module _ (o : ℕ) (bits : List Bool) (are_bits : AreBits t.rows o bits) where
     abbrev bit : ℕ → Bool
@@ -109,8 +109,8 @@ module _ (t : ErrorTable) (edges : List Edge) (are : AreEdges t edges) where
     -- errors that go from a source to a node, and flip the observable by a parity
     record Connects (s : ℕ) (xs : List ℕ) (v : ℕ) (p : Bool) : Type 0 where
       pub inside : Each Inside xs
-      pub between : (x : ℕ) → x ≤ t.detectors → flips nodes xs x ≡ (s == x) ⊕ (v == x)
-      pub parity : flips t.rows xs o ≡ p
+      pub between : (x : ℕ) → x ≤ t.detectors → flipped_by_rows nodes xs x ≡ (s == x) ⊕ (v == x)
+      pub parity : flipped_by_rows t.rows xs o ≡ p
 
     -- without an edge of a node they come to the edge's other node
     led-before : (s : ℕ) (xs : List ℕ) (v : ℕ) (p : Bool) (r w : ℕ) → Connects s xs v p → has r xs ≡ true
@@ -118,12 +118,12 @@ module _ (t : ErrorTable) (edges : List Edge) (are : AreEdges t edges) where
     led-before s xs v p r w connects among nodes_are = record {
       inside = each-without Inside r xs connects.inside;
       between = λ x le.
-          sym (parity-twice (odd x (row nodes r)) (flips nodes (without r xs) x))
+          sym (parity-twice (odd x (row nodes r)) (flipped_by_rows nodes (without r xs) x))
           ∙ ap (λ b. odd x (row nodes r) ⊕ b) (sym (flips-without nodes r xs x among) ∙ connects.between x le)
           ∙ ap (λ b. b ⊕ ((s == x) ⊕ (v == x))) (nodes_are x)
           ∙ parity-left_out (v == x) (w == x) (s == x);
       parity =
-          sym (parity-twice (odd o (row t.rows r)) (flips t.rows (without r xs) o))
+          sym (parity-twice (odd o (row t.rows r)) (flipped_by_rows t.rows (without r xs) o))
           ∙ ap (λ b. odd o (row t.rows r) ⊕ b) (sym (flips-without t.rows r xs o among) ∙ connects.parity)
           ∙ ap (λ b. b ⊕ p) (sym (are_bits.each r (each-has Inside r xs connects.inside among)))
           ∙ parity-comm (bit r) p;
@@ -170,7 +170,7 @@ module _ (t : ErrorTable) (edges : List Edge) (are : AreEdges t edges) where
           by_node (inl same) = by_first same
           by_node (inr same) = by_second same
 
-      module _ (n : ℕ) (none : (xs : List ℕ) → Each Inside xs → length xs < n → Unflipped xs → flips t.rows xs o ≡ false) where
+      module _ (n : ℕ) (none : (xs : List ℕ) → Each Inside xs → length xs < n → Unflipped xs → flipped_by_rows t.rows xs o ≡ false) where
         label-here : (xs : List ℕ) (v : ℕ) (p : Bool) → length xs < n → Connects s xs v p → s ≡ v → label l v p ≤ length xs
         label-here xs v p lt connects same =
             let unflipped_here = none xs connects.inside lt (λ x le. connects.between x le ∙ ap (λ k. (s == x) ⊕ (k == x)) (sym same) ∙ parity-self (s == x)) in
@@ -180,18 +180,18 @@ module _ (t : ErrorTable) (edges : List Edge) (are : AreEdges t edges) where
 
         label-most : (k : ℕ) (xs : List ℕ) (v : ℕ) (p : Bool) → length xs < k → length xs < n → v ≤ t.detectors → Connects s xs v p → label l v p ≤ length xs
         label-most zero xs v p short lt le connects = absurd (omega arith)
-        label-most (suc k) xs v p short lt le connects = by_place (λ ys w q. label-most k ys w q) (cases_eq s v)
+        label-most (suc k) xs v p short lt le connects = by_position (λ ys w q. label-most k ys w q) (cases_eq s v)
           where
-            by_place : ((ys : List ℕ) (w : ℕ) (q : Bool) → length ys < k → length ys < n → w ≤ t.detectors → Connects s ys w q → label l w q ≤ length ys)
+            by_position : ((ys : List ℕ) (w : ℕ) (q : Bool) → length ys < k → length ys < n → w ≤ t.detectors → Connects s ys w q → label l w q ≤ length ys)
                 → (s ≡ v) ⊎ (s ≡ v → ⊥) → label l v p ≤ length xs
-            by_place fewer (inl same) = label-here xs v p lt connects same
-            by_place fewer (inr other) =
+            by_position fewer (inl same) = label-here xs v p lt connects same
+            by_position fewer (inr other) =
                 let found = namer nodes xs v (connects.between v le ∙ ap (λ b. b ⊕ (v == v)) (ne_eqb s v other) ∙ eq-eqb v v refl) in
                 let lt_rows = each-has Inside found.0 xs connects.inside found.1.0 in
                 label-step xs v p found.0 connects found.1.0 (node-named found.0 v lt_rows found.1.1) (λ ys w q count less led. fewer ys w q (omega arith) (omega arith) less led)
 
         -- an odd cycle with an edge of the source has as many errors as the bound
-        cycle-far : (xs : List ℕ) (r : ℕ) → Each Inside xs → length xs ≤ n → Unflipped xs → flips t.rows xs o ≡ true → has r xs ≡ true → HasNode r s
+        cycle-far : (xs : List ℕ) (r : ℕ) → Each Inside xs → length xs ≤ n → Unflipped xs → flipped_by_rows t.rows xs o ≡ true → has r xs ≡ true → HasNode r s
             → bound ≤ length xs
         cycle-far xs r a le unflipped_xs odd_xs among here =
             let connects : Connects s xs s true = record { inside = a; between = λ x less. unflipped_xs x less ∙ sym (parity-self (s == x)); parity = odd_xs } in
@@ -203,8 +203,8 @@ module _ (t : ErrorTable) (edges : List Edge) (are : AreEdges t edges) where
 
     module _ (sources : List Bool) (bound : ℕ) (covered : AreCovered edges bits sources)
         (far : (s : ℕ) → get_or sources s false ≡ true → IsFar edges bits s bound) where
-      far-odd : (n : ℕ) (none : (xs : List ℕ) → Each Inside xs → length xs < n → Unflipped xs → flips t.rows xs o ≡ false)
-          (xs : List ℕ) → Each Inside xs → length xs ≤ n → Unflipped xs → flips t.rows xs o ≡ true → bound ≤ length xs
+      far-odd : (n : ℕ) (none : (xs : List ℕ) → Each Inside xs → length xs < n → Unflipped xs → flipped_by_rows t.rows xs o ≡ false)
+          (xs : List ℕ) → Each Inside xs → length xs ≤ n → Unflipped xs → flipped_by_rows t.rows xs o ≡ true → bound ≤ length xs
       far-odd n none xs a le unflipped_xs odd_xs =
           let found = namer t.rows xs o odd_xs in
           let lt = each-has Inside found.0 xs a found.1.0 in
@@ -219,14 +219,14 @@ module _ (t : ErrorTable) (edges : List Edge) (are : AreEdges t edges) where
           by_node r among (inl is_source) = from r (edge edges r).first among (inl refl) is_source
           by_node r among (inr is_source) = from r (edge edges r).second among (inr refl) is_source
 
-      none-fewer : (n : ℕ) → n ≤ bound → (xs : List ℕ) → Each Inside xs → length xs < n → Unflipped xs → flips t.rows xs o ≡ false
+      none-fewer : (n : ℕ) → n ≤ bound → (xs : List ℕ) → Each Inside xs → length xs < n → Unflipped xs → flipped_by_rows t.rows xs o ≡ false
       none-fewer zero le xs a lt unflipped_xs = absurd (omega arith)
       none-fewer (suc n) le xs a lt unflipped_xs =
           next (none-fewer n (omega arith))
         where
-          next : ((ys : List ℕ) → Each Inside ys → length ys < n → Unflipped ys → flips t.rows ys o ≡ false) → flips t.rows xs o ≡ false
+          next : ((ys : List ℕ) → Each Inside ys → length ys < n → Unflipped ys → flipped_by_rows t.rows ys o ≡ false) → flipped_by_rows t.rows xs o ≡ false
           next none =
-              by-bit (flips t.rows xs o)
+              by-bit (flipped_by_rows t.rows xs o)
               (λ odd_xs. let more = far-odd n none xs a (omega arith) unflipped_xs odd_xs in absurd (omega arith))
               (λ even. even)
 

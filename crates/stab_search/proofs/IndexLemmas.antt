@@ -45,35 +45,35 @@ module _ (old new : List (Vec ℕ)) (d r : ℕ) (here : listed new d ≡ listed 
   added-has = ap (has r) here ∙ has-push r (listed old d)
 
   pub kept-has : (e q : ℕ) → has q (listed old e) ≡ true → has q (listed new e) ≡ true
-  kept-has e q h = by_place (cases_eq e d)
+  kept-has e q h = by_position (cases_eq e d)
     where
-      by_place : (e ≡ d) ⊎ (e ≡ d → ⊥) → has q (listed new e) ≡ true
-      by_place (inl same) =
+      by_position : (e ≡ d) ⊎ (e ≡ d → ⊥) → has q (listed new e) ≡ true
+      by_position (inl same) =
           ap (λ k. has q (listed new k)) same ∙ ap (has q) here
           ∙ has-before q r (listed old d) (ap (λ k. has q (listed old k)) (sym same) ∙ h)
-      by_place (inr other) = ap (has q) (elsewhere e other) ∙ h
+      by_position (inr other) = ap (has q) (elsewhere e other) ∙ h
 
   pub kept-inside : (n e : ℕ) → r < n → Each (λ q. q < n) (listed old e) → Each (λ q. q < n) (listed new e)
-  kept-inside n e lt a = by_place (cases_eq e d)
+  kept-inside n e lt a = by_position (cases_eq e d)
     where
-      by_place : (e ≡ d) ⊎ (e ≡ d → ⊥) → Each (λ q. q < n) (listed new e)
-      by_place (inl same) =
+      by_position : (e ≡ d) ⊎ (e ≡ d → ⊥) → Each (λ q. q < n) (listed new e)
+      by_position (inl same) =
           subst (λ k. Each (λ q. q < n) (listed new k)) (sym same)
           (subst (Each (λ q. q < n)) (sym here)
           (each-push (λ q. q < n) (listed old d) r lt (subst (λ k. Each (λ q. q < n) (listed old k)) same a)))
-      by_place (inr other) = subst (Each (λ q. q < n)) (sym (elsewhere e other)) a
+      by_position (inr other) = subst (Each (λ q. q < n)) (sym (elsewhere e other)) a
 
 -- one more row listed at each of its places
-pub complete-more : (rows : List (List ℕ)) (old new : List (Vec ℕ)) (r : ℕ) (places : List ℕ) → places ≡ row rows r
+pub complete-more : (rows : List (List ℕ)) (old new : List (Vec ℕ)) (r : ℕ) (positions : List ℕ) → positions ≡ row rows r
     → ((d q : ℕ) → has q (listed old d) ≡ true → has q (listed new d) ≡ true)
-    → ((d : ℕ) → has d places ≡ true → has r (listed new d) ≡ true)
+    → ((d : ℕ) → has d positions ≡ true → has r (listed new d) ≡ true)
     → ((d q : ℕ) → q < r → odd d (row rows q) ≡ true → has q (listed old d) ≡ true)
     → (d q : ℕ) → q < r + 1 → odd d (row rows q) ≡ true → has q (listed new d) ≡ true
-complete-more rows old new r places is kept added complete d q lt odd_here = by_place (cases_lt q r)
+complete-more rows old new r positions is kept added complete d q lt odd_here = by_position (cases_lt q r)
   where
-    by_place : (q < r) ⊎ (r ≤ q) → has q (listed new d) ≡ true
-    by_place (inl less) = kept d q (complete d q less odd_here)
-    by_place (inr more) =
+    by_position : (q < r) ⊎ (r ≤ q) → has q (listed new d) ≡ true
+    by_position (inl less) = kept d q (complete d q less odd_here)
+    by_position (inr more) =
         let same : q ≡ r = omega arith in
         ap (λ k. has k (listed new d)) same
-        ∙ added d (has-odd d places (ap (odd d) is ∙ ap (λ k. odd d (row rows k)) (sym same) ∙ odd_here))
+        ∙ added d (has-odd d positions (ap (odd d) is ∙ ap (λ k. odd d (row rows k)) (sym same) ∙ odd_here))

@@ -118,8 +118,8 @@ module _ (g x : ℕ) (xs : List ℕ) where
       ∙ ap (λ b. if b then xs else x ∷ toggle g xs) (ne_eqb x g (λ same. omega arith))
 
 -- whether it is in its place, and where it is there
-pub by-place : {P : Type 0} (g x : ℕ) → (g < x → P) → (x ≡ g → P) → (x < g → P) → P
-by-place g x less same more =
+pub by-position : {P : Type 0} (g x : ℕ) → (g < x → P) → (x ≡ g → P) → (x < g → P) → P
+by-position g x less same more =
     by-bit (nat_lt g x)
     (λ e. less (ltb-true g x e))
     (λ e.
@@ -129,7 +129,7 @@ by-place g x less same more =
 pub each-toggle : (P : ℕ → Type 0) (g : ℕ) (xs : List ℕ) → P g → Each P xs → Each P (toggle g xs)
 each-toggle P g [] p a = (p, tt)
 each-toggle P g (x ∷ xs) p a =
-    by-place g x
+    by-position g x
     (λ lt. subst (Each P) (sym (toggle-here g x xs lt)) (p, (a.0, a.1)))
     (λ same. subst (Each P) (sym (toggle-out g x xs same)) a.1)
     (λ lt. subst (Each P) (sym (toggle-there g x xs lt)) (a.0, each-toggle P g xs p a.1))
@@ -137,7 +137,7 @@ each-toggle P g (x ∷ xs) p a =
 pub length-toggle : (g : ℕ) (xs : List ℕ) → length (toggle g xs) ≤ suc (length xs)
 length-toggle g [] = omega arith
 length-toggle g (x ∷ xs) =
-    by-place g x
+    by-position g x
     (λ lt. let is = ap length (toggle-here g x xs lt) in omega arith)
     (λ same. let is = ap length (toggle-out g x xs same) in omega arith)
     (λ lt. let is = ap length (toggle-there g x xs lt) in let later = length-toggle g xs in omega arith)
@@ -149,7 +149,7 @@ lower m k (x ∷ xs) le a = (let h = a.0 in omega arith, a.1)
 pub ascends-toggle : (m g : ℕ) (xs : List ℕ) → m ≤ g → AscendsFrom m xs → AscendsFrom m (toggle g xs)
 ascends-toggle m g [] le a = (le, tt)
 ascends-toggle m g (x ∷ xs) le a =
-    by-place g x
+    by-position g x
     (λ lt. subst (AscendsFrom m) (sym (toggle-here g x xs lt)) (le, (omega arith, a.1)))
     (λ same. subst (AscendsFrom m) (sym (toggle-out g x xs same)) (lower m (x + 1) xs (let h = a.0 in omega arith) a.1))
     (λ lt. subst (AscendsFrom m) (sym (toggle-there g x xs lt)) (a.0, ascends-toggle (x + 1) g xs (omega arith) a.1))

@@ -20,7 +20,7 @@ pub use Rattle.stab_search.specs.Ascending.{AscendsFrom, IsAscending}
 pub use Rattle.stab_search.specs.Graphlike.{IsGraphlike, IsGraphlikeError, IsLeastGraphlike, HasNoGraphlikeWithin, IsGraphlikeAnswer}
 pub use Rattle.stab_search.specs.Progress.{Heard, begins, none_within, Hears, up_to, IsExcludedBy, ReportsSearch}
 pub use Rattle.stab_search.specs.LogicalErrors.{IsLogicalError, HasNoneWithin, IsAnswer, IsLeast, HasNone, HasSome}
-pub use Rattle.stab_search.specs.Tables.{ErrorTable, odd, flips, row}
+pub use Rattle.stab_search.specs.Tables.{ErrorTable, odd, flipped_by_rows, row}
 pub use Rattle.stab_search.specs.declared.answer.Answer.{Answer}
 pub use Rattle.stab_search.specs.declared.answer.Answer.TheVariants.{Least, NoneWithin, NoneAtAll}
 pub use Rattle.stab_search.specs.declared.edges.Edge.{Edge}
@@ -37,8 +37,8 @@ pub use Rattle.stab_search.specs.inner.Lists.{Each, has, toggle}
 pub use Rattle.stab_search.specs.inner.Parts.{IsGraphlikePart}
 pub use Rattle.stab_search.specs.inner.Pairs.{KeepFirst, IsLeftOut, by_one, by_two, ArePairs}
 pub use Rattle.stab_search.specs.inner.Steps.{lowered, AreLower, AreMoved, MovesDown, MoveDown, HasBefore, BeginsBefore}
-pub use Rattle.stab_search.specs.inner.Shortest.{IsShortest, IsLogicalSet, IsGathered, IsLogicalWithin, IsFound, Decides}
-pub use Rattle.stab_search.specs.inner.ReportedProgress.{HearsOn, IsLast, ReportsSizes, ReportsAnswer}
+pub use Rattle.stab_search.specs.inner.Shortest.{IsLogicalSet, IsGathered, IsLogicalWithin, Decides}
+pub use Rattle.stab_search.specs.inner.ReportedProgress.{HearsOn, ReportsSizes, ReportsAnswer}
 pub use Rattle.stab_search.specs.inner.Ways.{leaf, ways, Reports, HasNoFewer, IsWay, MeetsEach, IsPart, ones, AreGroups, IsAdded}
 pub use Rattle.stab_search.specs.Counts.{HasNoneBelow, IsLogicalSetOf, AreAsMany, IsCount}
 pub use Rattle.stab_instructions.proofs.WriteLemmas.{writes_failed, writes_then, HasWritten, written_more, written_failed}

@@ -1,8 +1,8 @@
 -- Pairs that are left out: of the least sets that are logical errors one has none of them, the last in the order of their errors.
-use Rattle.stab_search.proofs.Names.{◌≡◌, ◌≢◌, ℕ, suc, ◌+◌, ◌-◌, ◌^◌, ◌≤◌, ◌<◌, ◌⊎◌, inl, inr, sym, ◌∙◌, ap, subst, arith, true, false, ◌||◌, List, [], ◌∷◌, ◌++◌, length, false≢true, ◌==◌, eqb-true, ◌⊕◌, parity-assoc, IsAscending, ErrorTable, odd, row, flips, IsLogicalError, HasNoneWithin, Each, has, toggle, listed, Vec, HasBefore, KeepFirst, IsLeftOut, by_one, by_two, ArePairs, pow-le-pow_right, pow-succ'}
+use Rattle.stab_search.proofs.Names.{◌≡◌, ◌≢◌, ℕ, suc, ◌+◌, ◌-◌, ◌^◌, ◌≤◌, ◌<◌, ◌⊎◌, inl, inr, sym, ◌∙◌, ap, subst, arith, true, false, ◌||◌, List, [], ◌∷◌, ◌++◌, length, false≢true, ◌==◌, eqb-true, ◌⊕◌, parity-assoc, IsAscending, ErrorTable, odd, row, flipped_by_rows, IsLogicalError, HasNoneWithin, Each, has, toggle, listed, Vec, HasBefore, KeepFirst, IsLeftOut, by_one, by_two, ArePairs, pow-le-pow_right, pow-succ'}
 use Rattle.stab_search.specs.SearchParts.{weight, IsLastSet}
 use Rattle.stab_search.proofs.FlipLemmas.{flips-without}
-use Rattle.stab_search.proofs.ListLemmas.{by-bit, by-place, each-all, all-each, each-without, length-without, length-toggle, has-without, without, without-here, without-there, has-here, has-there, toggle-here, toggle-out, toggle-there}
+use Rattle.stab_search.proofs.ListLemmas.{by-bit, by-position, each-all, all-each, each-without, length-without, length-toggle, has-without, without, without-here, without-there, has-here, has-there, toggle-here, toggle-out, toggle-there}
 use Rattle.stab_search.proofs.ShortestLemmas.{gathering, gathered-logical}
 
 weight-without : (n g : ℕ) (xs : List ℕ) → has g xs ≡ true → weight n xs ≡ 2 ^ (n - g) + weight n (without g xs)
@@ -20,7 +20,7 @@ weight-without n g (x ∷ xs) e =
 weight-toggle : (n g : ℕ) (xs : List ℕ) → weight n (toggle g xs) ≤ 2 ^ (n - g) + weight n xs
 weight-toggle n g [] = omega arith
 weight-toggle n g (x ∷ xs) =
-    by-place g x
+    by-position g x
     (λ lt. let is = ap (weight n) (toggle-here g x xs lt) in omega arith)
     (λ same. let is = ap (weight n) (toggle-out g x xs same) in omega arith)
     (λ lt. let is = ap (weight n) (toggle-there g x xs lt) in let later = weight-toggle n g xs in omega arith)
@@ -53,7 +53,7 @@ among a x xs e here there =
 has-toggle : (f x : ℕ) (xs : List ℕ) → length (toggle x xs) ≡ suc (length xs) → has f (x ∷ xs) ≡ true → has f (toggle x xs) ≡ true
 has-toggle f x [] count e = e
 has-toggle f x (y ∷ ys) count e =
-    by-place x y
+    by-position x y
     (λ lt. ap (has f) (toggle-here x y ys lt) ∙ e)
     (λ same. let is = ap length (toggle-out x y ys same) in absurd (omega arith))
     (λ lt.
@@ -89,11 +89,11 @@ module _ (t : ErrorTable) (set : List ℕ) (a b : ℕ) (in_a : has a set ≡ tru
   still : has b (without a set) ≡ true
   still = has-without b a set in_b (λ same. differ (sym same))
 
-  flips-others : (i : ℕ) → flips t.rows set i ≡ (odd i (row t.rows a) ⊕ odd i (row t.rows b)) ⊕ flips t.rows others i
+  flips-others : (i : ℕ) → flipped_by_rows t.rows set i ≡ (odd i (row t.rows a) ⊕ odd i (row t.rows b)) ⊕ flipped_by_rows t.rows others i
   flips-others i =
       flips-without t.rows a set i in_a
       ∙ ap (λ x. odd i (row t.rows a) ⊕ x) (flips-without t.rows b (without a set) i still)
-      ∙ sym (parity-assoc (odd i (row t.rows a)) (odd i (row t.rows b)) (flips t.rows others i))
+      ∙ sym (parity-assoc (odd i (row t.rows a)) (odd i (row t.rows b)) (flipped_by_rows t.rows others i))
 
   length-others : length set ≡ suc (suc (length others))
   length-others = length-without a set in_a ∙ ap suc (length-without b (without a set) still)
@@ -103,7 +103,7 @@ module _ (t : ErrorTable) (set : List ℕ) (a b : ℕ) (in_a : has a set ≡ tru
 
   -- errors that flip what the two do, with those left, are a logical error too
   logical-others : (more : List ℕ) → Each (λ r. r < length t.rows) more
-      → ((i : ℕ) → flips t.rows (more ++ others) i ≡ flips t.rows set i) → IsLogicalError t set → Each (λ r. r < length t.rows) (more ++ others) → IsLogicalError t (more ++ others)
+      → ((i : ℕ) → flipped_by_rows t.rows (more ++ others) i ≡ flipped_by_rows t.rows set i) → IsLogicalError t set → Each (λ r. r < length t.rows) (more ++ others) → IsLogicalError t (more ++ others)
   logical-others more inside same e each = record {
     inside = all-each (λ r. r < length t.rows) (more ++ others) each;
     undetected = λ d lt. same d ∙ e.undetected d lt;
@@ -141,7 +141,7 @@ later : (t : ErrorTable) (firsts left : ℕ) (set : List ℕ) (a b : ℕ) → Ha
 later t firsts left set a b none e count first in_a in_b differ (by_one c inside same) =
     let rest = others t set a b in_a in_b differ in
     let is = logical-others t set a b in_a in_b differ (c ∷ []) (inside, tt)
-    (λ i. ap (λ x. x ⊕ flips t.rows rest i) (sym (same i)) ∙ sym (flips-others t set a b in_a in_b differ i)) e
+    (λ i. ap (λ x. x ⊕ flipped_by_rows t.rows rest i) (sym (same i)) ∙ sym (flips-others t set a b in_a in_b differ i)) e
     (inside, each-others t set a b in_a in_b differ e) in
     let more = none (c ∷ rest) is in
     let long = length-others t set a b in_a in_b differ in
@@ -151,8 +151,8 @@ later t firsts left set a b none e count first in_a in_b differ (by_two c d in_c
     let rest = others t set a b in_a in_b differ in
     let is = logical-others t set a b in_a in_b differ (c ∷ d ∷ []) (in_c, (in_d, tt))
     (λ i.
-    sym (parity-assoc (odd i (row t.rows c)) (odd i (row t.rows d)) (flips t.rows rest i))
-    ∙ ap (λ x. x ⊕ flips t.rows rest i) (sym (same i)) ∙ sym (flips-others t set a b in_a in_b differ i)) e
+    sym (parity-assoc (odd i (row t.rows c)) (odd i (row t.rows d)) (flipped_by_rows t.rows rest i))
+    ∙ ap (λ x. x ⊕ flipped_by_rows t.rows rest i) (sym (same i)) ∙ sym (flips-others t set a b in_a in_b differ i)) e
     (in_c, (in_d, each-others t set a b in_a in_b differ e)) in
     let long = length-others t set a b in_a in_b differ in
     let set_of = gathering (c ∷ d ∷ rest) in

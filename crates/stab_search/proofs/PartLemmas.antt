@@ -1,5 +1,5 @@
 -- Parts: what holds of a table's graph-like part holds of the graph-like errors of the table.
-use Rattle.stab_search.proofs.Names.{◌≡◌, ℕ, zero, suc, ◌+◌, ◌≤◌, ◌<◌, ◌⊎◌, inl, inr, refl, sym, ◌∙◌, ap, subst, arith, true, List, [], ◌∷◌, ◌++◌, length, min, All, cases_lt, ◌⊕◌, Answer, Least, NoneWithin, NoneAtAll, ErrorTable, odd, row, flips, IsLogicalError, HasNoneWithin, IsLeast, IsAnswer, IsGraphlike, IsGraphlikeError, IsLeastGraphlike, HasNoGraphlikeWithin, IsGraphlikeAnswer, Each, has, IsGraphlikePart}
+use Rattle.stab_search.proofs.Names.{◌≡◌, ℕ, zero, suc, ◌+◌, ◌≤◌, ◌<◌, ◌⊎◌, inl, inr, refl, sym, ◌∙◌, ap, subst, arith, true, List, [], ◌∷◌, ◌++◌, length, min, All, cases_lt, ◌⊕◌, Answer, Least, NoneWithin, NoneAtAll, ErrorTable, odd, row, flipped_by_rows, IsLogicalError, HasNoneWithin, IsLeast, IsAnswer, IsGraphlike, IsGraphlikeError, IsLeastGraphlike, HasNoGraphlikeWithin, IsGraphlikeAnswer, Each, has, IsGraphlikePart}
 use Rattle.stab_search.proofs.ListLemmas.{each-all, all-each, each-has, each-without, has-here, has-there, without, length-without}
 use Rattle.stab_search.proofs.FlipLemmas.{flips-without}
 use Rattle.stab_search.proofs.ShortestLemmas.{none-up_to_each}
@@ -12,10 +12,10 @@ module _ (t part : ErrorTable) (is : IsGraphlikePart t part) where
   abbrev Graphlike : ℕ → Type 0
   Graphlike r = IsGraphlike t.detectors (row t.rows r)
 
-  flips-same : (xs : List ℕ) → Each Inside xs → Each Graphlike xs → (i : ℕ) → flips part.rows xs i ≡ flips t.rows xs i
+  flips-same : (xs : List ℕ) → Each Inside xs → Each Graphlike xs → (i : ℕ) → flipped_by_rows part.rows xs i ≡ flipped_by_rows t.rows xs i
   flips-same [] a g i = refl
   flips-same (x ∷ xs) a g i =
-      ap (λ (ys : List ℕ). odd i ys ⊕ flips part.rows xs i) (is.rows.kept x a.0 g.0) ∙ ap (λ b. odd i (row t.rows x) ⊕ b) (flips-same xs a.1 g.1 i)
+      ap (λ (ys : List ℕ). odd i ys ⊕ flipped_by_rows part.rows xs i) (is.rows.kept x a.0 g.0) ∙ ap (λ b. odd i (row t.rows x) ⊕ b) (flips-same xs a.1 g.1 i)
 
   -- a graph-like logical error is a logical error of the part
   part-logical : (xs : List ℕ) → IsGraphlikeError t xs → IsLogicalError part xs
@@ -28,7 +28,7 @@ module _ (t part : ErrorTable) (is : IsGraphlikePart t part) where
       inside : All Inside xs
       inside = subst (λ n. All (λ r. r < n) xs) (sym is.rows.count) e.logical.inside
 
-      same : (i : ℕ) → flips part.rows xs i ≡ flips t.rows xs i
+      same : (i : ℕ) → flipped_by_rows part.rows xs i ≡ flipped_by_rows t.rows xs i
       same = flips-same xs (each-all Inside xs inside) (each-all Graphlike xs e.graphlike)
 
   -- and one of the part whose rows are graph-like is one of the table
@@ -39,7 +39,7 @@ module _ (t part : ErrorTable) (is : IsGraphlikePart t part) where
     observed = let o = e.observed.0 in (o, subst (λ n. n ≤ o) is.detectors e.observed.1, sym (same o) ∙ e.observed.2);
   }
     where
-      same : (i : ℕ) → flips part.rows xs i ≡ flips t.rows xs i
+      same : (i : ℕ) → flipped_by_rows part.rows xs i ≡ flipped_by_rows t.rows xs i
       same = flips-same xs (each-all Inside xs e.inside) g
 
   -- no row of a least logical error is empty
@@ -51,8 +51,8 @@ module _ (t part : ErrorTable) (is : IsGraphlikePart t part) where
     observed = let o = e.observed.0 in (o, e.observed.1, same o ∙ e.observed.2);
   }
     where
-      same : (i : ℕ) → flips part.rows (without r xs) i ≡ flips part.rows xs i
-      same i = sym (flips-without part.rows r xs i among ∙ ap (λ (ys : List ℕ). odd i ys ⊕ flips part.rows (without r xs) i) empty)
+      same : (i : ℕ) → flipped_by_rows part.rows (without r xs) i ≡ flipped_by_rows part.rows xs i
+      same i = sym (flips-without part.rows r xs i among ∙ ap (λ (ys : List ℕ). odd i ys ⊕ flipped_by_rows part.rows (without r xs) i) empty)
 
   module _ (most : ℕ) (xs : List ℕ) (least : IsLeast part most xs) where
     graphlike-at : (r : ℕ) → has r xs ≡ true → Graphlike r
@@ -119,21 +119,21 @@ module _ (detectors : ℕ) (rows part : List (List ℕ)) (x : List ℕ) (r : ℕ
   last q more less = let end : length part ≡ q = omega arith in ap (row (part ++ x ∷ [])) (sym end) ∙ row-last part x
 
   pub kept-push : ((q : ℕ) → q < r → Kept part q) → (IsGraphlike detectors (row rows r) → x ≡ row rows r) → (q : ℕ) → q < r + 1 → Kept (part ++ x ∷ []) q
-  kept-push before here q lt graphlike = by_place (cases_lt q r)
+  kept-push before here q lt graphlike = by_position (cases_lt q r)
     where
-      by_place : (q < r) ⊎ (r ≤ q) → row (part ++ x ∷ []) q ≡ row rows q
-      by_place (inl less) = row-before part x q (omega arith) ∙ before q less graphlike
-      by_place (inr more) =
+      by_position : (q < r) ⊎ (r ≤ q) → row (part ++ x ∷ []) q ≡ row rows q
+      by_position (inl less) = row-before part x q (omega arith) ∙ before q less graphlike
+      by_position (inr more) =
           let same : q ≡ r = omega arith in
           last q more lt ∙ here (subst (λ k. IsGraphlike detectors (row rows k)) same graphlike) ∙ ap (row rows) (sym same)
 
   pub others-push : ((q : ℕ) → q < r → Other part q) → IsGraphlike detectors (row rows r) ⊎ (x ≡ []) → (q : ℕ) → q < r + 1 → Other (part ++ x ∷ []) q
-  others-push before here q lt = by_place (cases_lt q r)
+  others-push before here q lt = by_position (cases_lt q r)
     where
       by_row : q ≡ r → r ≤ q → IsGraphlike detectors (row rows r) ⊎ (x ≡ []) → Other (part ++ x ∷ []) q
       by_row same more (inl graphlike) = inl (subst (λ k. IsGraphlike detectors (row rows k)) (sym same) graphlike)
       by_row same more (inr empty) = inr (last q more lt ∙ empty)
 
-      by_place : (q < r) ⊎ (r ≤ q) → Other (part ++ x ∷ []) q
-      by_place (inl less) = subst (λ (ys : List ℕ). IsGraphlike detectors (row rows q) ⊎ (ys ≡ [])) (sym (row-before part x q (omega arith))) (before q less)
-      by_place (inr more) = by_row (omega arith) more here
+      by_position : (q < r) ⊎ (r ≤ q) → Other (part ++ x ∷ []) q
+      by_position (inl less) = subst (λ (ys : List ℕ). IsGraphlike detectors (row rows q) ⊎ (ys ≡ [])) (sym (row-before part x q (omega arith))) (before q less)
+      by_position (inr more) = by_row (omega arith) more here

@@ -1,5 +1,5 @@
 -- Questions: the problem of a table asks for its logical errors.
-use Rattle.stab_search.proofs.Names.{◌≡◌, ℕ, zero, suc, ◌+◌, ◌-◌, ◌<◌, ◌≤◌, ◌⊎◌, inl, inr, refl, sym, ◌∙◌, subst, ap, arith, Bool, true, false, not, List, [], ◌∷◌, ◌++◌, length, ◌&&◌, ◌||◌, drop, take, min, map, get_or, false≢true, and_parts, cases_lt, length-take, list_all-append, All, All-nil, All-cons, All-append, filter, flat_map, list_all, list_any, range_with_len, IsAscending, IsLogicalError, ErrorTable, flips, Literal, Is, IsNot, Sum, Problem, holds, meets, IsWithin, without, errors_in, Asks, value, parity, AreSums, AreFrom, AreParities, flipped_by, sum_clauses, is_false, variables_of, one_of, clauses_of}
+use Rattle.stab_search.proofs.Names.{◌≡◌, ℕ, zero, suc, ◌+◌, ◌-◌, ◌<◌, ◌≤◌, ◌⊎◌, inl, inr, refl, sym, ◌∙◌, subst, ap, arith, Bool, true, false, not, List, [], ◌∷◌, ◌++◌, length, ◌&&◌, ◌||◌, drop, take, min, map, get_or, false≢true, and_parts, cases_lt, length-take, list_all-append, All, All-nil, All-cons, All-append, filter, flat_map, list_all, list_any, range_with_len, IsAscending, IsLogicalError, ErrorTable, flipped_by_rows, Literal, Is, IsNot, Sum, Problem, holds, meets, IsWithin, without, errors_in, Asks, value, parity, AreSums, AreFrom, AreParities, flipped_by, sum_clauses, is_false, variables_of, one_of, clauses_of}
 use Rattle.std.proofs.Math.ListN.{drop_of_length-le}
 use Rattle.std.proofs.lemmas.List.{get_or-take, get_or-drop, get_or_past, length-take-le, take_all}
 use Rattle.std.proofs.lemmas.List.Elements.{All-take, All-drop}
@@ -81,7 +81,7 @@ drop_min n xs = at (cases_lt n (length xs))
     at (inr more) = ap (λ m. drop m xs) (let same : min n (length xs) ≡ length xs = omega (arith, more) in same) ∙ drop_of_length-le xs (omega arith) ∙ sym (drop_of_length-le xs more)
 
 -- a detector's or observable's parity
-flips-value : (a : ℕ → Bool) (t : ErrorTable) (p : Problem) (parities : List ℕ) → IsMadeOf t p parities → AreSums a p.sums.items → (i : ℕ) → flips t.rows (errors_in a (length t.rows)) i ≡ value a (parity parities i)
+flips-value : (a : ℕ → Bool) (t : ErrorTable) (p : Problem) (parities : List ℕ) → IsMadeOf t p parities → AreSums a p.sums.items → (i : ℕ) → flipped_by_rows t.rows (errors_in a (length t.rows)) i ≡ value a (parity parities i)
 flips-value a t p parities made sums i = flips-chosen a t.rows i ∙ sym (made.are a sums i)
 
 sound : (t : ErrorTable) (p : Problem) (parities : List ℕ) → IsMadeOf t p parities → (a : ℕ → Bool) → meets a (clauses_of p).hard ≡ true → IsLogicalError t (errors_in a (length t.rows))
@@ -113,8 +113,8 @@ complete t p parities made errors ascends logical = (a, parts-met a t p parities
     same : errors_in a (length t.rows) ≡ errors
     same = chosen-set a (length t.rows) errors ascends logical.inside (λ k less. below (k + 1) (omega (arith, less)))
 
-    flipped : (i : ℕ) → value a (parity parities i) ≡ flips t.rows errors i
-    flipped i = sym (flips-value a t p parities made sums i) ∙ ap (λ l. flips t.rows l i) same
+    flipped : (i : ℕ) → value a (parity parities i) ≡ flipped_by_rows t.rows errors i
+    flipped i = sym (flips-value a t p parities made sums i) ∙ ap (λ l. flipped_by_rows t.rows l i) same
 
     undetected : (d : ℕ) → (d < t.detectors) ⊎ (t.detectors ≤ d) → value a (parity (take t.detectors parities) d) ≡ false
     undetected d (inl less) = ap (value a) (get_or-take t.detectors parities d 0 less) ∙ flipped d ∙ logical.undetected d less

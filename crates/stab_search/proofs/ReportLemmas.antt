@@ -1,6 +1,11 @@
 -- Reports: what is heard of one step of a search after another.
-use Rattle.stab_search.proofs.Names.{◌≡◌, ℕ, suc, ◌+◌, sym, ◌∙◌, ap, subst, arith, inl, inr, List, [], ◌∷◌, ◌++◌, append_assoc, Option, Some, Result, Ok, Err, IfOk, IsErrAnd, Heard, begins, none_within, Hears, up_to, IsExcludedBy, ReportsSearch, HearsOn, ReportsSizes, ReportsAnswer, Answer, Least, NoneWithin, Vec, None, ◌<◌, ◌≤◌, ◌⊎◌, length, min, cases_lt, ErrorTable, IsLogicalError, HasNoneWithin, HasSome}
-use Rattle.stab_search.proofs.ShortestLemmas.{none-up_to}
+use Rattle.stab_search.proofs.Names.{◌≡◌, ℕ, suc, ◌+◌, sym, ◌∙◌, ap, subst, arith, inl, inr, List, [], ◌∷◌, ◌++◌, append_assoc, Option, Some, Result, Ok, Err, IfOk, IsErrAnd, Heard, begins, none_within, Hears, up_to, IsExcludedBy, ReportsSearch, HearsOn, ReportsSizes, Answer, None, ErrorTable}
+use Rattle.stab_search.specs.PartNumbers.{PartNumbers}
+use Rattle.stab_search.specs.SearchParts.{Searched, HasNoneIn}
+use Rattle.stab_search.specs.declared.part_search.Found.{Found}
+use Rattle.stab_search.specs.declared.sizes.Begun.{Begun}
+use Rattle.stab_search.specs.inner.ReportedProgress.{IsFirst, IsFound}
+use Rattle.stab_search.proofs.SearchPartLemmas.{none-joined, same-searched}
 
 -- more is heard after more
 hears-after : (first old new : Option (List Heard)) (said more : List Heard) → Hears first old said → Hears old new more → Hears first new (said ++ more)
@@ -47,54 +52,22 @@ reported-on E count most has_none n last old now new r none same began on all = 
   all = all;
 }
 
--- sizes after others
+-- sizes after others, among errors of which pairs were left out before
+module _ (p : PartNumbers) (t u : ErrorTable) (k l : ℕ) (table : u ≡ t) (firsts : l ≡ k) where
+  abbrev First : Searched
+  First = record { table = t; firsts = k }
 
-pub later : (E F : Type 0) (t : ErrorTable) (from first most : ℕ) (old now new : Option (List Heard)) (r : Result (Option (Vec ℕ)) F) → ReportsSizes {E = E} t from first old now (Ok None)
-    → ReportsSizes {E = F} t first most now new r → ReportsSizes {E = F} t from most old new r
-later E F t from first most old now new r before after = record {
-  last = after.last;
-  none = after.none;
-  heard = λ f said had. after.heard f said (subst (λ k. Hears f now (said ++ up_to k)) before.all (before.heard f said had));
-  all = after.all;
-}
+  abbrev Second : Searched
+  Second = record { table = u; firsts = l }
 
--- of all sizes, what was found is of one more than the last that is excluded
-pub reported-found : (E F : Type 0) (t : ErrorTable) (from end most : ℕ) (old new : Option (List Heard)) (v : Vec ℕ) → ReportsSizes {E = E} t from end old new (Ok (Some v)) → IsLogicalError t v.items
-    → ReportsAnswer {E = F} t from most old new (Ok (Least v))
-reported-found E F t from end most old new v reports logical =
-    let next : reports.last + 1 ≡ length v.items = omega (arith, reports.all, reports.none v.items logical) in
-    record { last = reports.last; none = reports.none; heard = reports.heard; all = next }
-
--- if there is one, but none was found, the last is the number that was asked for
-
-reached : (t : ErrorTable) (end most : ℕ) → min most (length t.rows) ≤ end → end ≤ most → HasNoneWithin t end → HasSome t → end ≡ most
-reached t end most is within none (errors, logical) = by_place (cases_lt (length t.rows) most)
-  where
-    by_place : (length t.rows < most) ⊎ (most ≤ length t.rows) → end ≡ most
-    by_place (inr few) = omega (arith, is, within, few)
-    by_place (inl many) =
-        let less : length errors < length errors = none-up_to t (length errors) end (omega (arith, is, many)) none errors logical in
-        absurd (omega (arith, less))
-
-pub reported-none : (E F : Type 0) (t : ErrorTable) (from end most : ℕ) (old new : Option (List Heard)) → min most (length t.rows) ≤ end → end ≤ most → HasSome t
-    → ReportsSizes {E = E} t from end old new (Ok None) → ReportsAnswer {E = F} t from most old new (Ok NoneWithin)
-reported-none E F t from end most old new is within some reports = record {
-  last = reports.last;
-  none = reports.none;
-  heard = reports.heard;
-  all = reports.all ∙ reached t end most is within (subst (HasNoneWithin t) reports.all reports.none) some;
-}
-
-pub reported-failed : (E F : Type 0) (P : F → Type 0) (t : ErrorTable) (from end most : ℕ) (old new : Option (List Heard)) (r : Result (Option (Vec ℕ)) E) (failed : Result Answer F)
-    → ReportsSizes t from end old new r → IsErrAnd failed P → ReportsAnswer t from most old new failed
-reported-failed E F P t from end most old new r failed reports is = record {
-  last = reports.last;
-  none = reports.none;
-  heard = reports.heard;
-  all = ok-of_err Answer F P (λ a. IsExcludedBy most a reports.last) failed is;
-}
-
--- what is reported of errors that are enough is so of the table
-pub reported-table : (E F : Type 0) (t part : ErrorTable) (from most : ℕ) (old new : Option (List Heard)) (r : Result Answer E) (answer : Result Answer F)
-    → ((k : ℕ) → HasNoneWithin part k → HasNoneWithin t k) → (reports : ReportsAnswer part from most old new r) → IfOk answer (λ a. IsExcludedBy most a reports.last) → ReportsAnswer t from most old new answer
-reported-table E F t part from most old new r answer none reports all = record { last = reports.last; none = none reports.last reports.none; heard = reports.heard; all = all }
+  pub later : (E F G : Type 0) (middle end most : ℕ) (old now new : Option (List Heard)) (after : Result (Option Begun) F) (result : Result Found G)
+      → ReportsSizes {E = E} p First 0 (IsFirst p First middle) old now (Ok None) → (reports : ReportsSizes p Second middle (IsFirst p Second end) now new after)
+      → IfOk result (IsFound p First most reports.last) → ReportsSizes p First 0 (IsFound p First most) old new result
+  later E F G middle end most old now new after result before reports found = record {
+    begun = before.begun;
+    last = reports.last;
+    none = none-joined (λ size. HasNoneIn p First size) 0 middle reports.last (λ size lt le. before.none size lt (omega (arith, le, before.found)))
+        (λ size lt le. subst (λ (s : Searched). HasNoneIn p s size) (same-searched t u k l table firsts) (reports.none size lt le));
+    heard = λ f said had. reports.heard f said (subst (λ j. Hears f now (said ++ up_to j)) before.found (before.heard f said had));
+    found = found;
+  }

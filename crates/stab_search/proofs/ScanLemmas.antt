@@ -1,5 +1,5 @@
 -- Going over a list: what is left of it, and what was passed.
-use Rattle.stab_search.proofs.Names.{◌≡◌, ◌≢◌, ℕ, zero, suc, ◌+◌, ◌≤◌, ◌<◌, ◌⊎◌, inl, inr, sym, ◌∙◌, ap, subst, arith, Bool, true, false, ◌||◌, List, [], ◌∷◌, ◌++◌, length, get_or, take, drop, drop-cons, drop_of_length-le, false≢true, eqb-true, eqb-false, ◌==◌, if◌then◌else◌, ◌⊕◌, IsAscending, odd, row, flips, Each, has, shares}
+use Rattle.stab_search.proofs.Names.{◌≡◌, ◌≢◌, ℕ, zero, suc, ◌+◌, ◌≤◌, ◌<◌, ◌⊎◌, inl, inr, sym, ◌∙◌, ap, subst, arith, Bool, true, false, ◌||◌, List, [], ◌∷◌, ◌++◌, length, get_or, take, drop, drop-cons, drop_of_length-le, false≢true, eqb-true, eqb-false, ◌==◌, if◌then◌else◌, ◌⊕◌, IsAscending, odd, row, flipped_by_rows, Each, has, shares}
 use Rattle.stab_search.proofs.AscendingLemmas.{named-ascending}
 use Rattle.stab_search.proofs.FlipLemmas.{flips-push}
 use Rattle.stab_search.proofs.ListLemmas.{by-bit, each-push, has-here, has-there}
@@ -39,8 +39,8 @@ pub each-passed : (P : ℕ → Type 0) (xs : List ℕ) (k : ℕ) → k < length 
 each-passed P xs k lt each here = subst (Each P) (sym (passed xs k lt)) (each-push P (take k xs) (get_or xs k 0) here each)
 
 pub flips-passed : (rows : List (List ℕ)) (xs : List ℕ) (k i : ℕ) → k < length xs
-    → flips rows (take (k + 1) xs) i ≡ flips rows (take k xs) i ⊕ odd i (row rows (get_or xs k 0))
-flips-passed rows xs k i lt = ap (λ l. flips rows l i) (passed xs k lt) ∙ flips-push rows (take k xs) (get_or xs k 0) i
+    → flipped_by_rows rows (take (k + 1) xs) i ≡ flipped_by_rows rows (take k xs) i ⊕ odd i (row rows (get_or xs k 0))
+flips-passed rows xs k i lt = ap (λ l. flipped_by_rows rows l i) (passed xs k lt) ∙ flips-push rows (take k xs) (get_or xs k 0) i
 
 shares-push : (rows : List (List ℕ)) (e : ℕ) (ds : List ℕ) (d : ℕ) → shares rows e (ds ++ d ∷ []) ≡ shares rows e ds + (if odd d (row rows e) then 1 else 0)
 shares-push rows e [] d = omega arith

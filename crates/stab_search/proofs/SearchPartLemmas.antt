@@ -1,15 +1,18 @@
 -- Parts of a search: of the least sets that are logical errors there is a last one, and it begins in one of the parts.
-use Rattle.stab_search.proofs.Names.{◌≡◌, ℕ, zero, suc, ◌+◌, ◌≤◌, ◌<◌, ◌⊎◌, inl, inr, refl, ◌∙◌, ap, subst, arith, List, [], ◌∷◌, length, cases_lt, ErrorTable, row, HasNoneWithin, Vec, NoEnds, BeginsBefore, ArePairs, IsLogicalSet, Answer, Least, NoneWithin, NoneAtAll, HasNone, HasSome, AreEnough}
+use Rattle.stab_search.proofs.Names.{◌≡◌, ℕ, zero, suc, ◌+◌, ◌≤◌, ◌<◌, ◌⊎◌, inl, inr, refl, sym, ◌∙◌, ap, subst, arith, List, [], ◌∷◌, length, min, cases_lt, ErrorTable, row, HasNoneWithin, Vec, NoEnds, BeginsBefore, ArePairs, Answer, Least, NoneWithin, NoneAtAll, HasSome, IsAnswer, IsExcludedBy, AreEnough, Bool, Option, Some, None, is_some, Decides, Each}
 use Rattle.std.specs.Prelude.{◌%◌}
 use Rattle.std.proofs.lemmas.Nat.{mod_below}
 use Rattle.stab_search.specs.PartNumbers.{PartNumbers}
 use Rattle.stab_search.specs.SearchParts.{Searched, weight, IsCandidate, IsLastSet, BeginsIn, HasNoneIn, IsSearchOf, HaveNoneWithin, PartsAreWhole, PartsFindLeast, digest_of, IsFoundIn, IsPartAnswer}
-use Rattle.stab_search.specs.PartSets.{IsPartOf}
-use Rattle.stab_search.proofs.EnoughLemmas.{none-within_enough, none-within_fewer}
+use Rattle.stab_search.specs.declared.part_search.Found.{Found}
+use Rattle.stab_search.specs.declared.search_part.PartAnswer.{PartAnswer}
+use Rattle.stab_search.specs.declared.sizes.Begun.{Begun}
+use Rattle.stab_search.specs.inner.ReportedProgress.{IsFirst, IsFoundAfter, IsFound, AreInside, IsInTable, Reaches}
+use Rattle.stab_search.proofs.EnoughLemmas.{none-enough, none-within_enough, none-within_fewer, set-enough, some-enough}
 use Rattle.stab_search.proofs.FirstLemmas.{first-ends, begins-first}
 use Rattle.stab_search.proofs.ListLemmas.{each-all}
 use Rattle.stab_search.proofs.PairLemmas.{before-gathering, last-unpaired}
-use Rattle.stab_search.proofs.ShortestLemmas.{gathering, gathered-logical, none-empty, bounded}
+use Rattle.stab_search.proofs.ShortestLemmas.{gathering, gathered-logical, none-empty, none-up_to, bounded}
 
 -- none is in a part if none begins with one of its errors that can be first
 pub none-in : (t : ErrorTable) (pairs : List (Vec ℕ)) (firsts : ℕ) → ArePairs t.rows firsts pairs → (left : ℕ) (p : PartNumbers)
@@ -71,15 +74,6 @@ module _ (s : Searched) (count : ℕ) (some : 0 < count) (begun : BeginsBefore s
             begun = before-gathering s.firsts other.0 (omega (arith, more, fewer, few, le)) other.1.1.1;
           }))
 
--- the one part of a whole search
-pub whole-none : (t : ErrorTable) (firsts : ℕ) (p : PartNumbers) → p ≡ record { index = 0; count = 1 } → BeginsBefore t firsts → (left : ℕ) → HasNoneWithin t left
-    → HasNoneIn p (record { table = t; firsts = firsts }) (left + 1) → HasNoneWithin t (left + 1)
-whole-none t firsts p is begun left none none_in =
-    all-parts (record { table = t; firsts = firsts }) 1 (omega arith) begun left none
-    (λ index lt. let first : 0 ≡ index = omega (arith, lt) in
-    subst (λ k. HasNoneIn (record { index = k; count = 1 }) (record { table = t; firsts = firsts }) (left + 1)) first
-    (subst (λ (q : PartNumbers). HasNoneIn q (record { table = t; firsts = firsts }) (left + 1)) is none_in))
-
 -- all parts of a table's search
 
 module _ (t : ErrorTable) (s : Searched) (count : ℕ) (is : IsSearchOf t s) (some : 0 < count) where
@@ -133,17 +127,94 @@ enough-search t fewer numbers firsts is begun = record {
   begun = begun;
 }
 
-module _ (p : PartNumbers) (t : ErrorTable) (s : Searched) (is : IsSearchOf t s) (most last digest first : ℕ) (same : digest ≡ digest_of s) where
-  answered : (own answer : Answer) → IsPartOf p s most last first own → IsFoundIn p t s most last first answer
-      → IsPartAnswer p t most (record { digest = digest; last = last; first = first; answer = answer })
-  answered own answer part found = record { searched = s; is = is; digest = same; within = part.within; none = part.none; found = found }
+-- and so are all errors of the table
+pub own-search : (t : ErrorTable) (firsts : ℕ) → BeginsBefore t firsts → IsSearchOf t (record { table = t; firsts = firsts })
+own-search t firsts begun = record { fewer = λ size none. none; enough = λ size none. none; begun = begun }
 
-  pub part-set : (own set : Vec ℕ) → IsPartOf p s most last first (Least own) → IsLogicalSet t (last + 1) set.items
-      → IsPartAnswer p t most (record { digest = digest; last = last; first = first; answer = Least set })
-  part-set own set part logical = answered (Least own) (Least set) part (part.found.0, logical, own.items, part.found.1)
+module _ (p : PartNumbers) (t : ErrorTable) (s : Searched) (numbers : List ℕ) (enough : AreEnough t s.table numbers) (is : IsSearchOf t s) (most : ℕ) where
+  found-in : (last first : ℕ) (own answer : Answer) → IsFoundAfter p s most last first own → IsInTable numbers own answer → IsFoundIn p t s most last first answer
+  found-in last first (Least own) answer found (set, same, gathered) =
+      subst (IsFoundIn p t s most last first) (sym same) (found.0, set-enough t s.table numbers enough (last + 1) own.items set.items found.1.found gathered, own.items, found.1)
+  found-in last first NoneWithin answer found same =
+      subst (IsFoundIn p t s most last first) (sym same)
+      ((λ size lt le. none-larger p s size (omega (arith, lt, le, found.0))), some-enough t s.table numbers enough found.1)
+  found-in last first NoneAtAll answer found same = subst (IsFoundIn p t s most last first) (sym same) (none-enough t s.table numbers enough found)
 
-  pub part-within : IsPartOf p s most last first NoneWithin → HasSome t → IsPartAnswer p t most (record { digest = digest; last = last; first = first; answer = NoneWithin })
-  part-within part some = answered NoneWithin NoneWithin part (part.found.0, some)
+  reaches-in : (last first : ℕ) (own answer : Answer) → IsFoundAfter p s most last first own → IsInTable numbers own answer → Reaches s most last answer
+  reaches-in last first (Least own) answer found (set, same, gathered) = subst (Reaches s most last) (sym same) tt
+  reaches-in last first NoneWithin answer found same = subst (Reaches s most last) (sym same) found.0
+  reaches-in last first NoneAtAll answer found same = subst (Reaches s most last) (sym same) tt
 
-  pub part-at_all : IsPartOf p s most last first NoneAtAll → HasNone t → IsPartAnswer p t most (record { digest = digest; last = last; first = first; answer = NoneAtAll })
-  part-at_all part none = answered NoneAtAll NoneAtAll part none
+  pub part-reaches : (f : Found) (last : ℕ) → IsFound p s most last f → (answer : Answer) → IsInTable numbers f.answer answer → (f.last ≡ last) × Reaches s most last answer
+  part-reaches f last found answer in_table = (found.0, subst (λ k. Reaches s most k answer) found.0 (reaches-in f.last f.first f.answer answer found.2 in_table))
+
+  pub inside-in : (last first : ℕ) (own : Answer) → IsFoundAfter p s most last first own → AreInside (length numbers) own
+  inside-in last first (Least own) found = subst (λ n. Each (λ r. r < n) own.items) (sym enough.rows.count) (each-all (λ r. r < length s.table.rows) own.items found.1.found.logical.inside)
+  inside-in last first NoneWithin found = tt
+  inside-in last first NoneAtAll found = tt
+
+  pub part-answer : (f : Found) (last : ℕ) → ((size : ℕ) → 0 < size → size ≤ last → HasNoneIn p s size) → IsFound p s most last f → (digest : ℕ) → digest ≡ digest_of s
+      → (answer : Answer) → IsInTable numbers f.answer answer → IsPartAnswer p t most (record { digest = digest; last = f.last; first = f.first; answer = answer })
+  part-answer f last none found digest same answer in_table = record {
+    searched = s;
+    is = is;
+    digest = same;
+    within = found.1;
+    none = λ size pos le. none size pos (omega (arith, le, found.0));
+    found = found-in f.last f.first f.answer answer found.2 in_table;
+  }
+
+-- what is found among fewer sizes
+pub begun-found : (p : PartNumbers) (s : Searched) (end most last : ℕ) (b : Begun) (f : Found) → f ≡ record { last = b.last; first = b.first; answer = Least b.errors } → end ≤ most
+    → IsFirst p s end last (Some b) → IsFound p s most last f
+begun-found p s end most last b f is le first =
+    subst (λ (g : Found). IsFound p s most last g) (sym is) (first.0, omega (arith, first.1, le), (omega (arith, first.1, le), first.2))
+
+-- the one part of a whole search
+module _ (t : ErrorTable) (p : PartNumbers) (one : p ≡ record { index = 0; count = 1 }) where
+  pub whole-none : (s : Searched) → IsSearchOf t s → (last : ℕ) → ((size : ℕ) → 0 < size → size ≤ last → HasNoneIn p s size) → HasNoneWithin t last
+  whole-none s is last none =
+      parts-whole t s 1 is (omega arith) last
+      (λ index size lt pos le. let first : 0 ≡ index = omega (arith, lt) in
+      subst (λ k. HasNoneIn (record { index = k; count = 1 }) s size) first (subst (λ (q : PartNumbers). HasNoneIn q s size) one (none size pos le)))
+
+  pub whole-answer : (most : ℕ) (a : PartAnswer) → IsPartAnswer p t most a → IsAnswer t most a.answer
+  whole-answer most a is = by_answer a.answer is.found
+    where
+      by_answer : (answer : Answer) → IsFoundIn p t is.searched most a.last a.first answer → IsAnswer t most answer
+      by_answer (Least set) found = record {
+        ascending = found.1.ascending;
+        logical = found.1.logical;
+        within = omega (arith, found.0, found.1.within);
+        least = λ others e. omega (arith, found.1.within, whole-none is.searched is.is a.last is.none others e);
+      }
+      by_answer NoneWithin found = (whole-none is.searched is.is most (none-joined (λ size. HasNoneIn p is.searched size) 0 a.last most is.none found.0), found.1)
+      by_answer NoneAtAll found = found
+
+  -- if there is one, but none was found, the last number is the one that was asked for
+  reached : (s : Searched) → IsSearchOf t s → (most last : ℕ) → min most (length s.table.rows) ≤ last → last ≤ most → HasNoneWithin t last → HasSome t → last ≡ most
+  reached s is most last enough within none (errors, logical) = by_position (cases_lt (length s.table.rows) most)
+    where
+      by_position : (length s.table.rows < most) ⊎ (most ≤ length s.table.rows) → last ≡ most
+      by_position (inr many) = omega (arith, enough, within, many)
+      by_position (inl few) =
+          let less : length errors < length errors =
+          is.enough (length errors) (none-up_to s.table (length errors) last (omega (arith, enough, few)) (is.fewer last none)) errors logical in
+          absurd (omega (arith, less))
+
+  pub whole-excluded : (s : Searched) → IsSearchOf t s → (most last : ℕ) → ((size : ℕ) → 0 < size → size ≤ last → HasNoneIn p s size)
+      → (a : PartAnswer) → IsPartAnswer p t most a → a.last ≡ last → Reaches s most last a.answer → IsExcludedBy most a.answer last
+  whole-excluded s is most last none a answers same reaches = by_answer a.answer answers.found reaches
+    where
+      by_answer : (answer : Answer) → IsFoundIn p t answers.searched most a.last a.first answer → Reaches s most last answer → IsExcludedBy most answer last
+      by_answer (Least set) found reaches = omega (arith, same, found.1.within, whole-none s is last none set.items found.1.logical)
+      by_answer NoneWithin found reaches = reached s is most last reaches (omega (arith, same, answers.within)) (whole-none s is last none) found.1
+      by_answer NoneAtAll found reaches = tt
+
+-- a search of all sizes decides whether there is a logical error
+pub decided : (t : ErrorTable) (p : PartNumbers) (s : Searched) → s.table ≡ t → (n last : ℕ) (a : Option Begun) (b : Bool) → b ≡ is_some a → length t.rows ≤ n → HasNoneWithin t last
+    → IsFirst p s n last a → Decides t b
+decided t p s same n last (Some v) b e le none first = subst (Decides t) (sym e) (subst HasSome same (v.errors.items, first.2.found.logical))
+decided t p s same n last None b e le none first =
+    subst (Decides t) (sym e)
+    (λ errors logical. let less : length errors < length errors = none-up_to t (length errors) last (omega (arith, le, first)) none errors logical in omega (arith, less))

@@ -1,5 +1,5 @@
 -- Shortest logical errors: sets of a list, and the first error of a set.
-use Rattle.stab_search.proofs.Names.{◌≡◌, ℕ, zero, suc, ◌+◌, ◌≤◌, ◌<◌, refl, sym, ◌∙◌, ap, subst, arith, Bool, List, [], ◌∷◌, ◌++◌, length, get_or, take, drop, map, min, false≢true, length-append, ◌⊕◌, parity-comm, parity-self, AscendsFrom, ErrorTable, odd, row, flips, IsLogicalError, HasNoneWithin, Each, toggle, EndsWithin, IsLogicalWithin, IsShortest, IsGathered, Option, Some, None, IfSome, IfNone, is_some, Vec, Decides}
+use Rattle.stab_search.proofs.Names.{◌≡◌, ℕ, zero, suc, ◌+◌, ◌≤◌, ◌<◌, refl, sym, ◌∙◌, ap, subst, arith, List, [], ◌∷◌, ◌++◌, length, get_or, take, drop, map, min, false≢true, length-append, ◌⊕◌, parity-comm, parity-self, AscendsFrom, ErrorTable, odd, row, flipped_by_rows, IsLogicalError, HasNoneWithin, Each, toggle, EndsWithin, IsLogicalWithin, IsGathered}
 use Rattle.stab_search.proofs.FlipLemmas.{flips-push, flips-toggle}
 use Rattle.stab_search.proofs.ListLemmas.{each-all, all-each, each-push, each-toggle, length-toggle, ascends-toggle, toggle-here, toggle-out, toggle-there}
 
@@ -10,16 +10,16 @@ each-first P [] x a = (a.0, tt)
 each-first P (y ∷ ys) x a = let later = each-first P ys x a.1 in (later.0, (a.0, later.1))
 
 pub gathered-none : IsGathered [] []
-gathered-none = record { ascending = tt; fewer = omega arith; inside = λ n a. tt; flips = λ rows i. refl }
+gathered-none = record { ascending = tt; fewer = omega arith; inside = λ n a. tt; flipped_by_rows = λ rows i. refl }
 
 pub gathered-push : (xs set : List ℕ) (x : ℕ) → IsGathered xs set → IsGathered (xs ++ x ∷ []) (toggle x set)
 gathered-push xs set x g = record {
   ascending = ascends-toggle 0 x set (omega arith) g.ascending;
   fewer = let h = g.fewer in let more = length-toggle x set in let longer = length-append xs (x ∷ []) in omega arith;
   inside = λ n a. let parts = each-first (λ r. r < n) xs x a in each-toggle (λ r. r < n) x set parts.0 (g.inside n parts.1);
-  flips = λ rows i.
-      flips-toggle rows x set i ∙ ap (λ b. odd i (row rows x) ⊕ b) (g.flips rows i)
-      ∙ parity-comm (odd i (row rows x)) (flips rows xs i) ∙ sym (flips-push rows xs x i);
+  flipped_by_rows = λ rows i.
+      flips-toggle rows x set i ∙ ap (λ b. odd i (row rows x) ⊕ b) (g.flipped_by_rows rows i)
+      ∙ parity-comm (odd i (row rows x)) (flipped_by_rows rows xs i) ∙ sym (flips-push rows xs x i);
 }
 
 pub gathered-cons : (xs set : List ℕ) (x : ℕ) → IsGathered xs set → IsGathered (x ∷ xs) (toggle x set)
@@ -27,7 +27,7 @@ gathered-cons xs set x g = record {
   ascending = ascends-toggle 0 x set (omega arith) g.ascending;
   fewer = let h = g.fewer in let more = length-toggle x set in omega arith;
   inside = λ n a. each-toggle (λ r. r < n) x set a.0 (g.inside n a.1);
-  flips = λ rows i. flips-toggle rows x set i ∙ ap (λ b. odd i (row rows x) ⊕ b) (g.flips rows i);
+  flipped_by_rows = λ rows i. flips-toggle rows x set i ∙ ap (λ b. odd i (row rows x) ⊕ b) (g.flipped_by_rows rows i);
 }
 
 -- each list has a set
@@ -60,8 +60,8 @@ gathered-next f found set k lt g =
 pub gathered-logical : (t : ErrorTable) (xs set : List ℕ) → IsGathered xs set → IsLogicalError t xs → IsLogicalError t set
 gathered-logical t xs set g e = record {
   inside = all-each (λ r. r < length t.rows) set (g.inside (length t.rows) (each-all (λ r. r < length t.rows) xs e.inside));
-  undetected = λ d lt. g.flips t.rows d ∙ e.undetected d lt;
-  observed = (e.observed.0, e.observed.1, g.flips t.rows e.observed.0 ∙ e.observed.2);
+  undetected = λ d lt. g.flipped_by_rows t.rows d ∙ e.undetected d lt;
+  observed = (e.observed.0, e.observed.1, g.flipped_by_rows t.rows e.observed.0 ∙ e.observed.2);
 }
 
 -- an error in front of those that end a search from it
@@ -75,13 +75,6 @@ begun t first left rest lt e = record {
     observed = let o = e.ends.observed.0 in (o, e.ends.observed.1, flips-push t.rows rest first o ∙ e.ends.observed.2);
   };
   within = let short = e.within in let longer = length-append rest (first ∷ []) in omega arith;
-}
-
-pub shortest : (t : ErrorTable) (most left : ℕ) (found : List ℕ) → left < most → HasNoneWithin t left → IsLogicalWithin t (left + 1) found → IsShortest t most found
-shortest t most left found lt none is = record {
-  logical = is.logical;
-  within = let h = is.within in omega arith;
-  least = λ others logical. let more = none others logical in let h = is.within in omega arith;
 }
 
 -- how many errors a set has
@@ -111,13 +104,6 @@ pub none-up_to : (t : ErrorTable) (most reached : ℕ) → min most (length t.ro
 none-up_to t most reached le none errors logical =
     none-up_to_each t (λ r. r < length t.rows) most reached le (λ xs is each. none xs is) errors logical
     (each-all (λ r. r < length t.rows) errors logical.inside)
-
--- a search of all sizes decides whether there is a logical error
-pub decided : (t : ErrorTable) (n : ℕ) (a : Option (Vec ℕ)) (b : Bool) → b ≡ is_some a → length t.rows ≤ n → IfSome a (λ v. IsShortest t n v.items) → IfNone a (HasNoneWithin t n) → Decides t b
-decided t n (Some v) b e le some none = subst (Decides t) (sym e) (v.items, some.logical)
-decided t n None b e le some none =
-    subst (Decides t) (sym e)
-    (λ errors logical. let less : length errors < length errors = none-up_to t (length errors) n (omega (arith, le)) none errors logical in omega (arith, less))
 
 -- none has no error
 pub none-empty : (t : ErrorTable) → HasNoneWithin t 0

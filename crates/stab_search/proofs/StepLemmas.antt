@@ -1,5 +1,5 @@
 -- Steps: an error of each shortest logical error can be one that no step moves down, since the others can all be moved.
-use Rattle.stab_search.proofs.Names.{◌≡◌, ◌≢◌, ℕ, zero, suc, ◌+◌, ◌≤◌, ◌<◌, ◌⊎◌, inl, inr, refl, sym, ◌∙◌, ap, ap₂, subst, arith, Bool, true, false, List, [], ◌∷◌, length, ◌&&◌, ◌==◌, cases_eq, cases_lt, false≢true, eq-eqb, ne_eqb, get_or, slice_index, ◌⊕◌, parity-mid, parity-false, ErrorTable, odd, row, flips, IsLogicalError, Each, lowered, AreLower, AreMoved, MoveDown, HasBefore, BeginsBefore, Vec, ArePairs}
+use Rattle.stab_search.proofs.Names.{◌≡◌, ◌≢◌, ℕ, zero, suc, ◌+◌, ◌≤◌, ◌<◌, ◌⊎◌, inl, inr, refl, sym, ◌∙◌, ap, ap₂, subst, arith, Bool, true, false, List, [], ◌∷◌, length, ◌&&◌, ◌==◌, cases_eq, cases_lt, false≢true, eq-eqb, ne_eqb, get_or, slice_index, ◌⊕◌, parity-mid, parity-false, ErrorTable, odd, row, flipped_by_rows, IsLogicalError, Each, lowered, AreLower, AreMoved, MoveDown, HasBefore, BeginsBefore, Vec, ArePairs}
 use Rattle.stab_search.proofs.ListLemmas.{each-all, all-each, has-here, has-there}
 use Rattle.stab_search.proofs.ParityLemmas.{and-false, and-true, and-sum}
 
@@ -145,23 +145,23 @@ module _ (t : ErrorTable) (from : ℕ) (lower : List ℕ) (are : AreLower t.dete
   moved-sum [] a = omega arith
   moved-sum (x ∷ xs) a = let before = (down x a.0.0 a.1.0).1.0 in let later = moved-sum xs (a.0.1, a.1.1) in omega arith
 
-  moved-observable : (xs : List ℕ) (a : Late xs) (o : ℕ) → t.detectors ≤ o → flips t.rows (moved xs a) o ≡ flips t.rows xs o
+  moved-observable : (xs : List ℕ) (a : Late xs) (o : ℕ) → t.detectors ≤ o → flipped_by_rows t.rows (moved xs a) o ≡ flipped_by_rows t.rows xs o
   moved-observable [] a o le = refl
   moved-observable (x ∷ xs) a o le =
       let here = down x a.0.0 a.1.0 in
       ap₂ (λ b c. b ⊕ c) (odd-observable t.detectors lower are (row t.rows here.0) (row t.rows x) o le here.1.1) (moved-observable xs (a.0.1, a.1.1) o le)
 
-  moved-detector : (xs : List ℕ) (a : Late xs) (i : ℕ) → i < t.detectors → flips t.rows (moved xs a) i ≡ pull t.detectors lower are t.detectors i (flips t.rows xs)
+  moved-detector : (xs : List ℕ) (a : Late xs) (i : ℕ) → i < t.detectors → flipped_by_rows t.rows (moved xs a) i ≡ pull t.detectors lower are t.detectors i (flipped_by_rows t.rows xs)
   moved-detector [] a i lt = sym (pull-none t.detectors lower are t.detectors i (λ d. false) (λ d below. refl))
   moved-detector (x ∷ xs) a i lt =
       let here = down x a.0.0 a.1.0 in
       ap₂ (λ b c. b ⊕ c) (odd-detector t.detectors lower are (row t.rows here.0) (row t.rows x) i lt here.1.1) (moved-detector xs (a.0.1, a.1.1) i lt)
-      ∙ sym (pull-sum t.detectors lower are t.detectors i (λ d. odd d (row t.rows x)) (flips t.rows xs))
+      ∙ sym (pull-sum t.detectors lower are t.detectors i (λ d. odd d (row t.rows x)) (flipped_by_rows t.rows xs))
 
   moved-logical : (xs : List ℕ) (a : Late xs) → IsLogicalError t xs → IsLogicalError t (moved xs a)
   moved-logical xs a e = record {
     inside = all-each (λ r. r < length t.rows) (moved xs a) (moved-inside xs a);
-    undetected = λ d lt. moved-detector xs a d lt ∙ pull-none t.detectors lower are t.detectors d (flips t.rows xs) e.undetected;
+    undetected = λ d lt. moved-detector xs a d lt ∙ pull-none t.detectors lower are t.detectors d (flipped_by_rows t.rows xs) e.undetected;
     observed = (e.observed.0, e.observed.1, moved-observable xs a e.observed.0 e.observed.1 ∙ e.observed.2);
   }
 

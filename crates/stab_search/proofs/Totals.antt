@@ -1,7 +1,7 @@
 -- Totals of lists in a group in which each element is its own inverse, such as bits and numbers by exclusive or.
 use Rattle.stab_search.proofs.Names.{◌≡◌, ℕ, zero, suc, ◌≤◌, ◌⊎◌, inl, inr, refl, sym, ◌∙◌, ap, arith, Bool, true, false, not, ◌||◌, List, [], ◌∷◌, ◌++◌, length, ne_eqb, ◌==◌, bit_xor, eqb-true, eq-eqb, cases_eq, false≢true, or_left, or_right, xor_comm, xor_assoc, xor_self, xor_zero_r, ◌⊕◌, parity-comm, parity-assoc, parity-self, parity-twice, odd, has, toggle}
 use Rattle.std.specs.Prelude.{◌≢◌}
-use Rattle.stab_search.proofs.ListLemmas.{by-bit, without, without-here, without-there, length-without, toggle-here, toggle-out, toggle-there, by-place}
+use Rattle.stab_search.proofs.ListLemmas.{by-bit, without, without-here, without-there, length-without, toggle-here, toggle-out, toggle-there, by-position}
 
 -- a group in which each element is its own inverse
 pub record IsGroup {A : Type 0} (unit : A) (op : A → A → A) : Type 0 where
@@ -50,7 +50,7 @@ module _ (A : Type 0) (unit : A) (op : A → A → A) (group : IsGroup unit op) 
     pub total-toggle : (g : ℕ) (xs : List ℕ) → total unit op v (toggle g xs) ≡ op (v g) (total unit op v xs)
     total-toggle g [] = refl
     total-toggle g (x ∷ xs) =
-        by-place g x
+        by-position g x
         (λ lt. ap (total unit op v) (toggle-here g x xs lt))
         (λ same.
         ap (total unit op v) (toggle-out g x xs same)
@@ -99,12 +99,12 @@ module _ (A : Type 0) (unit : A) (op : A → A → A) (group : IsGroup unit op) 
   IsEven xs = (i : ℕ) → (odd i xs ≡ false) ⊎ (v i ≡ unit)
 
   rest_of_nothing : (x : ℕ) (xs : List ℕ) → v x ≡ unit → IsEven (x ∷ xs) → IsEven xs
-  rest_of_nothing x xs nothing even i = by_place (cases_eq x i) (even i)
+  rest_of_nothing x xs nothing even i = by_position (cases_eq x i) (even i)
     where
-      by_place : (x ≡ i) ⊎ (x ≡ i → ⊥) → (odd i (x ∷ xs) ≡ false) ⊎ (v i ≡ unit) → (odd i xs ≡ false) ⊎ (v i ≡ unit)
-      by_place (inl same) e = inr (ap v (sym same) ∙ nothing)
-      by_place (inr other) (inl e) = inl (sym (odd-other x i xs other) ∙ e)
-      by_place (inr other) (inr e) = inr e
+      by_position : (x ≡ i) ⊎ (x ≡ i → ⊥) → (odd i (x ∷ xs) ≡ false) ⊎ (v i ≡ unit) → (odd i xs ≡ false) ⊎ (v i ≡ unit)
+      by_position (inl same) e = inr (ap v (sym same) ∙ nothing)
+      by_position (inr other) (inl e) = inl (sym (odd-other x i xs other) ∙ e)
+      by_position (inr other) (inr e) = inr e
 
   rest_of_two : (x : ℕ) (xs : List ℕ) → has x xs ≡ true → IsEven (x ∷ xs) → IsEven (without x xs)
   rest_of_two x xs there even i = by_case (even i)

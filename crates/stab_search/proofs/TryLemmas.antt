@@ -1,5 +1,5 @@
 -- Tries: an error is tried, the ways with it are added up, and its weight is put back.
-use Rattle.stab_search.proofs.Names.{◌≡◌, ◌≢◌, ℕ, zero, suc, ◌+◌, ◌*◌, ◌≤◌, ◌<◌, ◌⊎◌, inl, inr, refl, sym, ◌∙◌, ap, subst, arith, true, false, List, [], ◌∷◌, ◌++◌, length, drop, get_or, set, slice_index, cases_lt, ◌==◌, eqb-true, eqb-false, ◌⊕◌, parity-comm, bit_xor, Option, IsAscending, ErrorTable, odd, row, HasNoneWithin, Each, has, key_of, flips, parity-false, false≢true, length-append, ways, Reports, HasNoFewer, IsPart}
+use Rattle.stab_search.proofs.Names.{◌≡◌, ◌≢◌, ℕ, zero, suc, ◌+◌, ◌*◌, ◌≤◌, ◌<◌, ◌⊎◌, inl, inr, refl, sym, ◌∙◌, ap, subst, arith, true, false, List, [], ◌∷◌, ◌++◌, length, drop, get_or, set, slice_index, cases_lt, ◌==◌, eqb-true, eqb-false, ◌⊕◌, parity-comm, bit_xor, Option, IsAscending, ErrorTable, odd, row, HasNoneWithin, Each, has, key_of, flipped_by_rows, parity-false, false≢true, length-append, ways, Reports, HasNoFewer, IsPart}
 use Rattle.std.proofs.lemmas.List.{get_or-set_same, get_or-set_other, set-get_or, ext_get_or}
 use Rattle.stab_search.proofs.ChoiceLemmas.{meet-keyed, meet-flipping, nothing-left, none-after}
 use Rattle.stab_search.proofs.EndLemmas.{completes-push, completes-observed, completes-detected, completes-nothing}
@@ -133,7 +133,7 @@ none-first t before after left at count all weightless others =
     none-after t before after [] left at count
     (λ rest way.
     let o = way.completes.observed in
-    meet-flipping t before [] left at rest o.0 way (sym (parity-false (flips t.rows rest o.0)) ∙ o.2)
+    meet-flipping t before [] left at rest o.0 way (sym (parity-false (flipped_by_rows t.rows rest o.0)) ∙ o.2)
     (λ e inside some flips. all e o.0 inside o.1 flips))
     weightless others
 

@@ -1,5 +1,5 @@
 -- Ways: of none but observables, of what is flipped alike, with one weight changed, and the errors after them.
-use Rattle.stab_search.proofs.Names.{eqb-true, ◌≡◌, ℕ, zero, suc, ◌+◌, ◌*◌, ◌≤◌, ◌<◌, ◌⊎◌, inl, inr, refl, sym, ◌∙◌, ap, subst, arith, Bool, true, false, ◌||◌, List, [], ◌∷◌, ◌++◌, length, map, set, slice_index, cases_lt, false≢true, ◌==◌, nat_lt, if◌then◌else◌, and_parts, or_left, or_right, lt-ltb, ltb-true, length-map, list_any, ◌⊕◌, parity-comm, parity-assoc, parity-twice, ErrorTable, odd, row, flips, Each, has, Completes, leaf, ways, IsWay}
+use Rattle.stab_search.proofs.Names.{eqb-true, ◌≡◌, ℕ, zero, suc, ◌+◌, ◌*◌, ◌≤◌, ◌<◌, ◌⊎◌, inl, inr, refl, sym, ◌∙◌, ap, subst, arith, Bool, true, false, ◌||◌, List, [], ◌∷◌, ◌++◌, length, map, set, slice_index, cases_lt, false≢true, ◌==◌, nat_lt, if◌then◌else◌, and_parts, or_left, or_right, lt-ltb, ltb-true, length-map, list_any, ◌⊕◌, parity-comm, parity-assoc, parity-twice, ErrorTable, odd, row, flipped_by_rows, Each, has, Completes, leaf, ways, IsWay}
 use Rattle.std.specs.Prelude.{◌&&◌}
 use Rattle.std.proofs.Math.Nat.{mul-add, mul_left_comm, mul-zero}
 use Rattle.stab_search.proofs.ListLemmas.{by-bit, has-here, has-there}
@@ -217,7 +217,7 @@ insert detectors (r ∷ rows) (w ∷ weights) x a rest others (suc left) s count
 
 -- errors of all rows but the first, and with the first
 
-pub flips-shift : (r : List ℕ) (rows : List (List ℕ)) (es : List ℕ) (i : ℕ) → flips (r ∷ rows) (map suc es) i ≡ flips rows es i
+pub flips-shift : (r : List ℕ) (rows : List (List ℕ)) (es : List ℕ) (i : ℕ) → flipped_by_rows (r ∷ rows) (map suc es) i ≡ flipped_by_rows rows es i
 flips-shift r rows [] i = refl
 flips-shift r rows (e ∷ es) i = ap (λ b. odd i (row rows e) ⊕ b) (flips-shift r rows es i)
 
@@ -251,9 +251,9 @@ module _ (detectors : ℕ) (r : List ℕ) (rows : List (List ℕ)) (s es : List 
       o,
       c.observed.1,
       ap (λ b. (odd o r ⊕ b) ⊕ odd o s) (flips-shift r rows es o)
-          ∙ ap (λ b. b ⊕ odd o s) (parity-comm (odd o r) (flips rows es o))
-          ∙ parity-assoc (flips rows es o) (odd o r) (odd o s)
-          ∙ ap (λ b. flips rows es o ⊕ b) (sym (odd-append o r s))
+          ∙ ap (λ b. b ⊕ odd o s) (parity-comm (odd o r) (flipped_by_rows rows es o))
+          ∙ parity-assoc (flipped_by_rows rows es o) (odd o r) (odd o s)
+          ∙ ap (λ b. flipped_by_rows rows es o ⊕ b) (sym (odd-append o r s))
           ∙ c.observed.2,
     );
   }

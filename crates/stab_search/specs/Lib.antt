@@ -7,7 +7,6 @@ pub mod Progress
 pub mod PartNumbers
 pub mod inner
 pub mod SearchParts
-pub mod PartSets
 pub mod Problems
 pub mod Questions
 pub mod Made

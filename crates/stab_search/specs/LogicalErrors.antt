@@ -4,13 +4,13 @@ use Rattle.std.specs.Prelude.{◌≡◌, ℕ, ◌<◌, ◌≤◌, ◌^◌, true,
 use Rattle.stab_search.specs.declared.answer.Answer.{Answer}
 use Rattle.stab_search.specs.declared.answer.Answer.TheVariants.{Least, NoneWithin, NoneAtAll}
 use Rattle.stab_search.specs.Ascending.{IsAscending}
-use Rattle.stab_search.specs.Tables.{ErrorTable, flips}
+use Rattle.stab_search.specs.Tables.{ErrorTable, flipped_by_rows}
 
 -- a logical error: errors of the table, in any order, that together flip no detector and at least one observable
 pub record IsLogicalError (t : ErrorTable) (errors : List ℕ) : Type 0 where
   pub inside : All (λ r. r < length t.rows) errors
-  pub undetected : (d : ℕ) → d < t.detectors → flips t.rows errors d ≡ false
-  pub observed : (o : ℕ) × (t.detectors ≤ o) × (flips t.rows errors o ≡ true)
+  pub undetected : (d : ℕ) → d < t.detectors → flipped_by_rows t.rows errors d ≡ false
+  pub observed : (o : ℕ) × (t.detectors ≤ o) × (flipped_by_rows t.rows errors o ≡ true)
 
 -- a least logical error: each of its errors once, at most `most` of them, and no logical error has fewer
 pub record IsLeast (t : ErrorTable) (most : ℕ) (errors : List ℕ) : Type 0 where

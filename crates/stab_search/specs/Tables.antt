@@ -18,6 +18,6 @@ abbrev pub row : List (List ℕ) → ℕ → List ℕ
 row rows r = slice_index_or rows r []
 
 -- whether errors together flip a detector or observable: an odd number of them flip it, so an error that is there twice cancels
-abbrev pub flips : List (List ℕ) → List ℕ → ℕ → Bool
-flips rows [] i = false
-flips rows (r ∷ errors) i = odd i (row rows r) ⊕ flips rows errors i
+abbrev pub flipped_by_rows : List (List ℕ) → List ℕ → ℕ → Bool
+flipped_by_rows rows [] i = false
+flipped_by_rows rows (r ∷ errors) i = odd i (row rows r) ⊕ flipped_by_rows rows errors i

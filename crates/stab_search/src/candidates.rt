@@ -61,8 +61,8 @@ fn count(errors: &Errors, first: usize, detectors: &[u32], cover: &mut [usize])
     ensures covers { Covers errors.now.table.rows errors.now.pairs first [] detectors.now cover.new }
     ensures length { length cover.new ≡ length cover.old }
 {
-    for place in 0..detectors.len() {
-        count_each(errors.flipping(detectors[place]), first, cover);
+    for position in 0..detectors.len() {
+        count_each(errors.flipping(detectors[position]), first, cover);
     }
 }
 

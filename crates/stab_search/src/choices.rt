@@ -63,8 +63,8 @@ fn count_shares(errors: &Errors, weights: &[u64], detectors: &[u32], cover: &mut
     ensures covers { (e : ℕ) → e < length errors.now.table.rows → 0 < slice_index weights.now e → shares errors.now.table.rows e detectors.now ≤ slice_index cover.new e }
     ensures length { length cover.new ≡ length cover.old }
 {
-    for place in 0..detectors.len() {
-        count_each(errors.flipping(detectors[place]), weights, cover);
+    for position in 0..detectors.len() {
+        count_each(errors.flipping(detectors[position]), weights, cover);
     }
 }
 

@@ -68,24 +68,24 @@ fn way_back(
     source: usize,
 ) -> Result<Vec<usize>, AllocError> {
     let mut rows = Vec::new(alloc);
-    let mut place = Place {
+    let mut position = Place {
         node: source,
         parity: true,
     };
     for _ in 0..labels.label(source, true) {
-        if let Some(r) = edge_back(graph, bits, labels, place) {
+        if let Some(r) = edge_back(graph, bits, labels, position) {
             rows.push(r)?;
-            place = graph.across(r, place, bits);
+            position = graph.across(r, position, bits);
         }
     }
     Ok(rows)
 }
 
 /// An edge to a place with a lesser label.
-fn edge_back(graph: &Graph, bits: &[bool], labels: &Labels, place: Place) -> Option<usize> {
-    let here = labels.label(place.node, place.parity);
-    for r in graph.edges_at(place.node) {
-        let next = graph.across(*r, place, bits);
+fn edge_back(graph: &Graph, bits: &[bool], labels: &Labels, position: Place) -> Option<usize> {
+    let here = labels.label(position.node, position.parity);
+    for r in graph.edges_at(position.node) {
+        let next = graph.across(*r, position, bits);
         if labels.label(next.node, next.parity) < here {
             return Some(*r);
         }

@@ -1,7 +1,6 @@
 //! A digest of what is searched: FNV-1a, over numbers of 64 bits in the place of bytes.
 ghost use Rattle.std.specs.Prelude.{◌≡◌, ◌*◌, ◌%◌, ◌^◌, ◌∷◌, length, bit_xor};
 ghost use Rattle.stab_search.specs.SearchParts.{digest, digest_rows, digest_searched};
-ghost use Rattle.stab_search.specs.inner.Steps.{BeginsBefore};
 
 use crate::errors::Errors;
 use crate::row::Row;
@@ -44,7 +43,6 @@ fn with_rows(before: u64, rows: &[Row]) -> u64
 /// Takes what is searched into a digest.
 pub(crate) fn with_errors(before: u64, errors: &Errors) -> u64
     ensures value { result ≡ digest_searched before (record { table = errors.now.table; firsts = errors.now.firsts }) }
-    ensures begun { BeginsBefore errors.now.table errors.now.firsts }
 {
     let detectors = with(before, errors.detectors() as u64);
     let firsts = with(detectors, errors.firsts() as u64);

@@ -88,16 +88,16 @@ pub fn rows_in_order(alloc: Global, rows: &[Row], order: &[usize]) -> Result<Dis
 
 /// The numbers of rows, sorted by what the rows flip.
 fn sorted(alloc: Global, rows: &[Row]) -> Result<Vec<usize>, AllocError> {
-    let mut places = Vec::with_capacity(alloc, rows.len())?;
+    let mut positions = Vec::with_capacity(alloc, rows.len())?;
     for r in 0..rows.len() {
         let row = &rows[r];
         let start = start_of(row.numbers());
-        places.push(Place { start, row: r })?;
+        positions.push(Place { start, row: r })?;
     }
-    places.sort()?;
+    positions.sort()?;
     let mut order = Vec::with_capacity(alloc, rows.len())?;
-    for place in places.as_slice() {
-        order.push(place.row)?;
+    for position in positions.as_slice() {
+        order.push(position.row)?;
     }
     Ok(order)
 }
@@ -127,15 +127,15 @@ fn take(
     ensures there { OnOk result (HasRow distinct.new.rows.items numbers.now) }
     ensures others { OnOk result ((others : List ℕ) → HasRow distinct.old.rows.items others → HasRow distinct.new.rows.items others) }
 {
-    let place = place_of(numbers, size);
+    let position = place_of(numbers, size);
     if has_row(
         distinct.rows.as_slice(),
-        rows_at(index.as_slice(), place),
+        rows_at(index.as_slice(), position),
         numbers,
     ) {
         return Ok(());
     }
-    list(alloc, index, place, distinct.rows.len())?;
+    list(alloc, index, position, distinct.rows.len())?;
     distinct.add(alloc, numbers, r)?;
     Ok(())
 }

@@ -7,7 +7,8 @@ use crate::elimination::{Elimination, eliminate};
 use crate::errors::Errors;
 use crate::logical::is_logical;
 use crate::row::{Row, end_of_rows};
-use crate::sizes::shortest;
+use crate::search_part::SearchPart;
+use crate::sizes::first_in_part;
 use std::alloc::{AllocError, Global};
 
 /// Whether there is a logical error, of any size. Elimination finds one, or shows that there is none. What it finds is checked; if a check
@@ -48,6 +49,7 @@ fn by_elimination(alloc: Global, detectors: usize, rows: &[Row]) -> Result<Optio
 fn by_search(alloc: Global, errors: &Errors) -> Result<bool, AllocError>
     ensures decides { IfOk result (Decides errors.now.table) }
 {
-    let found = shortest(alloc, errors, 0, errors.len(), &mut Unwatched)?;
+    let whole = SearchPart::whole();
+    let found = first_in_part(alloc, errors, &whole, 0, errors.len(), &mut Unwatched)?;
     Ok(found.is_some())
 }

@@ -91,19 +91,19 @@ impl Graph {
     }
 
     /// Where edge r leads from a place; bit r is whether it flips the observable.
-    pub(crate) fn across(&self, r: usize, place: Place, bits: &[bool]) -> Place {
+    pub(crate) fn across(&self, r: usize, position: Place, bits: &[bool]) -> Place {
         if r >= self.edges.len() || r >= bits.len() {
-            return place;
+            return position;
         }
         let edge = self.edges[r];
-        let node = if edge.first == place.node {
+        let node = if edge.first == position.node {
             edge.second
         } else {
             edge.first
         };
         Place {
             node,
-            parity: place.parity ^ bits[r],
+            parity: position.parity ^ bits[r],
         }
     }
 }

@@ -44,11 +44,11 @@ fn add(
     requires count { length groups.old.weights.items ≡ length groups.old.rows.items }
     ensures added { OnOk result (IsAdded numbers.now groups.old.rows.items groups.old.weights.items groups.new.rows.items groups.new.weights.items) }
 {
-    let place = place_of(numbers, size);
+    let position = place_of(numbers, size);
     let found = find(
         groups.rows.as_slice(),
         groups.weights.as_slice(),
-        rows_at(index.as_slice(), place),
+        rows_at(index.as_slice(), position),
         numbers,
     );
     match found {
@@ -56,7 +56,7 @@ fn add(
             groups.weights[k] += 1;
         }
         None => {
-            list(alloc, index, place, groups.rows.len())?;
+            list(alloc, index, position, groups.rows.len())?;
             let row = Row::copied(alloc, numbers)?;
             groups.rows.push(row)?;
             groups.weights.push(1)?;

@@ -21,14 +21,14 @@ pub fn rows_by_detector(alloc: Global, rows: &[Row]) -> Result<Vec<Vec<usize>>, 
 fn list_row(
     alloc: Global,
     index: &mut Vec<Vec<usize>>,
-    places: &[u32],
+    positions: &[u32],
     r: usize,
 ) -> Result<(), AllocError>
     ensures others { OnOk result ((d q : ℕ) → has q (listed index.old.items d) ≡ true → has q (listed index.new.items d) ≡ true) }
-    ensures each { OnOk result ((d : ℕ) → has d places.now ≡ true → has r (listed index.new.items d) ≡ true) }
+    ensures each { OnOk result ((d : ℕ) → has d positions.now ≡ true → has r (listed index.new.items d) ≡ true) }
     ensures inside { OnOk result ((n d : ℕ) → r < n → Each (λ q. q < n) (listed index.old.items d) → Each (λ q. q < n) (listed index.new.items d)) }
 {
-    'each: for d in places {
+    'each: for d in positions {
         list(alloc, index, *d as usize, r)?;
     }
     Ok(())
@@ -38,25 +38,25 @@ fn list_row(
 pub fn list(
     alloc: Global,
     index: &mut Vec<Vec<usize>>,
-    place: usize,
+    position: usize,
     r: usize,
 ) -> Result<(), AllocError>
-    ensures here { OnOk result (listed index.new.items place ≡ listed index.old.items place ++ r ∷ []) }
-    ensures elsewhere { OnOk result ((e : ℕ) → e ≢ place → listed index.new.items e ≡ listed index.old.items e) }
+    ensures here { OnOk result (listed index.new.items position ≡ listed index.old.items position ++ r ∷ []) }
+    ensures elsewhere { OnOk result ((e : ℕ) → e ≢ position → listed index.new.items e ≡ listed index.old.items e) }
 {
-    'grow: while index.len() <= place {
+    'grow: while index.len() <= position {
         index.push(Vec::new(alloc))?;
     }
-    index[place].push(r)?;
+    index[position].push(r)?;
     Ok(())
 }
 
 /// The rows listed at a place.
-pub fn rows_at(index: &[Vec<usize>], place: usize) -> &[usize]
-    ensures value { result.now ≡ listed index.now place }
+pub fn rows_at(index: &[Vec<usize>], position: usize) -> &[usize]
+    ensures value { result.now ≡ listed index.now position }
 {
-    if place < index.len() {
-        index[place].as_slice()
+    if position < index.len() {
+        index[position].as_slice()
     } else {
         &[]
     }

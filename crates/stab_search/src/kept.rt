@@ -81,13 +81,17 @@ fn put_in_order(
 }
 
 /// The numbers at these places, 0 if there is none.
-fn numbers_at(alloc: Global, numbers: &[usize], places: &[usize]) -> Result<Vec<usize>, AllocError>
-    ensures count { IfOk result (λ v. length v.items ≡ length places.now) }
-    ensures each { IfOk result (λ v. (k : ℕ) → k < length places.now → slice_index v.items k ≡ slice_index numbers.now (slice_index places.now k)) }
+fn numbers_at(
+    alloc: Global,
+    numbers: &[usize],
+    positions: &[usize],
+) -> Result<Vec<usize>, AllocError>
+    ensures count { IfOk result (λ v. length v.items ≡ length positions.now) }
+    ensures each { IfOk result (λ v. (k : ℕ) → k < length positions.now → slice_index v.items k ≡ slice_index numbers.now (slice_index positions.now k)) }
 {
     let mut found = Vec::new(alloc);
-    'places: for k in 0..places.len() {
-        found.push(number_at(numbers, places[k]))?;
+    'positions: for k in 0..positions.len() {
+        found.push(number_at(numbers, positions[k]))?;
     }
     Ok(found)
 }

@@ -85,7 +85,7 @@ fn mask_for(rows: usize) -> u64 {
 
 /// For each value of the low bits the rows whose keys have it.
 fn rows_by_key(alloc: Global, keys: &[u64], mask: u64) -> Result<Vec<Vec<usize>>, AllocError>
-    ensures inside { IfOk result (λ v. (place : ℕ) → Each (λ r. r < length keys.now) (listed v.items place)) }
+    ensures inside { IfOk result (λ v. (position : ℕ) → Each (λ r. r < length keys.now) (listed v.items position)) }
     ensures complete { IfOk result (λ v. (r : ℕ) → r < length keys.now → has r (listed v.items (bit_and (slice_index keys.now r) mask)) ≡ true) }
 {
     let mut index = Vec::new(alloc);

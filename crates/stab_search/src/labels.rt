@@ -53,7 +53,7 @@ impl Labels {
         bits: &[bool],
         source: usize,
     ) -> Result<(), AllocError> {
-        let places = self.even.len().saturating_mul(2);
+        let positions = self.even.len().saturating_mul(2);
         let mut queue = Vec::new(alloc);
         let start = Place {
             node: source,
@@ -61,12 +61,12 @@ impl Labels {
         };
         self.lower(start, 0);
         queue.push(start)?;
-        for k in 0..places {
+        for k in 0..positions {
             if k >= queue.len() {
                 break;
             }
-            let place = queue[k];
-            self.spread_from(graph, bits, place, &mut queue)?;
+            let position = queue[k];
+            self.spread_from(graph, bits, position, &mut queue)?;
         }
         Ok(())
     }
@@ -76,12 +76,12 @@ impl Labels {
         &mut self,
         graph: &Graph,
         bits: &[bool],
-        place: Place,
+        position: Place,
         queue: &mut Vec<Place>,
     ) -> Result<(), AllocError> {
-        let next = self.label(place.node, place.parity).saturating_add(1);
-        for r in graph.edges_at(place.node) {
-            let neighbour = graph.across(*r, place, bits);
+        let next = self.label(position.node, position.parity).saturating_add(1);
+        for r in graph.edges_at(position.node) {
+            let neighbour = graph.across(*r, position, bits);
             if next < self.label(neighbour.node, neighbour.parity) {
                 self.lower(neighbour, next);
                 queue.push(neighbour)?;
@@ -90,14 +90,14 @@ impl Labels {
         Ok(())
     }
 
-    fn lower(&mut self, place: Place, label: usize) {
-        let side = if place.parity {
+    fn lower(&mut self, position: Place, label: usize) {
+        let side = if position.parity {
             self.odd.as_mut_slice()
         } else {
             self.even.as_mut_slice()
         };
-        if place.node < side.len() {
-            side[place.node] = label;
+        if position.node < side.len() {
+            side[position.node] = label;
         }
     }
 }

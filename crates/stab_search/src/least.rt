@@ -2,22 +2,14 @@ ghost use Rattle.std.specs.Prelude.{◌≡◌, length, IfOk, IfErr};
 ghost use Rattle.stab_io.specs.declared.refusal.Refusal.TheVariants.{OutOfMemory};
 ghost use Rattle.stab_search.specs.LogicalErrors.{IsAnswer, HasNoneWithin};
 ghost use Rattle.stab_search.specs.Progress.{ReportsSearch};
-ghost use Rattle.stab_search.specs.inner.Shortest.{IsFound};
 ghost use Rattle.stab_search.specs.inner.ReportedProgress.{ReportsAnswer};
 
 use crate::answer::{Answer, Progress};
-use crate::errors::Errors;
-use crate::existence::has_logical_error;
-use crate::kept::enough_of;
-use crate::sets::set_of;
-use crate::sizes::{shortest, shortest_without_pairs};
+use crate::part_search::search_part;
+use crate::search_part::SearchPart;
 use crate::table::Table;
 use stab_io::Refusal;
-use std::alloc::{AllocError, Global};
-
-/// Up to how many errors are searched for before elimination shows whether there is a logical error at all, and before pairs are left out:
-/// so few take less time and memory than these two do.
-pub(crate) const PLAIN_SIZES: usize = 3;
+use std::alloc::Global;
 
 /// The least logical error of a table, if it has at most `most` errors.
 ///
@@ -50,42 +42,9 @@ pub fn least_of<P: Progress>(
 ) -> Result<Answer, Refusal>
     ensures answer { IfOk result (IsAnswer table.now most) }
     ensures refusal { IfErr result (λ e. e ≡ OutOfMemory) }
-    ensures reported { ReportsAnswer table.now 0 most (P.heard progress.old) (P.heard progress.new) result }
+    ensures reported { ReportsAnswer table.now most (P.heard progress.old) (P.heard progress.new) result }
 {
-    let kept = enough_of(alloc, table)?;
-    let mut errors = kept.errors;
-    match find(alloc, &mut errors, most, progress)? {
-        Answer::Least(found) => {
-            let set = set_of(alloc, found.as_slice(), kept.numbers.as_slice())?;
-            Ok(Answer::Least(set))
-        }
-        Answer::NoneWithin => Ok(Answer::NoneWithin),
-        Answer::NoneAtAll => Ok(Answer::NoneAtAll),
-    }
-}
-
-/// The answer for these errors alone, by their own numbers and in any order.
-fn find<P: Progress>(
-    alloc: Global,
-    errors: &mut Errors,
-    most: usize,
-    progress: &mut P,
-) -> Result<Answer, AllocError>
-    ensures found { IfOk result (IsFound errors.old.table most) }
-    ensures reported { ReportsAnswer errors.old.table 0 most (P.heard progress.old) (P.heard progress.new) result }
-{
-    let end = most.min(errors.len());
-    let first = end.min(PLAIN_SIZES);
-    match shortest(alloc, errors, 0, first, progress)? {
-        Some(found) => return Ok(Answer::Least(found)),
-        None => {}
-    }
-    let exists = has_logical_error(alloc, errors)?;
-    if !exists {
-        return Ok(Answer::NoneAtAll);
-    }
-    match shortest_without_pairs(alloc, errors, first, end, progress)? {
-        Some(found) => Ok(Answer::Least(found)),
-        None => Ok(Answer::NoneWithin),
-    }
+    let whole = SearchPart::whole();
+    let found = search_part(alloc, table, &whole, most, progress)?;
+    Ok(found.answer)
 }

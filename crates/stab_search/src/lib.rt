@@ -1,7 +1,7 @@
 //! The least number of errors that flip an observable and no detector: an exact search in a table of errors, or as MaxSAT.
 //!
 //! - `row`, `table`: what each error flips. `answer`: the answers, and the trait that reports progress.
-//! - `least`: the call. `distinct`: errors that flip the same count once. `kept`: errors that are enough, of one of the `classes` of detectors
+//! - `least`: the call, which searches part 1 of 1. `distinct`: errors that flip the same count once. `kept`: errors that are enough, of one of the `classes` of detectors
 //!   each. `sets`: what is found, in order.
 //! - `sizes`: one error is tried, then two, and so on. `searching`: the search itself. `merging`: what errors flip together.
 //! - `errors`: the errors ready for a search. `steps`: which of them can be the first of a set. `index`, `keys`: which errors to try.
@@ -13,7 +13,8 @@
 //!   prove.
 //! - `count`: the call for how many least logical errors there are. `groups`: rows with the number of errors that have each. `counting`: the
 //!   search that counts. `choices`: which errors it tries.
-//! - `part_search`: the call for what one part of a search finds. `search_part`: parts, and their answers. `digest`: of what is searched.
+//! - `part_search`: the call for what one part of a search finds, a whole too. `search_part`: parts, and their answers. `digest`: of what is
+//!   searched.
 //! - `laws`: each table has an answer; all parts of a search are the whole search.
 //! - `literal`: a variable, or its opposite. `sums`: variables for what errors flip together. `problem`: the problem of a table of errors.
 //! - `writing`: its text.

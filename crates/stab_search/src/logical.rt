@@ -1,7 +1,7 @@
 ghost use Rattle.std.specs.Prelude.{◌≡◌, ℕ, ◌<◌, ◌≤◌, true, length, slice_index, IfOk, IfSome};
 ghost use Rattle.stab_search.specs.Ascending.{IsAscending};
 ghost use Rattle.stab_search.specs.LogicalErrors.{IsLogicalError};
-ghost use Rattle.stab_search.specs.Tables.{odd, flips};
+ghost use Rattle.stab_search.specs.Tables.{odd, flipped_by_rows};
 ghost use Rattle.stab_search.specs.inner.Lists.{Each};
 ghost use Rattle.stab_search.specs.inner.Shortest.{IsLogicalSet};
 
@@ -70,7 +70,7 @@ pub fn flipped_by(
 ) -> Result<Option<Vec<u32>>, AllocError>
     ensures inside { IfOk result (λ a. IfSome a (λ v. Each (λ r. r < length rows.now) errors.now)) }
     ensures ascending { IfOk result (λ a. IfSome a (λ v. IsAscending v.items)) }
-    ensures odd { IfOk result (λ a. IfSome a (λ v. (i : ℕ) → odd i v.items ≡ flips rows.now errors.now i)) }
+    ensures odd { IfOk result (λ a. IfSome a (λ v. (i : ℕ) → odd i v.items ≡ flipped_by_rows rows.now errors.now i)) }
 {
     let mut flipped: Vec<u32> = Vec::new(alloc);
     'each: for r in errors {

@@ -3,7 +3,7 @@
 //! No proof rests on how pairs are found: each is checked.
 ghost use Rattle.std.specs.Prelude.{◌≡◌, ◌≢◌, ◌⊎◌, ℕ, ◌<◌, true, false, List, ◌∷◌, [], length, IfOk, OnOk};
 ghost use Rattle.stab_gates.specs.Letters.{◌⊕◌};
-ghost use Rattle.stab_search.specs.Tables.{odd, row, flips};
+ghost use Rattle.stab_search.specs.Tables.{odd, row, flipped_by_rows};
 ghost use Rattle.stab_search.specs.inner.Lists.{Each};
 ghost use Rattle.stab_search.specs.inner.Pairs.{KeepFirst, IsLeftOut, ArePairs};
 
@@ -37,8 +37,8 @@ pub(crate) fn pairs_of(
     let mut sums = sums_of(alloc, rows, index, detectors)?;
     sums.sort_unstable();
     let mut pairs = Vec::new(alloc);
-    for place in 0..sums.len() {
-        compare_next(alloc, rows, firsts, sums.as_slice(), place, &mut pairs)?;
+    for position in 0..sums.len() {
+        compare_next(alloc, rows, firsts, sums.as_slice(), position, &mut pairs)?;
     }
     Ok(pairs)
 }
@@ -142,16 +142,16 @@ fn compare_next(
     rows: &[Row],
     firsts: usize,
     sums: &[Sum],
-    place: usize,
+    position: usize,
     pairs: &mut Vec<Vec<usize>>,
 ) -> Result<(), AllocError>
-    requires inside { place < length sums.now }
+    requires inside { position < length sums.now }
     requires pairs { ArePairs rows.now firsts pairs.old.items }
     ensures pairs { OnOk result (ArePairs rows.now firsts pairs.new.items) }
 {
-    let sum = sums[place];
-    let end = sums.len().min(place.saturating_add(NEAR + 1));
-    for other in place + 1..end {
+    let sum = sums[position];
+    let end = sums.len().min(position.saturating_add(NEAR + 1));
+    for other in position + 1..end {
         if sums[other].key != sum.key {
             break;
         }
@@ -302,7 +302,7 @@ fn keep_first(firsts: usize, a: usize, b: usize, c: usize, d: usize) -> bool
 /// Whether these are errors that flip nothing together.
 fn are_even(alloc: Global, rows: &[Row], numbers: &[usize]) -> Result<bool, AllocError>
     ensures inside { IfOk result (λ b. b ≡ true → Each (λ r. r < length rows.now) numbers.now) }
-    ensures even { IfOk result (λ b. b ≡ true → (i : ℕ) → flips rows.now numbers.now i ≡ false) }
+    ensures even { IfOk result (λ b. b ≡ true → (i : ℕ) → flipped_by_rows rows.now numbers.now i ≡ false) }
 {
     match flipped_by(alloc, rows, numbers)? {
         None => Ok(false),

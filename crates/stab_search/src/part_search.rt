@@ -1,20 +1,24 @@
-ghost use Rattle.std.specs.Prelude.{◌≡◌, IfOk, IfErr};
+ghost use Rattle.std.specs.Prelude.{◌≡◌, length, IfOk, IfErr};
 ghost use Rattle.stab_io.specs.declared.refusal.Refusal.TheVariants.{OutOfMemory};
-ghost use Rattle.stab_search.specs.PartSets.{IsPartOf};
 ghost use Rattle.stab_search.specs.SearchParts.{IsPartAnswer};
+ghost use Rattle.stab_search.specs.declared.answer.Answer.TheVariants.{Least};
+ghost use Rattle.stab_search.specs.inner.ReportedProgress.{AreInside, IsInTable, IsFound, ReportsPart, ReportsSizes};
 
-use crate::answer::Answer;
+use crate::answer::{Answer, Progress, Unwatched};
 use crate::digest::{EMPTY, with_errors};
 use crate::errors::Errors;
 use crate::existence::has_logical_error;
 use crate::kept::enough_of;
-use crate::least::PLAIN_SIZES;
 use crate::search_part::{PartAnswer, SearchPart};
 use crate::sets::set_of;
-use crate::sizes::first_in_part;
+use crate::sizes::{Begun, first_in_part};
 use crate::table::Table;
 use stab_io::Refusal;
 use std::alloc::{AllocError, Global};
+
+/// Up to how many errors are searched for before elimination shows whether there is a logical error at all, and before pairs are left out:
+/// so few take less time and memory than these two do.
+const PLAIN_SIZES: usize = 3;
 
 /// What one part of the search for a least logical error finds, if sets of at most `most` errors are asked for.
 ///
@@ -31,86 +35,98 @@ pub fn least_in_part(
     ensures answer { IfOk result (IsPartAnswer part table.now most) }
     ensures refusal { IfErr result (λ e. e ≡ OutOfMemory) }
 {
+    search_part(alloc, table, &part, most, &mut Unwatched)
+}
+
+/// The same; and `progress` hears of each number of errors of which the part has no set.
+pub fn search_part<P: Progress>(
+    alloc: Global,
+    table: &Table,
+    part: &SearchPart,
+    most: usize,
+    progress: &mut P,
+) -> Result<PartAnswer, Refusal>
+    ensures answer { IfOk result (IsPartAnswer part.now table.now most) }
+    ensures refusal { IfErr result (λ e. e ≡ OutOfMemory) }
+    ensures reported { ReportsPart part.now table.now most (P.heard progress.old) (P.heard progress.new) result }
+{
     let kept = enough_of(alloc, table)?;
     let mut errors = kept.errors;
     let digest = with_errors(EMPTY, &errors);
-    let found = find_in_part(alloc, &mut errors, &part, most)?;
-    let last = found.last;
-    let first = found.first;
-    match found.answer {
+    let found = find(alloc, &mut errors, part, most, progress)?;
+    let answer = in_table(alloc, found.answer, kept.numbers.as_slice())?;
+    Ok(PartAnswer {
+        digest,
+        last: found.last,
+        first: found.first,
+        answer,
+    })
+}
+
+/// What a part finds among errors that are enough, by their own numbers and in any order.
+#[derive(Drop)]
+pub struct Found {
+    pub last: usize,
+    pub first: usize,
+    pub answer: Answer,
+}
+
+/// The answer with the numbers of its errors in the table, in ascending order.
+fn in_table(alloc: Global, found: Answer, numbers: &[usize]) -> Result<Answer, AllocError>
+    requires inside { AreInside (length numbers.now) found }
+    ensures same { IfOk result (IsInTable numbers.now found) }
+{
+    match found {
         Answer::Least(own) => {
-            let set = set_of(alloc, own.as_slice(), kept.numbers.as_slice())?;
-            Ok(PartAnswer {
-                digest,
-                last,
-                first,
-                answer: Answer::Least(set),
-            })
+            let set = set_of(alloc, own.as_slice(), numbers)?;
+            Ok(Answer::Least(set))
         }
-        Answer::NoneWithin => Ok(PartAnswer {
-            digest,
-            last,
-            first,
-            answer: Answer::NoneWithin,
-        }),
-        Answer::NoneAtAll => Ok(PartAnswer {
-            digest,
-            last,
-            first,
-            answer: Answer::NoneAtAll,
-        }),
+        Answer::NoneWithin => Ok(Answer::NoneWithin),
+        Answer::NoneAtAll => Ok(Answer::NoneAtAll),
     }
 }
 
-/// What a part finds among errors that are enough, with their own numbers, in any order.
-#[derive(Drop)]
-struct PartFound {
-    last: usize,
-    first: usize,
-    answer: Answer,
-}
-
-/// What a part finds among these errors.
-fn find_in_part(
+/// What a part finds among these errors alone.
+fn find<P: Progress>(
     alloc: Global,
     errors: &mut Errors,
     part: &SearchPart,
     most: usize,
-) -> Result<PartFound, AllocError>
-    ensures found { IfOk result (λ f. IsPartOf part.now (record { table = errors.old.table; firsts = errors.old.firsts }) most f.last f.first f.answer) }
+    progress: &mut P,
+) -> Result<Found, AllocError>
+    ensures reported { ReportsSizes part.now (record { table = errors.old.table; firsts = errors.old.firsts }) 0 (IsFound part.now (record { table = errors.old.table; firsts = errors.old.firsts }) most) (P.heard progress.old) (P.heard progress.new) result }
 {
     let end = most.min(errors.len());
     let middle = end.min(PLAIN_SIZES);
-    let plain = first_in_part(alloc, errors, part, 0, middle)?;
-    let last = plain.last;
-    if let Some(found) = plain.found {
-        return Ok(PartFound {
-            last,
-            first: found.first,
-            answer: Answer::Least(found.errors),
-        });
+    match first_in_part(alloc, errors, part, 0, middle, progress)? {
+        Some(begun) => return Ok(found_with(begun)),
+        None => {}
     }
     let exists = has_logical_error(alloc, errors)?;
     if !exists {
-        return Ok(PartFound {
-            last,
+        return Ok(Found {
+            last: middle,
             first: 0,
             answer: Answer::NoneAtAll,
         });
     }
     errors.leave_out_pairs(alloc)?;
-    let others = first_in_part(alloc, errors, part, middle, end)?;
-    let last = others.last;
-    match others.found {
-        Some(found) => Ok(PartFound {
-            last,
-            first: found.first,
-            answer: Answer::Least(found.errors),
-        }),
-        None => Ok(PartFound {
-            last,
+    match first_in_part(alloc, errors, part, middle, end, progress)? {
+        Some(begun) => Ok(found_with(begun)),
+        None => Ok(Found {
+            last: end,
             first: 0,
             answer: Answer::NoneWithin,
         }),
+    }
+}
+
+fn found_with(begun: Begun) -> Found
+    ensures value { result ≡ record { last = begun.last; first = begun.first; answer = Least begun.errors } }
+{
+    Found {
+        last: begun.last,
+        first: begun.first,
+        answer: Answer::Least(begun.errors),
     }
 }

@@ -20,14 +20,14 @@ pub fn set_of(alloc: Global, found: &[usize], numbers: &[usize]) -> Result<Vec<u
 fn toggle_row(set: &mut Vec<usize>, r: usize) -> Result<(), AllocError>
     ensures value { OnOk result (set.new.items ≡ toggle r set.old.items) }
 {
-    let mut place = 0;
-    'pass: while place < set.len() && set[place] < r {
-        place += 1;
+    let mut position = 0;
+    'pass: while position < set.len() && set[position] < r {
+        position += 1;
     }
-    if place < set.len() && set[place] == r {
-        set.remove(place);
+    if position < set.len() && set[position] == r {
+        set.remove(position);
     } else {
-        set.insert(place, r)?;
+        set.insert(position, r)?;
     }
     Ok(())
 }

@@ -5,8 +5,8 @@ ghost use Rattle.stab_search.specs.SearchParts.{BeginsIn, HasNoneIn, IsBegunIn};
 ghost use Rattle.stab_search.specs.inner.Ends.{NoEnds};
 ghost use Rattle.stab_search.specs.inner.Lists.{has};
 ghost use Rattle.stab_search.specs.inner.Pairs.{ArePairs};
-ghost use Rattle.stab_search.specs.inner.Shortest.{IsShortest, IsLogicalWithin};
-ghost use Rattle.stab_search.specs.inner.ReportedProgress.{ReportsSizes};
+ghost use Rattle.stab_search.specs.inner.Shortest.{IsLogicalWithin};
+ghost use Rattle.stab_search.specs.inner.ReportedProgress.{IsFirst, ReportsSizes};
 
 use crate::answer::Progress;
 use crate::errors::Errors;
@@ -14,96 +14,37 @@ use crate::search_part::SearchPart;
 use crate::searching::search;
 use std::alloc::{AllocError, Global};
 
-/// A shortest logical error, in any order, if it has at most `most` errors. None has `from` errors or fewer.
-pub fn shortest<P: Progress>(
-    alloc: Global,
-    errors: &Errors,
-    from: usize,
-    most: usize,
-    progress: &mut P,
-) -> Result<Option<Vec<usize>>, AllocError>
-    requires order { from ≤ most }
-    requires none { HasNoneWithin errors.now.table from }
-    ensures some { IfOk result (λ a. IfSome a (λ v. IsShortest errors.now.table most v.items)) }
-    ensures none { IfOk result (λ a. IfNone a (HasNoneWithin errors.now.table most)) }
-    ensures reported { ReportsSizes errors.now.table from most (P.heard progress.old) (P.heard progress.new) result }
-{
-    let whole = SearchPart::whole();
-    let firsts = errors.firsts();
-    'sizes: for left in from..most {
-        match of_one_more(alloc, errors, firsts, &whole, left)? {
-            Some(found) => return Ok(Some(found.errors)),
-            None => progress.none_within(left + 1),
-        }
-    }
-    Ok(None)
-}
-
-/// The same, after pairs of errors are left out that need not be tried together.
-pub fn shortest_without_pairs<P: Progress>(
-    alloc: Global,
-    errors: &mut Errors,
-    from: usize,
-    most: usize,
-    progress: &mut P,
-) -> Result<Option<Vec<usize>>, AllocError>
-    requires order { from ≤ most }
-    requires none { HasNoneWithin errors.old.table from }
-    ensures some { IfOk result (λ a. IfSome a (λ v. IsShortest errors.old.table most v.items)) }
-    ensures none { IfOk result (λ a. IfNone a (HasNoneWithin errors.old.table most)) }
-    ensures reported { ReportsSizes errors.old.table from most (P.heard progress.old) (P.heard progress.new) result }
-{
-    errors.leave_out_pairs(alloc)?;
-    shortest(alloc, errors, from, most, progress)
-}
-
-/// A logical error, in any order, and the number of the error with which the search for it began.
+/// A logical error, in any order.
 #[derive(Drop)]
 pub struct Begun {
+    /// Up to how many errors the part has no set.
+    pub last: usize,
+    /// The error with which the search for this one began.
     pub first: usize,
     pub errors: Vec<usize>,
 }
 
-/// What a part of a search found.
-#[derive(Drop)]
-pub struct PartSizes {
-    /// Up to how many errors the part has no set.
-    pub last: usize,
-    /// A logical error of at most one more error, if one was found.
-    pub found: Option<Begun>,
-}
-
 /// What a part of a search finds with more than `from` errors and at most `most`: one number after another is tried, until a logical error
-/// is found.
-pub fn first_in_part(
+/// is found. `progress` hears of each number of which the part has no set.
+pub fn first_in_part<P: Progress>(
     alloc: Global,
     errors: &Errors,
     part: &SearchPart,
     from: usize,
     most: usize,
-) -> Result<PartSizes, AllocError>
+    progress: &mut P,
+) -> Result<Option<Begun>, AllocError>
     requires order { from ≤ most }
-    ensures within { IfOk result (λ s. (from ≤ s.last) × (s.last ≤ most)) }
-    ensures none { IfOk result (λ s. (size : ℕ) → from < size → size ≤ s.last → HasNoneIn part.now (record { table = errors.now.table; firsts = errors.now.firsts }) size) }
-    ensures some { IfOk result (λ s. IfSome s.found (λ b. (s.last < most) × IsBegunIn part.now (record { table = errors.now.table; firsts = errors.now.firsts }) (s.last + 1) b.first b.errors.items)) }
-    ensures all { IfOk result (λ s. IfNone s.found (s.last ≡ most)) }
+    ensures reported { ReportsSizes part.now (record { table = errors.now.table; firsts = errors.now.firsts }) from (IsFirst part.now (record { table = errors.now.table; firsts = errors.now.firsts }) most) (P.heard progress.old) (P.heard progress.new) result }
 {
     let firsts = errors.firsts();
     'sizes: for left in from..most {
         match of_one_more(alloc, errors, firsts, part, left)? {
-            Some(found) => {
-                return Ok(PartSizes {
-                    last: left,
-                    found: Some(found),
-                });
-            }
-            None => {}
+            Some(begun) => return Ok(Some(begun)),
+            None => progress.none_within(left + 1),
         }
     }
-    Ok(PartSizes {
-        last: most,
-        found: None,
-    })
+    Ok(None)
 }
 
 /// A logical error of at most `left + 1` errors, which begins in a part of the search, if there is one of this size and none of fewer. Errors
@@ -117,13 +58,14 @@ fn of_one_more(
 ) -> Result<Option<Begun>, AllocError>
     requires within { firsts ≤ length errors.now.table.rows }
     requires pairs { ArePairs errors.now.table.rows firsts errors.now.pairs }
-    ensures some { IfOk result (λ a. IfSome a (λ b. IsBegunIn part.now (record { table = errors.now.table; firsts = firsts }) (left + 1) b.first b.errors.items)) }
+    ensures some { IfOk result (λ a. IfSome a (λ b. (b.last ≡ left) × IsBegunIn part.now (record { table = errors.now.table; firsts = firsts }) (b.last + 1) b.first b.errors.items)) }
     ensures none { IfOk result (λ a. IfNone a (HasNoneIn part.now (record { table = errors.now.table; firsts = firsts }) (left + 1))) }
 {
     let mut cover = vec![in alloc; 0; errors.len()]?;
     'firsts: for first in 0..firsts {
         if let Some(found) = with_first(alloc, errors, part, first, left, cover.as_mut_slice())? {
             return Ok(Some(Begun {
+                last: left,
                 first,
                 errors: found,
             }));

@@ -65,8 +65,8 @@ fn may_move(errors: &Errors, flipped: &[u32], numbers: &[u32], step: usize) -> b
     let mut key = 0;
     for d in errors.detectors_of(numbers) {
         match flipped.binary_search(d) {
-            Ok(place) if place >= step && place < flipped.len() => {
-                key ^= errors.number(flipped[place - step] as usize);
+            Ok(position) if position >= step && position < flipped.len() => {
+                key ^= errors.number(flipped[position - step] as usize);
             }
             _ => return false,
         }
@@ -87,8 +87,8 @@ fn lower_by(
             break;
         }
         match flipped.binary_search(&d) {
-            Ok(place) if place >= step && place < flipped.len() => {
-                lower.push(flipped[place - step])?;
+            Ok(position) if position >= step && position < flipped.len() => {
+                lower.push(flipped[position - step])?;
             }
             _ => lower.push(d)?,
         }

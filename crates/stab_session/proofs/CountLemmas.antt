@@ -10,7 +10,7 @@ pub match-weaker : {X : Type 0} (A B : Type 0) (P Q : X → Type 0) (o : Option 
 match-weaker A B P Q None f g h = f h
 match-weaker A B P Q (Some x) f g h = g x h
 
--- the last of the steps up to a place is that of the checkpoints at or before it
+-- the last of the steps up to a step is that of the checkpoints at or before it
 last-is : (p m a : ℕ) (cs : List Checkpoint) → m ≤ length cs → All (λ c. c.step < p + 1) (take m cs) → IfSome (slice_get cs m) (λ c. p + 1 ≤ c.step)
     → last_until p a (checkpoint_steps cs) ≡ last_of a (checkpoint_steps (take m cs))
 last-is p zero a [] within front following = refl

@@ -6,7 +6,7 @@ pub record IsEnded (n window : ℕ) (a : Point) (last new : PropagationState) : 
   pub quiet : IsConjugated n last.letters (member a.trace) (member a.trace)
   pub blank : (base : ℕ) → IsGone n window (frame_at base new)
 
--- points of a run after a place of it
+-- points of a run after a step of it
 pub rest-point : (n : ℕ) (coins : ℕ → Bool) (xs back : List Step) (i : ℕ) → drop i xs ≡ back → (m : ℕ)
     → point_after n coins (take (i + m) xs) origin ≡ point_after n coins (take m back) (point_after n coins (take i xs) origin)
 rest-point n coins xs back i following m =

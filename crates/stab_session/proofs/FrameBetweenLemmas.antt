@@ -4,7 +4,7 @@ use Rattle.stab_recording.proofs.FlippedLemmas.{flips-free}
 use Rattle.stab_recording.proofs.RestPropagatedLemmas.{flags-counted, rest-flags}
 use Rattle.stab_session.proofs.SamePivotsLemmas.{IsReached, reached-on, pivots-distinct, flags-distinct, gates-free}
 
--- the steps of a run up to a place are some, if this many of those after another place are
+-- the steps of a run up to a step are some, if this many of those after another step are
 
 steps-on : (i m : ℕ) (xs zs : List Step) → take m (drop i xs) ≡ zs → take (i + m) xs ≡ take i xs ++ zs
 steps-on i m xs zs is = take-add i m xs ∙ ap (λ ws. take i xs ++ ws) is

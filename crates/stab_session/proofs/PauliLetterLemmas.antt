@@ -1,7 +1,7 @@
 -- Letters at some qubits, multiplied onto a string one after another.
 use Rattle.stab_session.proofs.Names.{◌≡◌, ℕ, ◌+◌, ◌≤◌, ◌<◌, sym, ◌∙◌, ap, subst, List, [], ◌∷◌, length, drop, replicate, get_or, set, All, length-replicate, length-set, set-get_or, at_drop_more, at_drop_all, Letter, I, letter_product, single, string_product, string_product-blank, string_product-blank_right, string_product-assoc, string_product-comm, length-string_product, string_product-set, letters_on}
 
--- the qubit at a place of a list of them is there
+-- the qubit at a position of a list of them is there
 pub qubit-fits : (n : ℕ) (qs : List ℕ) (i q : ℕ) → i < length qs → q ≡ get_or qs i q → All (λ k. k < n) qs → q < n
 qubit-fits n qs i q lt is fit = subst (λ k. k < n) (sym is) (fit i q lt)
 
@@ -19,7 +19,7 @@ one-multiplied n q l qs s e lt =
     ∙ string_product-assoc (letters_on n l qs) (single n q l).letters s
     ∙ ap (string_product (letters_on n l qs)) (times-single n q l s e lt)
 
--- from one place to the next
+-- from one position to the next
 pub next-multiplied : (n : ℕ) (l : Letter) (qs : List ℕ) (i q : ℕ) (s t all : List Letter) → i < length qs → q ≡ get_or qs i q → length s ≡ n → q < n
     → t ≡ set s q (letter_product l (get_or s q I)) → string_product (letters_on n l (drop i qs)) s ≡ all → string_product (letters_on n l (drop (i + 1) qs)) t ≡ all
 next-multiplied n l qs i q s t all lt is size fit now left =

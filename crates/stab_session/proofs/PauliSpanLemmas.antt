@@ -25,7 +25,7 @@ interleaved-look-within window olds news (p ∷ ps) back gates near =
         all-rest (LooksWithin window) olds (p ++ (interleaved olds ps ++ back))
         (subst (All (LooksWithin window)) (regrouped olds (interleaved olds ps)) near)
 
--- the steps from one place on, by those up to another
+-- the steps from one step on, by those up to another
 left-is : (first end : ℕ) (xs zs : List Step) → first ≤ end → take (end - first) (drop first xs) ≡ zs → drop first xs ≡ zs ++ drop end xs
 left-is first end xs zs le is =
     sym (take-append-drop (end - first) (drop first xs))

@@ -1,4 +1,4 @@
--- The rest of a run: from a place on, before which it differs by a frame from another run that has the same steps there, what it gives, and
+-- The rest of a run: from a step on, before which it differs by a frame from another run that has the same steps there, what it gives, and
 -- where it ends, if the frame was propagated over these steps.
 use Rattle.stab_session.proofs.Names.{◌≡◌, ℕ, ◌+◌, ◌≤◌, refl, sym, ◌∙◌, ap, subst, Bool, ◌⊎◌, inl, inr, List, All, length, take, drop, take-append-drop, All-drop, TableauState, member, IsConjugated, Step, ones, Point, RunOutput, origin, point_after, outputs, all_coins_of, StepFits, AgreeAt, AgreeBack, with_coin, after-append, coins-are, same_coins, flips_over, PivotsState, AreTrue, pivot_at, LooksWithin, MayHaveCoin, PropagationState, frame_at, Checkpoint, IsCheckpoint, AreInOrder, IsRestFrame, PointsDifferBy, All-take, group-origin}
 use Rattle.stab_session.proofs.EndingLemmas.{IsEnded, ending-flips, endings}

@@ -84,7 +84,7 @@ piece-same n coins strings xs zs ws a same = record {
 }
 
 module _ (n : ℕ) (coins : ℕ → Bool) (strings : ℕ → Option (List Letter)) (l m : Letter) (qs rs : List ℕ) (left : All (λ q. q < n) qs) (right : All (λ q. q < n) rs) where
-  -- gates in the place of others
+  -- gates instead of others
   pub gates-same : (zs ws : List Step) (a : Point) → All (StepFits n) ws → IsReached n coins a → AreSamePivots n coins strings zs ws (point_after n coins (map (one (gate_of l)) qs) a)
       → AreSamePivots n coins strings (map (one (gate_of l)) qs ++ zs) (map (one (gate_of m)) rs ++ ws) a
   gates-same zs ws a fits r same = record {

@@ -303,7 +303,7 @@ ascending-from p K L a step (c ∷ cs) h t f s =
     let place = moved-within p.old_end p.new_end c.step L (near-le K L c.step (checkpoint_steps cs) h.2) (omega arith) in
     (omega arith, ascending-from p K L c.step (step_among_new p c) cs h.2 t f (omega arith))
 
--- and their places among other steps
+-- and their positions among other steps
 pub ascending-following : (p : Plan) (K L step n : ℕ) (cs : List Checkpoint) → Near K (checkpoint_steps cs ++ L ∷ [])
     → IfSome (slice_get cs n) (λ c. p.old_end ≤ c.step) → p.old_end ≤ L → p.total ≡ p.new_end + (L - p.old_end) → p.total < 2 ^ 64
     → step ≤ p.new_end → Ascending p step (drop n cs)

@@ -28,7 +28,7 @@ span-reported edit old new s e t few_old few_new =
       new_end = new_is;
     }
 
--- of a deletion it is that of putting an item in the other's place that has no steps
+-- of a deletion it is that of a replacement by an item that has no steps
 pub span-deleted : (x : OneItem) (at : Path) (old now new : List OneItem) (s : Span) → edited (Delete at) old ≡ Ok new → unroll (listed now) ≡ unroll (listed new)
     → IsSpanNow (Replace at x) old now now s → IsSpanNow (Delete at) old now new s
 span-deleted x at old now new s e same is =

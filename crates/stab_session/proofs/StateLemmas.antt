@@ -1,4 +1,4 @@
--- States put in place of those of checkpoints, from the last on.
+-- States that replace those of checkpoints, from the last on.
 use Rattle.stab_session.proofs.Names.{◌≡◌, ℕ, zero, suc, ◌-◌, ◌<◌, ◌≤◌, refl, ◌∙◌, ap, arith, List, [], ◌∷◌, ◌++◌, length, take, drop, map, reverse, set, get_or, length-map, length-reverse, length-append, length-take, length-drop, reverse-reverse, take-take, TableauState, Checkpoint, Meeting, moved_checkpoint, all_saved, with_states, OldRest, checkpoints_moved}
 
 -- the last state is put first: then the others are put before it

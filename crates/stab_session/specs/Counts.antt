@@ -12,7 +12,7 @@ abbrev pub AgreeAsFarAsLooked : ℕ → (ℕ → Bool) → List Step → Point �
 AgreeAsFarAsLooked n coins xs a b =
     MayHaveCoin n coins xs a b.coin × (window : ℕ) × (looks_too_far window xs ≡ false) × AgreeBack n window (with_coin b.coin a) b
 
--- of steps in order the last that is not after a place, and the given one if none is
+-- of steps in order the last that is not after another step, and the given one if none is
 abbrev pub last_until : ℕ → ℕ → List ℕ → ℕ
 last_until place a [] = a
 last_until place a (b ∷ more) = if nat_le b place then last_until place b more else a

@@ -269,7 +269,7 @@ impl Recording {
             mut passed,
             rest,
         } = conjugating;
-        flip_outputs(&mut self.outputs, from, &rest.propagation, 0);
+        flip_outputs(&mut self.outputs, from, &rest.propagation);
         sum_additions(&mut self.observables, self.outputs.additions.as_slice());
         passed.reverse();
         self.put_rest(rest, before, &mut passed, stride);

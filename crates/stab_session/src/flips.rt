@@ -4,7 +4,7 @@ ghost use Rattle.stab_run.specs.Cuts.{front_of, rest_of};
 ghost use Rattle.stab_run.specs.ProgramStates.{output_of};
 ghost use Rattle.stab_frames.specs.Flips.{flipped, flipped_additions, flipped_output};
 
-use stab_frames::{Propagation, between};
+use stab_frames::Propagation;
 use stab_run::{Addition, Lengths, Outputs};
 
 /// Inverts bits if the flips are 1. If there are no more flips they are as they are.
@@ -45,19 +45,12 @@ fn flip_additions_from(additions: &mut Vec<Addition>, from: usize, flips: &[Addi
     flip_additions(rest, flips);
 }
 
-/// Flips what a run gave after these lengths, as a frame says that passed what is there, after this many records. The
-/// flags of coin numbers are as they were. It takes no memory.
-pub fn flip_outputs(
-    outputs: &mut Outputs,
-    from: Lengths,
-    propagation: &Propagation,
-    compared: usize,
-)
-    ensures value { output_of outputs.new ≡ joined (front_of from (output_of outputs.old)) (flipped_output (rest_of from (output_of outputs.old)) (record propagation.now.flips { records = drop compared propagation.now.flips.records; free = [] })) }
+/// Flips what a run gave after these lengths, as a frame says that was propagated over what is there. The flags of coin numbers are as
+/// they were. It takes no memory.
+pub fn flip_outputs(outputs: &mut Outputs, from: Lengths, propagation: &Propagation)
+    ensures value { output_of outputs.new ≡ joined (front_of from (output_of outputs.old)) (flipped_output (rest_of from (output_of outputs.old)) (record propagation.now.flips { free = [] })) }
 {
-    let records = propagation.records();
-    let since = between(records, compared, records.len());
-    flip_from(&mut outputs.records, from.records, since);
+    flip_from(&mut outputs.records, from.records, propagation.records());
     flip_from(&mut outputs.outcomes, from.free, propagation.outcomes());
     flip_from(
         &mut outputs.detectors,

@@ -21,6 +21,7 @@ use stab_instructions::Kind;
 use stab_io::Refusal;
 use stab_items::Part;
 use stab_pauli::Pauli;
+use stab_tableau::GateImages;
 use std::alloc::Global;
 
 /// A Pauli gate on each of some qubits, one after another.
@@ -40,18 +41,20 @@ fn no_gates() -> PauliGates<'static>
     }
 }
 
-/// The letter of a Pauli gate.
+/// The letter of a Pauli gate, which changes signs alone.
 fn gate_letter(gate: Gate) -> Option<Letter>
     ensures some { IfSome result (λ l. gate_of l ≡ gate) }
     ensures none { IfNone result (is_pauli_gate gate ≡ false) }
 {
-    match gate {
-        Gate::I => Some(Letter::I),
-        Gate::X => Some(Letter::X),
-        Gate::Y => Some(Letter::Y),
-        Gate::Z => Some(Letter::Z),
-        Gate::H | Gate::S | Gate::SDag | Gate::CXyz | Gate::CZyx => None,
-        Gate::SqrtX | Gate::SqrtXDag | Gate::SqrtY | Gate::SqrtYDag => None,
+    let images = GateImages::of(gate);
+    if images.of_x.letter != Letter::X || images.of_z.letter != Letter::Z {
+        return None;
+    }
+    match (images.of_x.negative, images.of_z.negative) {
+        (false, false) => Some(Letter::I),
+        (false, true) => Some(Letter::X),
+        (true, true) => Some(Letter::Y),
+        (true, false) => Some(Letter::Z),
     }
 }
 

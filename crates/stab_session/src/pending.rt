@@ -16,7 +16,7 @@ pub enum Pending {
     Inserted(Path),
     /// With the old item.
     Replaced(Path, Item),
-    /// With the item that is to be deleted, in whose place there is one that is for nothing.
+    /// With the item that is to be deleted, where the circuit has an unused one meanwhile.
     Deleted(Path, Item),
 }
 

@@ -14,7 +14,7 @@ use stab_items::Span;
 use stab_recording::{Checkpoint, Meeting, apply_frame, save_all, shifted, take_moved};
 use stab_tableau::CompactTableau;
 
-/// The run from a checkpoint on, which a frame conjugates, and which moves to another place.
+/// The run from a checkpoint on, which a frame conjugates, and which moves to another step.
 #[derive(Drop)]
 pub(crate) struct OldRest {
     /// The number of that checkpoint.
@@ -44,7 +44,7 @@ pub(crate) fn end_place(
     }
 }
 
-/// Puts states in place of those of checkpoints, from a place on. It takes no memory.
+/// Replaces the states of checkpoints from a position on. It takes no memory.
 fn put_states(checkpoints: &mut Vec<Checkpoint>, from: usize, states: &mut Vec<CompactTableau>)
     requires in_range { from + length states.old.items ≤ length checkpoints.old.items }
     ensures value { checkpoints.new.items ≡ take from checkpoints.old.items ++ with_states states.old.items (drop from checkpoints.old.items) }

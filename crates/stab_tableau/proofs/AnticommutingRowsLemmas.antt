@@ -1,10 +1,10 @@
 -- Rows that anticommute in a group of 32 qubits: a walk over the letters that are not I, which makes the mask of the rows whose letters
 -- anticommute with them.
-use Rattle.stab_tableau.proofs.Names.{◌≡◌, ◌≢◌, ℕ, ◌+◌, ◌<◌, true, false, inl, inr, sym, ◌∙◌, ap, subst, List, length, arith, ◌⊎◌, cases_order, Letter, I, letters_anticommute, letters_anticommute-I, chooses, clash, InverseRow, letter_at, row_place, row_letter}
+use Rattle.stab_tableau.proofs.Names.{◌≡◌, ◌≢◌, ℕ, ◌+◌, ◌<◌, true, false, inl, inr, sym, ◌∙◌, ap, subst, List, length, arith, ◌⊎◌, cases_order, Letter, I, letters_anticommute, letters_anticommute-I, chooses, clash, InverseRow, letter_at, row_position, row_letter}
 
 -- what the mask says of qubit k of a group: the rows that anticommute with its letter
 abbrev pub FindsAnticommuting : ℕ → ℕ → ℕ → List Letter → Type 0
-FindsAnticommuting mask first k letters = (w : InverseRow) → chooses mask (row_place w k) ≡ letters_anticommute (row_letter w) (letter_at letters (first + k))
+FindsAnticommuting mask first k letters = (w : InverseRow) → chooses mask (row_position w k) ≡ letters_anticommute (row_letter w) (letter_at letters (first + k))
 
 -- no row anticommutes with the letter I
 pub commutes-I : (w : InverseRow) (letters : List Letter) (q : ℕ) → letter_at letters q ≡ I → letters_anticommute (row_letter w) (letter_at letters q) ≡ false
@@ -14,13 +14,13 @@ commutes-I w letters q e = ap (letters_anticommute (row_letter w)) e ∙ letters
 pub record AreDistinct (first rest mask : ℕ) (letters : List Letter) : Type 0 where
   pub few : (k : ℕ) → k < 64 → chooses rest k ≡ true → k < 32
   pub inside : (k : ℕ) → k < 64 → chooses rest k ≡ true → first + k < length letters
-  pub left : (k : ℕ) → k < 32 → chooses rest k ≡ true → (w : InverseRow) → chooses mask (row_place w k) ≡ false
+  pub left : (k : ℕ) → k < 32 → chooses rest k ≡ true → (w : InverseRow) → chooses mask (row_position w k) ≡ false
   pub done : (k : ℕ) → k < 32 → chooses rest k ≡ false → FindsAnticommuting mask first k letters
 
 -- one letter further
 module _ (first rest mask : ℕ) (letters : List Letter) (distinct : AreDistinct first rest mask letters) (b new next : ℕ)
-    (here : (w : InverseRow) → chooses new (row_place w b) ≡ letters_anticommute (row_letter w) (letter_at letters (first + b)))
-    (others : (w : InverseRow) (j : ℕ) → j ≢ b → chooses new (row_place w j) ≡ chooses mask (row_place w j))
+    (here : (w : InverseRow) → chooses new (row_position w b) ≡ letters_anticommute (row_letter w) (letter_at letters (first + b)))
+    (others : (w : InverseRow) (j : ℕ) → j ≢ b → chooses new (row_position w j) ≡ chooses mask (row_position w j))
     (gone : chooses next b ≡ false) (kept : (j : ℕ) → j ≢ b → j < 64 → chooses next j ≡ chooses rest j) where
   other : (j : ℕ) → chooses next j ≡ true → j ≢ b
   other j chosen e = clash (chooses next b) (ap (chooses next) (sym e) ∙ chosen) gone
@@ -29,16 +29,16 @@ module _ (first rest mask : ℕ) (letters : List Letter) (distinct : AreDistinct
   before j lj chosen = sym (kept j (other j chosen) lj) ∙ chosen
 
   done-next : (k : ℕ) → k < 32 → chooses next k ≡ false → FindsAnticommuting new first k letters
-  done-next k lk none w = by_place (cases_order k b)
+  done-next k lk none w = by_position (cases_order k b)
     where
-      away : k ≢ b → chooses new (row_place w k) ≡ letters_anticommute (row_letter w) (letter_at letters (first + k))
+      away : k ≢ b → chooses new (row_position w k) ≡ letters_anticommute (row_letter w) (letter_at letters (first + k))
       away ne = others w k ne ∙ distinct.done k lk (sym (kept k ne (omega arith)) ∙ none) w
 
-      by_place : (k ≡ b) ⊎ ((k < b) ⊎ (b < k)) → chooses new (row_place w k) ≡ letters_anticommute (row_letter w) (letter_at letters (first + k))
-      by_place (inl e) =
-          subst (λ j. chooses new (row_place w j) ≡ letters_anticommute (row_letter w) (letter_at letters (first + j))) (sym e) (here w)
-      by_place (inr (inl lt)) = away (omega arith)
-      by_place (inr (inr gt)) = away (omega arith)
+      by_position : (k ≡ b) ⊎ ((k < b) ⊎ (b < k)) → chooses new (row_position w k) ≡ letters_anticommute (row_letter w) (letter_at letters (first + k))
+      by_position (inl e) =
+          subst (λ j. chooses new (row_position w j) ≡ letters_anticommute (row_letter w) (letter_at letters (first + j))) (sym e) (here w)
+      by_position (inr (inl lt)) = away (omega arith)
+      by_position (inr (inr gt)) = away (omega arith)
 
   pub distinct-next : AreDistinct first next new letters
   distinct-next = record {

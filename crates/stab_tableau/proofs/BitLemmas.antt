@@ -56,7 +56,7 @@ bit-identity n k =
     ∙ bit-product n (identity n).letters (identity n).letters k
     ∙ parity-self (bit_at n (identity n).letters k)
 
--- places
+-- positions
 
 pub nat-distinct : (a b : ℕ) → a ≢ b → (a < b) ⊎ (b < a)
 nat-distinct a b ne = by_test (nat_lt a b) refl
@@ -65,7 +65,7 @@ nat-distinct a b ne = by_test (nat_lt a b) refl
     by_test true e = inl (ltb-true a b e)
     by_test false e = inr (let le = ltb-false a b e in omega arith)
 
--- what holds below a place and there holds up to it
+-- what holds below a position and there holds up to it
 pub up-to : (P : ℕ → Type 0) (k : ℕ) → ((j : ℕ) → j < k → P j) → P k → (j : ℕ) → j < suc k → P j
 up-to P k f e j lt = elim (eqb_tells j k) [
   | inl same ↦ subst P (sym same.1) e
@@ -74,23 +74,23 @@ up-to P k f e j lt = elim (eqb_tells j k) [
 
 -- the first 1 of a test below a bound, if there is one
 pub record HasFirst (f : ℕ → Bool) (m : ℕ) : Type 0 where
-  pub place : ℕ
-  pub below : place < m
-  pub one : f place ≡ true
-  pub before : (j : ℕ) → j < place → f j ≡ false
+  pub position : ℕ
+  pub below : position < m
+  pub one : f position ≡ true
+  pub before : (j : ℕ) → j < position → f j ≡ false
 
 pub find-first : (f : ℕ → Bool) (m : ℕ) → ((j : ℕ) → j < m → f j ≡ false) ⊎ HasFirst f m
 find-first f zero = inl (λ j lt. absurd (omega arith))
 find-first f (suc m) = elim (find-first f m) [
-  | inr h ↦ inr (record { place = h.place; below = let b = h.below in omega arith; one = h.one; before = h.before })
+  | inr h ↦ inr (record { position = h.position; below = let b = h.below in omega arith; one = h.one; before = h.before })
   | inl none ↦ by_bit none (f m) refl
 ]
   where
     by_bit : ((j : ℕ) → j < m → f j ≡ false) → (b : Bool) → f m ≡ b → ((j : ℕ) → j < suc m → f j ≡ false) ⊎ HasFirst f (suc m)
-    by_bit none true e = inr (record { place = m; below = omega arith; one = e; before = none })
+    by_bit none true e = inr (record { position = m; below = omega arith; one = e; before = none })
     by_bit none false e = inl (up-to (λ j. f j ≡ false) m none e)
 
--- a first 1 is at one place
+-- a first 1 is at one position
 pub first-one : (n : ℕ) (p : List Letter) (j k : ℕ) → IsFirst n p j → IsFirst n p k → j ≡ k
 first-one n p j k a b = elim (eqb_tells j k) [
   | inl same ↦ same.1

@@ -1,4 +1,4 @@
--- The end of an elimination: rows that have come to the last place are the reduced rows of their group.
+-- The end of an elimination: rows that have come to the last position are the reduced rows of their group.
 use Rattle.stab_tableau.proofs.Names.{eqb_tells, ◌≡◌, ◌≢◌, ℕ, zero, suc, ◌+◌, ◌<◌, ◌≤◌, Bool, true, false, ◌&&◌, inl, inr, refl, sym, ◌∙◌, ap, subst, List, [], ◌∷◌, length, arith, Letter, ◌⊕◌, Signed, string_product, Rows, parity-self, parity-mid, length-string_product, clash, bit_at, IsLead, IsRowAt, AreRowsFrom, AreReduced, IsLinear, HasCome}
 use Rattle.std.proofs.Common.{◌⊎◌}
 use Rattle.stab_tableau.proofs.BitLemmas.{bit-product, bits-determine, nat-distinct, up-to}
@@ -90,7 +90,7 @@ module _ (member : Signed → Bool) (n used : ℕ) (xs : List Signed) (h : HasCo
         ⊕ residue-row k b lb a (omega (arith, ne)) (omega arith) i)
   ]
 
-  -- a place is the lead of one of the first rows, or of none
+  -- a position is the lead of one of the first rows, or of none
   search_lead : (k a : ℕ) → ((b : ℕ) → b < a → h.lead b ≢ k) ⊎ ((b : ℕ) × (b < a) × (h.lead b ≡ k))
   search_lead k zero = inl (λ b lb. absurd (omega arith))
   search_lead k (suc a) = elim (search_lead k a) [

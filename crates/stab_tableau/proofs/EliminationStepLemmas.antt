@@ -31,7 +31,7 @@ abbrev pub at : ℕ → List Signed → ℕ → Signed
 at n xs a = get_or xs a (identity n)
 
 module _ (member : Signed → Bool) (n k used : ℕ) (xs ys : List Signed) (h : HasCome member k used (rows_of n xs)) where
-  -- two rows that are left change places
+  -- two rows that are left are exchanged
   module _ (p : ℕ) (le : used ≤ p) (lt : p < length xs) (x : AreExchanged used p (rows_of n xs) (rows_of n ys)) where
     there : (a : ℕ) → a < length ys → exchanged used p a < length xs
     there a la = exchanged-below (length xs) used p a (omega arith) lt (let c = x.count in omega arith)

@@ -1,4 +1,4 @@
--- Exchanges: the number of the row at a place after two have changed places.
+-- Exchanges: the number of the row at a position after two were exchanged.
 use Rattle.stab_tableau.proofs.Names.{eq-eqb, eqb_tells, if◌then◌else◌, ◌≡◌, ℕ, eqb, ◌<◌, ◌≤◌, false, inl, inr, refl, sym, ◌∙◌, ap, arith, exchanged}
 use Rattle.std.proofs.Common.{◌⊎◌}
 

@@ -1,13 +1,13 @@
--- Exchanged outcomes: the stabiliser at a place where the preimage of what is measured has X or Y.
+-- Exchanged outcomes: the stabiliser at a position where the preimage of what is measured has X or Y.
 use Rattle.stab_tableau.proofs.Names.{◌≡◌, ℕ, ◌<◌, true, false, sym, ◌∙◌, ap, subst, List, length, Letter, Z, letters_anticommute, has_x, Signed, single, strings_anticommute, Phased, phased, letter_at, stabiliser_of, IsPivot, TableauState, stabilises, column, InverseRows, string_preimage, extend, IsTable, IsOnto, IsTableau}
 use Rattle.stab_tableau.proofs.HomomorphismLemmas.{kept-anticommute}
 use Rattle.stab_tableau.proofs.OneLetterLemmas.{one_letter-anticommute}
 use Rattle.stab_tableau.proofs.ColumnLemmas.{column-preimage}
 use Rattle.stab_tableau.proofs.GeneratedLemmas.{stabiliser-length, stabiliser-member}
 use Rattle.stab_tableau.proofs.DiagonalLemmas.{x-with_Z}
-use Rattle.stab_tableau.proofs.MeasureLemmas.{place-in}
+use Rattle.stab_tableau.proofs.MeasureLemmas.{position-in}
 
--- a tableau's stabiliser number k exchanges the outcomes of a string whose preimage has X or Y at place k
+-- a tableau's stabiliser number k exchanges the outcomes of a string whose preimage has X or Y at position k
 pub column-exchanges : (t : TableauState) → IsTable t.qubits t.rows → IsOnto t.qubits t.rows
     → (measured : Signed) → length measured.letters ≡ t.qubits → (k : ℕ) → k < t.qubits
     → letters_anticommute Z (letter_at (string_preimage t.qubits t.rows measured.letters).letters k) ≡ true
@@ -23,13 +23,13 @@ column-exchanges t is onto q lq k lt e = record {
       ∙ e;
 }
 
--- so does the stabiliser at a place where the preimage that was written has X or Y
-pub place-exchanges : (n : ℕ) (rows : List InverseRows) (scratch : InverseRows) → IsTableau n rows scratch
+-- so does the stabiliser at a position where the preimage that was written has X or Y
+pub position-exchanges : (n : ℕ) (rows : List InverseRows) (scratch : InverseRows) → IsTableau n rows scratch
     → (p : Signed) → length p.letters ≡ n → phased scratch.x ≡ extend (string_preimage n rows) (phased p)
     → (k : ℕ) → k < length scratch.x.letters → has_x (letter_at scratch.x.letters k) ≡ true
     → IsPivot n (stabilises (record { qubits = n; rows = rows })) p (column Z k rows)
-place-exchanges n rows scratch is p lp sent k lt here =
-    column-exchanges (record { qubits = n; rows = rows }) is.table is.onto p lp k (place-in n scratch.x is.size.x k lt here false)
+position-exchanges n rows scratch is p lp sent k lt here =
+    column-exchanges (record { qubits = n; rows = rows }) is.table is.onto p lp k (position-in n scratch.x is.size.x k lt here false)
     (ap (λ (a : Phased). letters_anticommute Z (letter_at a.letters k)) (sym sent) ∙ x-with_Z (letter_at scratch.x.letters k) ∙ here)
 
 -- as contracts see the tableau

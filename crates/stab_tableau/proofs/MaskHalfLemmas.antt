@@ -21,11 +21,11 @@ half-past mask s k le =
     unchosen (half mask s) k (omega (arith, both, none))
 
 pub half-few : (mask s k : ℕ) → chooses (half mask s) k ≡ true → k < 32
-half-few mask s k one = by_place (cases_lt k 32)
+half-few mask s k one = by_position (cases_lt k 32)
   where
-    by_place : (k < 32) ⊎ (32 ≤ k) → k < 32
-    by_place (inl lt) = lt
-    by_place (inr le) = clash (chooses (half mask s) k) one (half-past mask s k le)
+    by_position : (k < 32) ⊎ (32 ≤ k) → k < 32
+    by_position (inl lt) = lt
+    by_position (inr le) = clash (chooses (half mask s) k) one (half-past mask s k le)
 
 -- the letters of a group, by the mask of the 64 letters that hold it
 module _ (letters : List Letter) (mask group : ℕ) where

@@ -35,7 +35,8 @@ pub use Rattle.stab_pauli.specs.Phaseds.{Phased, plain, times_phase, phased_prod
 pub use Rattle.stab_pauli.specs.Rows.{Rows, row_at, product_times_i_if, product_times_i, unsigned_rows, row_at as string_at, with_row, with_letter, swapped_rows}
 pub use Rattle.stab_tableau.specs.Columns.{stabiliser_of, destabiliser_of, chosen_product, IsGenerated, AreDual, CommutesWithAll}
 pub use Rattle.stab_tableau.specs.Conjugations.{IsConjugated}
-pub use Rattle.stab_tableau.specs.Gates.{letter_at, inverse, image, image_pair, back, back_pair, positive, negated, letter_image, pair_letters, two, put_letter, put_letters, SignedLetter}
+pub use Rattle.stab_tableau.specs.Gates.{letter_at, inverse, image, image_pair, back, back_pair, positive, negated, letter_image, pair_letters, two, put_letter, put_letters}
+pub use Rattle.stab_tableau.specs.declared.images.SignedLetter.{SignedLetter}
 pub use Rattle.stab_tableau.specs.Groups.{IsStabiliserGroup, SameGroup}
 pub use Rattle.stab_tableau.specs.Laws.{AnticommutesWithMember}
 pub use Rattle.stab_tableau.specs.Pivots.{IsPivot}
@@ -51,6 +52,6 @@ pub use Rattle.stab_tableau.specs.inner.Eliminations.{IsLinear, IsBasis, HasCome
 pub use Rattle.stab_tableau.specs.inner.Frames.{SameLetters, conjugated_row, frame_letter, sign_frame}
 pub use Rattle.stab_tableau.specs.inner.InverseRows.{blank, IsTable, IsOnto, extend, IsHomomorphism, InverseRows, rows_at, one_letter, letter_preimage, string_preimage, IsOver, IsRow, GateRow, signed_preimage, AreRows, PairRows, pair_preimage, zeros_row}
 pub use Rattle.stab_tableau.specs.inner.Observables.{observed}
-pub use Rattle.stab_tableau.specs.inner.Pairs.{row_place, row_letter, row_string, ArePairsChosen, put, paired, IsPaired, with_string, rows_exchanged, IsGated, IsPairGated}
-pub use Rattle.stab_tableau.specs.inner.Supports.{Supports, Covers, OthersStay, is_known, has_place}
+pub use Rattle.stab_tableau.specs.inner.Pairs.{row_position, row_letter, row_string, ArePairsChosen, put, paired, IsPaired, with_string, rows_exchanged, TakesLetters, IsGated, IsPairGated}
+pub use Rattle.stab_tableau.specs.inner.Supports.{Supports, Covers, OthersStay, is_known, has_position}
 pub use Rattle.stab_tableau.specs.inner.Tables.{IsTableau, IsMeasured}

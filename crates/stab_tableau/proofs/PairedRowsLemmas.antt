@@ -1,5 +1,5 @@
 -- Strings that lie two by two: how those of one qubit are read and written there.
-use Rattle.stab_tableau.proofs.Names.{◌≡◌, ◌≢◌, ℕ, zero, suc, ◌*◌, ◌+◌, ◌<◌, ◌≤◌, inl, inr, refl, sym, ◌∙◌, ap, subst, List, [], ◌∷◌, length, replicate, get_or, set, arith, ◌⊎◌, length-replicate, get_or-replicate, length-set, get_or-set_same, set-set, Letter, I, Signed, identity, single, Rows, string_at, with_row, with_letter, swapped_rows, InverseRow, OfX, OfZ, InverseRows, rows_at, IsOver, paired, row_place, row_string, with_string, put, rows_exchanged, IsPaired}
+use Rattle.stab_tableau.proofs.Names.{◌≡◌, ◌≢◌, ℕ, zero, suc, ◌*◌, ◌+◌, ◌<◌, ◌≤◌, inl, inr, refl, sym, ◌∙◌, ap, subst, List, [], ◌∷◌, length, replicate, get_or, set, arith, ◌⊎◌, length-replicate, get_or-replicate, length-set, get_or-set_same, set-set, Letter, I, Signed, identity, single, Rows, string_at, with_row, with_letter, swapped_rows, InverseRow, OfX, OfZ, InverseRows, rows_at, IsOver, paired, row_position, row_string, with_string, put, rows_exchanged, IsPaired}
 
 -- lists
 
@@ -44,15 +44,15 @@ module _ (d : Signed) (r : InverseRows) where
   write_z p (x ∷ z ∷ rows) (suc q) lt =
       ap (λ k. paired (set (x ∷ z ∷ rows) k p)) (odd q) ∙ ap (λ l. record { x = x; z = z } ∷ l) (write_z p rows q (omega arith))
 
--- places
+-- positions
 
-pub places-distinct : (v w : InverseRow) (a b : ℕ) → (v ≢ w) ⊎ (a ≢ b) → row_place v a ≢ row_place w b
-places-distinct OfX OfX a b (inl ne) = λ e. ne refl
-places-distinct OfX OfX a b (inr ne) = λ e. ne (omega arith)
-places-distinct OfX OfZ a b distinct = λ e. omega arith
-places-distinct OfZ OfX a b distinct = λ e. omega arith
-places-distinct OfZ OfZ a b (inl ne) = λ e. ne refl
-places-distinct OfZ OfZ a b (inr ne) = λ e. ne (omega arith)
+pub positions-distinct : (v w : InverseRow) (a b : ℕ) → (v ≢ w) ⊎ (a ≢ b) → row_position v a ≢ row_position w b
+positions-distinct OfX OfX a b (inl ne) = λ e. ne refl
+positions-distinct OfX OfX a b (inr ne) = λ e. ne (omega arith)
+positions-distinct OfX OfZ a b distinct = λ e. omega arith
+positions-distinct OfZ OfX a b distinct = λ e. omega arith
+positions-distinct OfZ OfZ a b (inl ne) = λ e. ne refl
+positions-distinct OfZ OfZ a b (inr ne) = λ e. ne (omega arith)
 
 pub length-put : (w : InverseRow) (q : ℕ) (p : Signed) (rows : List InverseRows) → length (put w q p rows) ≡ length rows
 length-put w q p rows = length-set rows q (with_string w p (rows_at rows q))
@@ -74,44 +74,44 @@ module _ (r : Rows) (is : IsPaired r) where
   both-in : (q : ℕ) → q < length (paired r.rows) → 2 * q + 1 < length r.rows
   both-in q lt = let a = is.size in let b = pairs-are in omega arith
 
-  pub pair-in : (w : InverseRow) (q : ℕ) → q < length (paired r.rows) → row_place w q < length r.rows
+  pub pair-in : (w : InverseRow) (q : ℕ) → q < length (paired r.rows) → row_position w q < length r.rows
   pair-in OfX q lt = let a = both-in q lt in omega arith
   pair-in OfZ q lt = both-in q lt
 
-  pub pair-read : (w : InverseRow) (q : ℕ) → q < length (paired r.rows) → string_at r (row_place w q) ≡ row_string w (rows_at (paired r.rows) q)
+  pub pair-read : (w : InverseRow) (q : ℕ) → q < length (paired r.rows) → string_at r (row_position w q) ≡ row_string w (rows_at (paired r.rows) q)
   pair-read OfX q lt = read_x (identity r.qubits) _ r.rows q (both-in q lt)
   pair-read OfZ q lt = read_z (identity r.qubits) _ r.rows q (both-in q lt)
 
-  written : (w : InverseRow) (q : ℕ) (p : Signed) → q < length (paired r.rows) → paired (set r.rows (row_place w q) p) ≡ put w q p (paired r.rows)
+  written : (w : InverseRow) (q : ℕ) (p : Signed) → q < length (paired r.rows) → paired (set r.rows (row_position w q) p) ≡ put w q p (paired r.rows)
   written OfX q p lt = write_x p _ p r.rows q (both-in q lt)
   written OfZ q p lt = write_z p _ p r.rows q (both-in q lt)
 
-  pub pair-written : (w : InverseRow) (q : ℕ) (new : Rows) (p s : Signed) → q < length (paired r.rows) → new ≡ with_row r (row_place w q) p → p ≡ s
+  pub pair-written : (w : InverseRow) (q : ℕ) (new : Rows) (p s : Signed) → q < length (paired r.rows) → new ≡ with_row r (row_position w q) p → p ≡ s
       → paired new.rows ≡ put w q s (paired r.rows)
   pair-written w q new p s lt e f =
       ap (λ (t : Rows). paired t.rows) e ∙ written w q p lt ∙ ap (λ t. put w q t (paired r.rows)) f
 
 module _ (r : Rows) (is : IsPaired r) (v : InverseRow) (a : ℕ) (w : InverseRow) (b : ℕ) (la : a < length (paired r.rows)) (lb : b < length (paired r.rows)) where
   mid : Rows
-  mid = with_row r (row_place v a) (string_at r (row_place w b))
+  mid = with_row r (row_position v a) (string_at r (row_position w b))
 
   mid-paired : IsPaired mid
   unfolding mid
-  mid-paired = kept-paired r mid (row_place v a) (string_at r (row_place w b)) is refl
+  mid-paired = kept-paired r mid (row_position v a) (string_at r (row_position w b)) is refl
 
   mid-is : paired mid.rows ≡ put v a (row_string w (rows_at (paired r.rows) b)) (paired r.rows)
   unfolding mid
-  mid-is = pair-written r is v a mid (string_at r (row_place w b)) _ la refl (pair-read r is w b lb)
+  mid-is = pair-written r is v a mid (string_at r (row_position w b)) _ la refl (pair-read r is w b lb)
 
-  pub swapped-written : (new : Rows) → new ≡ swapped_rows r (row_place v a) (row_place w b) → paired new.rows ≡ rows_exchanged v a w b (paired r.rows)
+  pub swapped-written : (new : Rows) → new ≡ swapped_rows r (row_position v a) (row_position w b) → paired new.rows ≡ rows_exchanged v a w b (paired r.rows)
   unfolding mid
   swapped-written new e =
-      pair-written mid mid-paired w b new (string_at r (row_place v a)) (row_string v (rows_at (paired r.rows) a))
+      pair-written mid mid-paired w b new (string_at r (row_position v a)) (row_string v (rows_at (paired r.rows) a))
       (let l : length (paired mid.rows) ≡ length (paired r.rows) = ap length mid-is ∙ length-put v a _ (paired r.rows) in omega arith)
       e (pair-read r is v a la)
       ∙ ap (put w b (row_string v (rows_at (paired r.rows) a))) mid-is
 
--- the same by the pairs that contracts see, and by places that the program has worked out
+-- the same by the pairs that contracts see, and by positions that the program has worked out
 
 module _ (r : Rows) (is : IsPaired r) (t : List InverseRows) (view : paired r.rows ≡ t) where
   seen-in : (q : ℕ) → q < length t → q < length (paired r.rows)
@@ -123,27 +123,27 @@ module _ (r : Rows) (is : IsPaired r) (t : List InverseRows) (view : paired r.ro
   pub seen-few : (q : ℕ) → q < length t → q ≤ 1024
   seen-few q lt = pair-few r is q (seen-in q lt)
 
-  pub seen-place : (w : InverseRow) (q k : ℕ) → q < length t → k ≡ row_place w q → k < length r.rows
-  seen-place w q k lt e = let l = pair-in r is w q (seen-in q lt) in omega arith
+  pub seen-position : (w : InverseRow) (q k : ℕ) → q < length t → k ≡ row_position w q → k < length r.rows
+  seen-position w q k lt e = let l = pair-in r is w q (seen-in q lt) in omega arith
 
-  pub seen-read : (w : InverseRow) (q k : ℕ) → q < length t → k ≡ row_place w q → string_at r k ≡ row_string w (rows_at t q)
+  pub seen-read : (w : InverseRow) (q k : ℕ) → q < length t → k ≡ row_position w q → string_at r k ≡ row_string w (rows_at t q)
   seen-read w q k lt e = ap (string_at r) e ∙ pair-read r is w q (seen-in q lt) ∙ ap (λ rows. row_string w (rows_at rows q)) view
 
-  pub seen-written : (w : InverseRow) (q k : ℕ) → q < length t → k ≡ row_place w q → (new : Rows) (p s : Signed) → new ≡ with_row r k p → p ≡ s
+  pub seen-written : (w : InverseRow) (q k : ℕ) → q < length t → k ≡ row_position w q → (new : Rows) (p s : Signed) → new ≡ with_row r k p → p ≡ s
       → paired new.rows ≡ put w q s t
   seen-written w q k lt e new p s made same =
       pair-written r is w q new p s (seen-in q lt) (made ∙ ap (λ k. with_row r k p) e) same ∙ ap (put w q s) view
 
-  pub seen-distinct : (v w : InverseRow) (a b j k : ℕ) → j ≡ row_place v a → k ≡ row_place w b → (v ≢ w) ⊎ (a ≢ b) → j ≢ k
-  seen-distinct v w a b j k ej ek distinct = λ e. places-distinct v w a b distinct (sym ej ∙ e ∙ ek)
+  pub seen-distinct : (v w : InverseRow) (a b j k : ℕ) → j ≡ row_position v a → k ≡ row_position w b → (v ≢ w) ⊎ (a ≢ b) → j ≢ k
+  seen-distinct v w a b j k ej ek distinct = λ e. positions-distinct v w a b distinct (sym ej ∙ e ∙ ek)
 
-  pub seen-exchanged : (v w : InverseRow) (a b j k : ℕ) → a < length t → b < length t → j ≡ row_place v a → k ≡ row_place w b
+  pub seen-exchanged : (v w : InverseRow) (a b j k : ℕ) → a < length t → b < length t → j ≡ row_position v a → k ≡ row_position w b
       → (new : Rows) → new ≡ swapped_rows r j k → paired new.rows ≡ rows_exchanged v a w b t
   seen-exchanged v w a b j k la lb ej ek new e =
       swapped-written r is v a w b (seen-in a la) (seen-in b lb) new (e ∙ (λ i. swapped_rows r (ej i) (ek i))) ∙ ap (rows_exchanged v a w b) view
 
   -- a row made one letter anew
-  pub seen-reset : (w : InverseRow) (q k : ℕ) (l : Letter) → q < length t → k ≡ row_place w q → (blank new : Rows)
+  pub seen-reset : (w : InverseRow) (q k : ℕ) (l : Letter) → q < length t → k ≡ row_position w q → (blank new : Rows)
       → blank ≡ with_row r k (identity r.qubits) → new ≡ with_row blank k (with_letter q l (string_at blank k))
       → paired new.rows ≡ put w q (single (length t) q l) t
   seen-reset w q k l lt e blank new made again =
@@ -154,9 +154,9 @@ module _ (r : Rows) (is : IsPaired r) (t : List InverseRows) (view : paired r.ro
       (ap (λ n. single n q l) (sym seen-length))
     where
       here : get_or (set r.rows k (identity r.qubits)) k (identity r.qubits) ≡ identity r.qubits
-      here = get_or-set_same r.rows k (identity r.qubits) (identity r.qubits) (seen-place w q k lt e)
+      here = get_or-set_same r.rows k (identity r.qubits) (identity r.qubits) (seen-position w q k lt e)
 
--- pairs that are put in a place one after another
+-- pairs that are put at a position one after another
 pub put-again : (w : InverseRow) (q : ℕ) (s : Signed) (old new : List InverseRows) (p : InverseRows) → q < length old → new ≡ set old q p
     → put w q s new ≡ set old q (with_string w s p)
 put-again w q s old new p lt e =
@@ -182,10 +182,10 @@ module _ (n : ℕ) (r : Rows) (e : r ≡ record { qubits = n; rows = replicate (
       here : q < length (paired r.rows)
       here = let l = new-length in omega arith
 
-      blank : (w : InverseRow) → string_at r (row_place w q) ≡ identity n
+      blank : (w : InverseRow) → string_at r (row_position w q) ≡ identity n
       blank w =
-          ap (λ t. string_at t (row_place w q)) e
-          ∙ get_or-replicate (2 * n) (row_place w q) (identity n) (identity n)
+          ap (λ t. string_at t (row_position w q)) e
+          ∙ get_or-replicate (2 * n) (row_position w q) (identity n) (identity n)
           (let l = pair-in r is w q here in let s = is.size in let c = ap (λ (t : Rows). t.qubits) e in omega arith)
 
       over : (w : InverseRow) → length (row_string w (rows_at (paired r.rows) q)).letters ≡ n

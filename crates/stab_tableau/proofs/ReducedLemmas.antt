@@ -36,18 +36,18 @@ module _ (n : ℕ) (member : Signed → Bool) (g : IsStabiliserGroup n member) w
       ]
     where
       no_first : HasFirst (bit_at n (product p q).letters) (n + n) → ⊥
-      no_first h = by_place (eqb_tells h.place k)
+      no_first h = by_position (eqb_tells h.position k)
         where
-          lead : IsLead n member h.place
+          lead : IsLead n member h.position
           lead = (product p q, length-product n p q rp.size rq.size, g.closed p q rp.size rq.size rp.passes rq.passes, (h.below, h.one, h.before))
 
-          by_place : ((eqb h.place k ≡ true) × (h.place ≡ k)) ⊎ ((eqb h.place k ≡ false) × (h.place ≢ k)) → ⊥
-          by_place (inl e) =
-              clash (bit_at n (product p q).letters h.place) h.one
+          by_position : ((eqb h.position k ≡ true) × (h.position ≡ k)) ⊎ ((eqb h.position k ≡ false) × (h.position ≢ k)) → ⊥
+          by_position (inl e) =
+              clash (bit_at n (product p q).letters h.position) h.one
               (ap (bit_at n (product p q).letters) e.1 ∙ bit-product n p.letters q.letters k ∙ (λ i. rp.first.1 i ⊕ rq.first.1 i))
-          by_place (inr e) =
-              clash (bit_at n (product p q).letters h.place) h.one
-              (bit-product n p.letters q.letters h.place ∙ (λ i. rp.others h.place lead e.1 i ⊕ rq.others h.place lead e.1 i))
+          by_position (inr e) =
+              clash (bit_at n (product p q).letters h.position) h.one
+              (bit-product n p.letters q.letters h.position ∙ (λ i. rp.others h.position lead e.1 i ⊕ rq.others h.position lead e.1 i))
 
   -- so there is one list
   AreRowsFrom-one : (low : ℕ) (a b : List Signed) → AreRowsFrom n member low a → AreRowsFrom n member low b → a ≡ b
@@ -62,14 +62,14 @@ module _ (n : ℕ) (member : Signed → Bool) (g : IsStabiliserGroup n member) w
       no_more : ra.0 < rb.0 → ⊥
       no_more lt = rb.2 ra.0 ra.1 lt (IsRowAt-lead ra.0 p ra.3)
 
-      place : rb.0 ≡ ra.0
-      place = omega (arith, no_less, no_more)
+      position : rb.0 ≡ ra.0
+      position = omega (arith, no_less, no_more)
 
       head : p ≡ q
-      head = IsRowAt-one ra.0 p q ra.3 (subst (λ k. IsRowAt n member k q) place rb.3)
+      head = IsRowAt-one ra.0 p q ra.3 (subst (λ k. IsRowAt n member k q) position rb.3)
 
       rest : AreRowsFrom n member (suc ra.0) b
-      rest = subst (λ k. AreRowsFrom n member (suc k) b) place rb.4
+      rest = subst (λ k. AreRowsFrom n member (suc k) b) position rb.4
 
   pub AreReduced-one : (a b : List Signed) → AreReduced n member a → AreReduced n member b → a ≡ b
   AreReduced-one = AreRowsFrom-one 0

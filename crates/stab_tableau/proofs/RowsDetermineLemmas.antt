@@ -7,14 +7,14 @@ use Rattle.stab_tableau.proofs.ReducedLemmas.{same-letters}
 not-less : (a b : ℕ) → (a < b → ⊥) → b ≤ a
 not-less a b f = omega (arith, f)
 
--- a member with 0 before a place has 0 up to the next lead
+-- a member with 0 before a position has 0 up to the next lead
 zeros-up : (n : ℕ) (member : Signed → Bool) (low k : ℕ) → k < n + n → ((j : ℕ) → low ≤ j → j < k → IsLead n member j → ⊥)
     → (p : Signed) → length p.letters ≡ n → member p ≡ true → ((j : ℕ) → j < low → bit_at n p.letters j ≡ false)
     → (j : ℕ) → j < k → bit_at n p.letters j ≡ false
 zeros-up n member low k lt none p lp mp zeros = elim (find-first (bit_at n p.letters) k) [
   | inl all ↦ all
-  | inr h ↦ absurd (none h.place
-      (not-less h.place low (λ l. clash (bit_at n p.letters h.place) h.one (zeros h.place l)))
+  | inr h ↦ absurd (none h.position
+      (not-less h.position low (λ l. clash (bit_at n p.letters h.position) h.one (zeros h.position l)))
       h.below
       (p, lp, mp, ((let b = h.below in omega arith), h.one, h.before)))
 ]
@@ -27,13 +27,13 @@ no-one n member g p lp mp none =
     (bits-determine n p.letters (identity n).letters lp (length-replicate n I) (λ j lt. none j lt ∙ sym (bit-identity n j)))
 
 module _ (n : ℕ) (s t : Signed → Bool) (gs : IsStabiliserGroup n s) (gt : IsStabiliserGroup n t) where
-  -- a member of the first with 0 before a place passes the second, whose rows from that place on are the same
+  -- a member of the first with 0 before a position passes the second, whose rows from that position on are the same
   determine : (low : ℕ) (rows : List Signed) → AreRowsFrom n s low rows → AreRowsFrom n t low rows
       → (p : Signed) → length p.letters ≡ n → s p ≡ true → ((j : ℕ) → j < low → bit_at n p.letters j ≡ false) → t p ≡ true
   determine low [] none other p lp sp zeros = elim (find-first (bit_at n p.letters) (n + n)) [
     | inl all ↦ ap t (no-one n s gs p lp sp all) ∙ gt.has_identity
-    | inr h ↦ absurd (none h.place
-        (not-less h.place low (λ lt. clash (bit_at n p.letters h.place) h.one (zeros h.place lt)))
+    | inr h ↦ absurd (none h.position
+        (not-less h.position low (λ lt. clash (bit_at n p.letters h.position) h.one (zeros h.position lt)))
         (p, lp, sp, (h.below, h.one, h.before)))
   ]
   determine low (r ∷ rows) a b p lp sp zeros =

@@ -1,22 +1,22 @@
--- Reduced rows: a group has a list of them. They are found from the last place down: if a place is a lead, a member with its
+-- Reduced rows: a group has a list of them. They are found from the last position down: if a position is a lead, a member with its
 -- first 1 there is cleared by the rows that are there already.
 use Rattle.stab_tableau.proofs.Names.{eqb_tells, ◌≡◌, ◌≢◌, eqb, subst, ℕ, zero, suc, ◌+◌, ◌<◌, ◌≤◌, Bool, true, false, inl, inr, refl, ◌∙◌, ap, List, [], ◌∷◌, length, arith, Letter, ◌⊕◌, Signed, product, length-product, clash, IsStabiliserGroup, bit_at, IsFirst, IsLead, IsRowAt, AreRowsFrom, AreReduced}
 use Rattle.std.proofs.Common.{◌⊎◌}
 use Rattle.stab_tableau.proofs.BitLemmas.{bit-product, nat-distinct, find-first, first-one}
 use Rattle.stab_tableau.proofs.SearchLemmas.{Decides, HasNone, HasSome, search}
 
--- whether a place is a lead
+-- whether a position is a lead
 
--- the first 1 of a string is at a place or not
+-- the first 1 of a string is at a position or not
 decides-first : (n : ℕ) (p : List Letter) (k : ℕ) → Decides (IsFirst n p k)
 decides-first n p k = elim (find-first (bit_at n p) (n + n)) [
   | inl none ↦ inl (λ w. clash (bit_at n p k) w.1 (none k w.0))
-  | inr h ↦ by_place h.place (h.below, h.one, h.before) (eqb_tells h.place k)
+  | inr h ↦ by_position h.position (h.below, h.one, h.before) (eqb_tells h.position k)
 ]
   where
-    by_place : (j : ℕ) → IsFirst n p j → ((eqb j k ≡ true) × (j ≡ k)) ⊎ ((eqb j k ≡ false) × (j ≢ k)) → Decides (IsFirst n p k)
-    by_place j w (inl e) = inr (subst (IsFirst n p) e.1 w)
-    by_place j w (inr e) = inl (λ v. e.1 (first-one n p j k w v))
+    by_position : (j : ℕ) → IsFirst n p j → ((eqb j k ≡ true) × (j ≡ k)) ⊎ ((eqb j k ≡ false) × (j ≢ k)) → Decides (IsFirst n p k)
+    by_position j w (inl e) = inr (subst (IsFirst n p) e.1 w)
+    by_position j w (inr e) = inl (λ v. e.1 (first-one n p j k w v))
 
 abbrev signed : Bool → List Letter → Signed
 signed b p = record { negative = b; letters = p }
@@ -42,7 +42,7 @@ decides-both (inl none) b = inl (λ w. none w.0)
 decides-both (inr here) (inl none) = inl (λ w. none w.1)
 decides-both (inr here) (inr there) = inr (here, there)
 
--- a place is a lead or not
+-- a position is a lead or not
 decides-lead : (n : ℕ) (member : Signed → Bool) (k : ℕ) → Decides (IsLead n member k)
 decides-lead n member k =
     by_search (search n (λ p. IsMember member p × IsFirst n p k) (λ p. decides-both (decides-member member p) (decides-first n p k)))
@@ -53,7 +53,7 @@ decides-lead n member k =
 
 -- clearing a member by rows
 
--- a member with the bits of p before a place, and with 0 at each lead from there on
+-- a member with the bits of p before a position, and with 0 at each lead from there on
 record IsCleared (n : ℕ) (member : Signed → Bool) (low : ℕ) (p q : Signed) : Type 0 where
   size : length q.letters ≡ n
   passes : member q ≡ true
@@ -61,7 +61,7 @@ record IsCleared (n : ℕ) (member : Signed → Bool) (low : ℕ) (p q : Signed)
   clear : (l : ℕ) → low ≤ l → IsLead n member l → bit_at n q.letters l ≡ false
 
 module _ (n : ℕ) (member : Signed → Bool) (g : IsStabiliserGroup n member) where
-  -- there is no lead from a place up to another if s has 0 there: what is cleared after that is cleared
+  -- there is no lead from a position up to another if s has 0 there: what is cleared after that is cleared
   cleared-on : (low k : ℕ) → low ≤ k → ((j : ℕ) → low ≤ j → j < k → IsLead n member j → ⊥)
       → (p s q : Signed) → ((j : ℕ) → j < low → bit_at n s.letters j ≡ bit_at n p.letters j) → bit_at n s.letters k ≡ false
       → IsCleared n member (suc k) s q → IsCleared n member low p q
@@ -78,7 +78,7 @@ module _ (n : ℕ) (member : Signed → Bool) (g : IsStabiliserGroup n member) w
     ];
   }
 
-  -- a member is cleared by all rows from a place on: multiplied by those at whose lead it has 1 at their lead
+  -- a member is cleared by all rows from a position on: multiplied by those at whose lead it has 1 at their lead
   cleared : (low : ℕ) (rows : List Signed) → AreRowsFrom n member low rows → (p : Signed) → length p.letters ≡ n → member p ≡ true
       → (q : Signed) × IsCleared n member low p q
   cleared low [] none p lp mp = (p, record { size = lp; passes = mp; same = λ j lt. refl; clear = λ l le lead. absurd (none l le lead) })
@@ -97,9 +97,9 @@ module _ (n : ℕ) (member : Signed → Bool) (g : IsStabiliserGroup n member) w
                 (bit-product n r.letters p.letters a.0 ∙ (λ i. a.3.first.1 i ⊕ e i)) c.1,
           )
 
-  -- rows, one place after another
+  -- rows, one position after another
 
-  -- the rows after a place that is no lead are those from it on
+  -- the rows after a position that is no lead are those from it on
   rows-skip : (low : ℕ) (rows : List Signed) → (IsLead n member low → ⊥) → AreRowsFrom n member (suc low) rows → AreRowsFrom n member low rows
   rows-skip low rows none a = go rows a
     where
@@ -140,7 +140,7 @@ module _ (n : ℕ) (member : Signed → Bool) (g : IsStabiliserGroup n member) w
   rows-step low rows (inl none) a = (rows, rows-skip low rows none a)
   rows-step low rows (inr lead) a = rows-more low rows lead a
 
-  -- from each place on there are rows, and from the last one on there is none
+  -- from each position on there are rows, and from the last one on there is none
   rows-exist : (left low : ℕ) → low + left ≡ n + n → (rows : List Signed) × AreRowsFrom n member low rows
   rows-exist zero low e = ([], λ k le lead. omega (arith, e, le, lead.3.0))
   rows-exist (suc left) low e =

@@ -1,5 +1,5 @@
 -- Pivots: strings by which the two outcomes of a measurement come from each other.
--- Source: the two cases of a measurement in Aaronson and Gottesman 2004, section III: a free outcome is exchanged for the other
+-- Source: the two cases of a measurement in Aaronson and Gottesman 2004, section III: a random outcome is exchanged for the other
 -- by a stabiliser that anticommutes with what is measured.
 use Rattle.std.specs.Prelude.{◌≡◌, ℕ, Bool, true, List, length}
 use Rattle.stab_gates.specs.declared.letter.Letter.{Letter}

@@ -14,11 +14,11 @@ use Rattle.stab_tableau.specs.Groups.{IsStabiliserGroup, SameGroup}
 abbrev pub bit_at : ℕ → List Letter → ℕ → Bool
 bit_at n p k = if nat_lt k n then letters_anticommute Z (letter_at p k) else letters_anticommute X (letter_at p (k - n))
 
--- the first 1 of a string is at place k
+-- the first 1 of a string is at position k
 abbrev pub IsFirst : ℕ → List Letter → ℕ → Type 0
 IsFirst n p k = (k < n + n) × (bit_at n p k ≡ true) × ((j : ℕ) → j < k → bit_at n p j ≡ false)
 
--- a lead of a group: the place of the first 1 of some member
+-- a lead of a group: the position of the first 1 of some member
 abbrev pub IsLead : ℕ → (Signed → Bool) → ℕ → Type 0
 IsLead n member k = (p : Signed) × (length p.letters ≡ n) × (member p ≡ true) × IsFirst n p.letters k
 
@@ -29,7 +29,7 @@ pub record IsRowAt (n : ℕ) (member : Signed → Bool) (k : ℕ) (p : Signed) :
   pub first : IsFirst n p.letters k
   pub others : (l : ℕ) → IsLead n member l → l ≢ k → bit_at n p.letters l ≡ false
 
--- the rows at the leads from a place on, by ascending lead
+-- the rows at the leads from a position on, by ascending lead
 abbrev pub AreRowsFrom : ℕ → (Signed → Bool) → ℕ → List Signed → Type 0
 AreRowsFrom n member low [] = (k : ℕ) → low ≤ k → IsLead n member k → ⊥
 AreRowsFrom n member low (p ∷ rows) =

@@ -1,6 +1,6 @@
 -- Rules: what a measurement answers, and what it leaves, by a test of which signed strings stabilise the state before it.
 -- Source: Gottesman 1997, and the two cases of a measurement in Aaronson and Gottesman 2004, section III. It differs in that any
--- Pauli string is measured, that the coin is given, and that all strings that stabilise are spoken of in place of generators.
+-- Pauli string is measured, that the coin is given, and that all strings that stabilise are spoken of instead of generators.
 use Rattle.std.specs.Prelude.{Bool, true, false, not, ◌&&◌, ◌||◌, if◌then◌else◌}
 use Rattle.stab_pauli.specs.Paulis.{Signed, minus, with_sign, commute, product}
 

@@ -1,15 +1,69 @@
-ghost use Rattle.std.specs.Prelude.{◌≡◌, ◌≢◌, ◌<◌, false, length};
+ghost use Rattle.std.specs.Prelude.{◌≡◌, ◌≢◌, ◌<◌, true, false, length};
+ghost use Rattle.stab_gates.specs.declared.letter.Letter.TheVariants.{Y};
 ghost use Rattle.stab_gates.specs.Letters.{letters_anticommute};
-ghost use Rattle.stab_pauli.specs.Paulis.{anticommute};
+ghost use Rattle.stab_pauli.specs.Paulis.{Signed, anticommute};
 ghost use Rattle.stab_pauli.specs.Phaseds.{phased, phased_product};
 ghost use Rattle.stab_tableau.specs.Gates.{letter_at};
 ghost use Rattle.stab_tableau.specs.inner.InverseRows.{rows_at, letter_preimage, IsRow, AreRows};
 ghost use Rattle.stab_tableau.specs.inner.ColumnLetters.{letter_anticommuting};
-ghost use Rattle.stab_tableau.specs.inner.Pairs.{IsGated, IsPairGated};
+ghost use Rattle.stab_tableau.specs.inner.Pairs.{put, TakesLetters, IsGated, IsPairGated};
 
+use super::images::GateImages;
 use super::table::{InverseRow, Table};
 use stab_gates::{Gate, PairGate};
 use stab_pauli::{Letter, Pauli};
+
+/// Makes a row of a qubit the preimage of Y there.
+#[inline(always)]
+fn take_y(table: &mut Table, row: InverseRow, qubit: usize)
+    requires in_range { qubit < length table.old }
+    requires row { IsRow (length table.old) (rows_at table.old qubit) }
+    ensures taken { (y : Signed) × (table.new ≡ put row qubit y table.old) × (phased y ≡ letter_preimage (length table.old) (rows_at table.old qubit) Y) }
+{
+    match row {
+        InverseRow::OfX => {
+            table.multiply_times_i(InverseRow::OfX, qubit, InverseRow::OfZ, qubit);
+        }
+        InverseRow::OfZ => {
+            table.multiply_times_i(InverseRow::OfZ, qubit, InverseRow::OfX, qubit);
+            table.negate_if(InverseRow::OfZ, qubit, true);
+        }
+    }
+}
+
+/// Makes the rows of a qubit the preimages of two letters there, which anticommute.
+#[inline(always)]
+fn take_letters(table: &mut Table, qubit: usize, x: Letter, z: Letter)
+    requires in_range { qubit < length table.old }
+    requires row { IsRow (length table.old) (rows_at table.old qubit) }
+    requires opposed { letters_anticommute x z ≡ true }
+    ensures taken { TakesLetters x z qubit table.old table.new }
+{
+    match x {
+        Letter::I => {}
+        Letter::X => {
+            if z == Letter::Y {
+                take_y(table, InverseRow::OfZ, qubit);
+            }
+        }
+        Letter::Y => {
+            if z == Letter::X {
+                take_y(table, InverseRow::OfZ, qubit);
+                table.exchange(InverseRow::OfX, qubit, InverseRow::OfZ, qubit);
+            } else {
+                take_y(table, InverseRow::OfX, qubit);
+            }
+        }
+        Letter::Z => {
+            if z == Letter::Y {
+                take_y(table, InverseRow::OfX, qubit);
+                table.exchange(InverseRow::OfX, qubit, InverseRow::OfZ, qubit);
+            } else {
+                table.exchange(InverseRow::OfX, qubit, InverseRow::OfZ, qubit);
+            }
+        }
+    }
+}
 
 /// Makes the rows of the inverse those after a gate on a qubit.
 pub fn apply(table: &mut Table, gate: Gate, qubit: usize)
@@ -17,43 +71,12 @@ pub fn apply(table: &mut Table, gate: Gate, qubit: usize)
     requires row { IsRow (length table.old) (rows_at table.old qubit) }
     ensures gated { IsGated gate qubit table.old table.new }
 {
-    match gate {
-        Gate::I => {}
-        Gate::X => table.negate_if(InverseRow::OfZ, qubit, true),
-        Gate::Y => {
-            table.negate_if(InverseRow::OfX, qubit, true);
-            table.negate_if(InverseRow::OfZ, qubit, true);
-        }
-        Gate::Z => table.negate_if(InverseRow::OfX, qubit, true),
-        Gate::H => table.exchange(InverseRow::OfX, qubit, InverseRow::OfZ, qubit),
-        Gate::S => {
-            table.multiply_times_i(InverseRow::OfX, qubit, InverseRow::OfZ, qubit);
-            table.negate_if(InverseRow::OfX, qubit, true);
-        }
-        Gate::SDag => table.multiply_times_i(InverseRow::OfX, qubit, InverseRow::OfZ, qubit),
-        Gate::CXyz => {
-            table.multiply_times_i(InverseRow::OfX, qubit, InverseRow::OfZ, qubit);
-            table.exchange(InverseRow::OfX, qubit, InverseRow::OfZ, qubit);
-        }
-        Gate::CZyx => {
-            table.multiply_times_i(InverseRow::OfZ, qubit, InverseRow::OfX, qubit);
-            table.exchange(InverseRow::OfX, qubit, InverseRow::OfZ, qubit);
-            table.negate_if(InverseRow::OfX, qubit, true);
-        }
-        Gate::SqrtX => {
-            table.multiply_times_i(InverseRow::OfZ, qubit, InverseRow::OfX, qubit);
-            table.negate_if(InverseRow::OfZ, qubit, true);
-        }
-        Gate::SqrtXDag => table.multiply_times_i(InverseRow::OfZ, qubit, InverseRow::OfX, qubit),
-        Gate::SqrtY => {
-            table.exchange(InverseRow::OfX, qubit, InverseRow::OfZ, qubit);
-            table.negate_if(InverseRow::OfZ, qubit, true);
-        }
-        Gate::SqrtYDag => {
-            table.exchange(InverseRow::OfX, qubit, InverseRow::OfZ, qubit);
-            table.negate_if(InverseRow::OfX, qubit, true);
-        }
-    }
+    let images = GateImages::of(gate);
+    let x = images.before(Letter::X);
+    let z = images.before(Letter::Z);
+    take_letters(table, qubit, x.letter, z.letter);
+    table.negate_if(InverseRow::OfX, qubit, x.negative);
+    table.negate_if(InverseRow::OfZ, qubit, z.negative);
 }
 
 /// Makes the rows of the inverse those after a gate on two qubits.
@@ -124,7 +147,7 @@ pub fn copy_into(table: &Table, qubit: usize, letter: Letter, out: &mut Pauli)
     }
 }
 
-/// The letter that anticommutes with X, and with Z, just if the bits say so.
+/// The letter that anticommutes with X, and with Z, exactly if the bits say so.
 pub fn letter_where(with_x: bool, with_z: bool) -> Letter
     ensures value { result ≡ letter_anticommuting with_x with_z }
 {
@@ -136,13 +159,13 @@ pub fn letter_where(with_x: bool, with_z: bool) -> Letter
     }
 }
 
-/// The letter on a qubit of the string whose preimage has the given letter at a place and I elsewhere.
-pub fn column_letter(table: &Table, qubit: usize, letter: Letter, place: usize) -> Letter
+/// The letter on a qubit of the string whose preimage has the given letter at a position and I elsewhere.
+pub fn column_letter(table: &Table, qubit: usize, letter: Letter, position: usize) -> Letter
     requires in_range { qubit < length table.now }
-    requires place_in_range { place < length table.now }
-    ensures value { result ≡ letter_anticommuting (letters_anticommute letter (letter_at (rows_at table.now qubit).x.letters place)) (letters_anticommute letter (letter_at (rows_at table.now qubit).z.letters place)) }
+    requires position_in_range { position < length table.now }
+    ensures value { result ≡ letter_anticommuting (letters_anticommute letter (letter_at (rows_at table.now qubit).x.letters position)) (letters_anticommute letter (letter_at (rows_at table.now qubit).z.letters position)) }
 {
-    let with_x = letter.anticommutes(table.letter(InverseRow::OfX, qubit, place));
-    let with_z = letter.anticommutes(table.letter(InverseRow::OfZ, qubit, place));
+    let with_x = letter.anticommutes(table.letter(InverseRow::OfX, qubit, position));
+    let with_z = letter.anticommutes(table.letter(InverseRow::OfZ, qubit, position));
     letter_where(with_x, with_z)
 }

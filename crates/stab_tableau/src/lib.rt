@@ -5,13 +5,14 @@
 //! - `collapse`: what a measurement answers, and what it does to the rows of a state.
 //! - `observable`: what is measured, a string or a letter on a qubit.
 //! - `table`: the two rows that a state keeps for each qubit, all in one allocation.
-//! - `supports`: at which places the rows of 32 qubits may have X or Y, so that a measurement looks at no rows in vain.
+//! - `supports`: at which positions the rows of 32 qubits may have X or Y, so that a measurement looks at no rows in vain.
+//! - `images`: what each gate on a qubit makes of X, Y and Z.
 //! - `inverse_rows`: how gates change the rows of a qubit.
 //! - `rows`: the rows of all qubits: preimages of strings, columns, and how measurements change them, 32 qubits at a time.
 //! - `group`: whether two states have one group, and reading stabilisers.
 //! - `elimination`: rows that generate a group are made its reduced rows.
 //! - `gate_laws`: a gate is undone by its way back, and keeps products and commuting.
-//! - `laws`: the members of a sound trace are a group, outcomes keep it sound, and what is free; a group has one
+//! - `laws`: the members of a sound trace are a group, outcomes keep it sound, and what is random; a group has one
 //!   list of reduced rows and no other, which identifies it.
 //!
 //! The names of gates are those of `stab_gates`, passed on.
@@ -33,6 +34,7 @@ mod collapse;
 mod elimination;
 pub mod gate_laws;
 mod group;
+mod images;
 mod inverse_rows;
 pub mod laws;
 mod observable;
@@ -42,5 +44,6 @@ mod table;
 mod tableau;
 
 pub use collapse::Collapse;
+pub use images::{GateImages, SignedLetter};
 pub use stab_gates::{Gate, PairGate};
 pub use tableau::{CompactTableau, Tableau};

@@ -1,4 +1,4 @@
-//! At which places rows may have X or Y: what saves a look at 64 rows for a place where none of them has.
+//! At which positions rows may have X or Y: it saves a look at 64 rows for a position where none of them has.
 
 ghost use Rattle.std.specs.Prelude.{ℕ, ◌*◌, ◌<◌, ◌≤◌};
 
@@ -7,19 +7,19 @@ use stab_pauli::{Pauli, PauliRows, masks};
 use std::alloc::Global;
 use std::marker::Model;
 
-/// If more rows of a group than these have X or Y at a place, there is hardly a place where none has.
+/// If more rows of a group than these have X or Y at a position, there is hardly a position where none has.
 const MOST_ROWS: u32 = 16;
 
-/// For each group of 64 rows, at which places its rows may have X or Y.
+/// For each group of 64 rows, at which positions its rows may have X or Y.
 ///
-/// A word of 64 places that isn't known stands for all of them. A look at a place makes its word known, a change of a row
-/// makes those of its group unknown again, and rows that are multiplied by a string may have got X or Y where it has.
+/// A word that isn't known stands for all of its 64 positions. A look at a position makes its word known; a change of a row
+/// makes the words of its group unknown again; and rows that are multiplied by a string may get X or Y where it has them.
 pub struct XSupports {
     // Which of the words of each group are known, by a mask.
     known: Vec<u64>,
-    // The words: 16 for each group, which are those of 1,024 places.
+    // The words: 16 for each group, which are those of 1,024 positions.
     words: Vec<u64>,
-    // Whether many rows had X or Y at the last look: then the next one makes no word known, as it would hardly be of use.
+    // Whether many rows had X or Y at the last look. Then the next look makes no word known, as that would hardly help.
     crowded: bool,
 }
 
@@ -52,7 +52,7 @@ impl XSupports {
     ghost use Rattle.stab_gates.specs.XParts.{has_x};
     ghost use Rattle.stab_pauli.specs.Masks.{chooses, AreChosen};
     ghost use Rattle.stab_pauli.specs.Rows.{Rows, row_at, swapped_rows, product_times_i_if};
-    ghost use Rattle.stab_tableau.specs.inner.Supports.{Covers, OthersStay, is_known, has_place};
+    ghost use Rattle.stab_tableau.specs.inner.Supports.{Covers, OthersStay, is_known, has_position};
 
     /// For this many rows, of which nothing is known.
     ///
@@ -104,7 +104,7 @@ impl XSupports {
         self.known.as_mut_slice().fill(0);
     }
 
-    /// What is left after two rows have changed places: all, if they are of one group.
+    /// What is left after two rows were exchanged: all, if they are of one group.
     #[inline(always)]
     pub fn swap(&mut self, a: usize, b: usize)
         requires a_in_range { a < 64 * length self.old.known }
@@ -118,66 +118,67 @@ impl XSupports {
         self.forget(b);
     }
 
-    /// Which of the 64 rows of a group have X or Y at a place, by a mask. The rows are looked at only if one of them may.
+    /// Which of the 64 rows of a group have X or Y at a position, by a mask. The rows are looked at only if one of them may.
     #[inline(always)]
-    pub fn rows_with_x(&mut self, rows: &PauliRows, group: usize, place: usize) -> u64
+    pub fn rows_with_x(&mut self, rows: &PauliRows, group: usize, position: usize) -> u64
         requires first_in_range { 64 * group < length rows.now.rows }
-        requires place_in_range { place < rows.now.qubits }
+        requires position_in_range { position < rows.now.qubits }
         requires few { rows.now.qubits ≤ most_qubits }
         requires covers { Covers self.old rows.now }
-        ensures value { (k : ℕ) → k < 64 → chooses result k ≡ has_x (slice_index_or (row_at rows.now (64 * group + k)).letters place I) }
+        ensures value { (k : ℕ) → k < 64 → chooses result k ≡ has_x (slice_index_or (row_at rows.now (64 * group + k)).letters position I) }
         ensures covers { Covers self.new rows.now }
     {
         let _ = &self.known;
-        if self.lacks(group, place / 64, place % 64) {
+        if self.lacks(group, position / 64, position % 64) {
             return 0;
         }
-        let mask = self.look(rows, group, place);
+        let mask = self.look(rows, group, position);
         self.crowded = mask.count_ones() > MOST_ROWS;
         mask
     }
 
     /// The same by a look at the rows.
     #[inline(always)]
-    fn look(&mut self, rows: &PauliRows, group: usize, place: usize) -> u64
+    fn look(&mut self, rows: &PauliRows, group: usize, position: usize) -> u64
         requires first_in_range { 64 * group < length rows.now.rows }
-        requires place_in_range { place < rows.now.qubits }
+        requires position_in_range { position < rows.now.qubits }
         requires few { rows.now.qubits ≤ most_qubits }
         requires covers { Covers self.old rows.now }
-        ensures value { (k : ℕ) → k < 64 → chooses result k ≡ has_x (slice_index_or (row_at rows.now (64 * group + k)).letters place I) }
+        ensures value { (k : ℕ) → k < 64 → chooses result k ≡ has_x (slice_index_or (row_at rows.now (64 * group + k)).letters position I) }
         ensures covers { Covers self.new rows.now }
     {
         let _ = &self.known;
         if self.crowded {
-            return rows.rows_with_x(64 * group, place);
+            return rows.rows_with_x(64 * group, position);
         }
-        let (mask, places) = rows.rows_and_places_with_x(64 * group, place);
-        self.put_word(group, place / 64, places);
+        let (mask, positions) = rows.rows_and_positions_with_x(64 * group, position);
+        self.put_word(group, position / 64, positions);
         mask
     }
 
-    /// Whether a place is known to be one where no row of a group has X or Y.
+    /// Whether it is known that no row of a group has X or Y at a position.
     #[inline(always)]
-    fn lacks(&self, group: usize, word: usize, place: usize) -> bool
+    fn lacks(&self, group: usize, word: usize, position: usize) -> bool
         requires in_range { group < length self.now.known }
         requires word_in_range { word < 16 }
-        requires place_in_range { place < 64 }
+        requires position_in_range { position < 64 }
         ensures known { result ≡ true → is_known self.now group word ≡ true }
-        ensures value { result ≡ true → has_place self.now group word place ≡ false }
+        ensures value { result ≡ true → has_position self.now group word position ≡ false }
     {
-        masks::holds(self.known[group], word) && !masks::holds(self.words[16 * group + word], place)
+        masks::holds(self.known[group], word)
+            && !masks::holds(self.words[16 * group + word], position)
     }
 
-    /// Puts a word that has each place where a row of its group has X or Y.
+    /// Puts a word that has each position where a row of its group has X or Y.
     #[inline(always)]
-    fn put_word(&mut self, group: usize, word: usize, places: u64)
+    fn put_word(&mut self, group: usize, word: usize, positions: u64)
         requires in_range { group < length self.old.known }
         requires word_in_range { word < 16 }
-        ensures covers { (r : Rows) → Covers self.old r → ((k place : ℕ) → k < 64 → place < 64 → has_x (slice_index_or (row_at r (64 * group + k)).letters (64 * word + place) I) ≡ true → chooses places place ≡ true) → Covers self.new r }
+        ensures covers { (r : Rows) → Covers self.old r → ((k position : ℕ) → k < 64 → position < 64 → has_x (slice_index_or (row_at r (64 * group + k)).letters (64 * word + position) I) ≡ true → chooses positions position ≡ true) → Covers self.new r }
     {
         let known = masks::without(self.known[group], word);
         self.known[group] = masks::with_if(known, word, true);
-        self.words[16 * group + word] = places;
+        self.words[16 * group + word] = positions;
     }
 
     /// What is left after chosen rows of a group were multiplied by a string.
@@ -196,36 +197,36 @@ impl XSupports {
         self.add_string(group, string);
     }
 
-    /// Adds the places where a string has X or Y.
+    /// Adds the positions where a string has X or Y.
     #[inline(always)]
     fn add_string(&mut self, group: usize, string: &Pauli)
         requires in_range { group < length self.old.known }
         requires few { length string.now.letters ≤ most_qubits }
         ensures known { self.new.known ≡ self.old.known }
-        ensures kept { (g word place : ℕ) → has_place self.old g word place ≡ true → has_place self.new g word place ≡ true }
-        ensures added { (word place : ℕ) → place < 64 → has_x (slice_index_or string.now.letters (64 * word + place) I) ≡ true → has_place self.new group word place ≡ true }
+        ensures kept { (g word position : ℕ) → has_position self.old g word position ≡ true → has_position self.new g word position ≡ true }
+        ensures added { (word position : ℕ) → position < 64 → has_x (slice_index_or string.now.letters (64 * word + position) I) ≡ true → has_position self.new group word position ≡ true }
     {
         for word in 0..words_of(string.len()) {
             self.add_word(group, word, string.x_mask(word));
         }
     }
 
-    /// Adds places to a word.
+    /// Adds positions to a word.
     #[inline(always)]
-    fn add_word(&mut self, group: usize, word: usize, places: u64)
+    fn add_word(&mut self, group: usize, word: usize, positions: u64)
         requires in_range { group < length self.old.known }
         requires word_in_range { word < 16 }
         ensures known { self.new.known ≡ self.old.known }
-        ensures kept { (g w place : ℕ) → has_place self.old g w place ≡ true → has_place self.new g w place ≡ true }
-        ensures added { (place : ℕ) → chooses places place ≡ true → has_place self.new group word place ≡ true }
+        ensures kept { (g w position : ℕ) → has_position self.old g w position ≡ true → has_position self.new g w position ≡ true }
+        ensures added { (position : ℕ) → chooses positions position ≡ true → has_position self.new group word position ≡ true }
     {
         let _ = &self.known;
         let at = 16 * group + word;
-        self.words[at] = self.words[at] | places;
+        self.words[at] = self.words[at] | positions;
     }
 }
 
-/// How many times 64 places hold n.
+/// How many words of 64 bits hold n.
 #[inline(always)]
 fn words_of(n: usize) -> usize
     ensures all { n ≤ 64 * result }

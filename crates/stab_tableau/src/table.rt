@@ -20,13 +20,13 @@ pub enum InverseRow {
 impl InverseRow {
     ghost use Rattle.std.specs.Prelude.{◌≡◌, ◌≤◌};
     ghost use Rattle.stab_gates.specs.Limits.{most_qubits};
-    ghost use Rattle.stab_tableau.specs.inner.Pairs.{row_place};
+    ghost use Rattle.stab_tableau.specs.inner.Pairs.{row_position};
 
     /// Where the string lies among those of all qubits.
     #[inline(always)]
-    fn place(self, qubit: usize) -> usize
+    fn position(self, qubit: usize) -> usize
         requires few { qubit ≤ most_qubits }
-        ensures value { result ≡ row_place self qubit }
+        ensures value { result ≡ row_position self qubit }
     {
         match self {
             InverseRow::OfX => 2 * qubit,
@@ -35,13 +35,13 @@ impl InverseRow {
     }
 }
 
-/// What was made into X and what into Z on each qubit by all that happened: their preimages.
+/// The preimages of X and Z on each qubit: what all that happened made into these.
 ///
 /// Those of qubit q are the strings 2q and 2q + 1 of one allocation. Contracts see a list of pairs.
 #[derive(Drop)]
 pub struct Table {
     rows: PauliRows,
-    // At which places the rows of 32 qubits may have X or Y: it saves looks, and contracts don't see it.
+    // At which positions the rows of 32 qubits may have X or Y: it saves looks, and contracts don't see it.
     supports: XSupports,
 }
 
@@ -133,9 +133,9 @@ impl Table {
         requires in_range { qubit < length self.old }
         ensures row { self.new ≡ put row qubit (single (length self.old) qubit letter) self.old }
     {
-        self.rows.clear(row.place(qubit));
-        self.rows.set(row.place(qubit), qubit, letter);
-        self.supports.forget(row.place(qubit));
+        self.rows.clear(row.position(qubit));
+        self.rows.set(row.position(qubit), qubit, letter);
+        self.supports.forget(row.position(qubit));
     }
 
     /// Flips the sign of a row if the bit is 1.
@@ -144,7 +144,7 @@ impl Table {
         requires in_range { qubit < length self.old }
         ensures value { self.new ≡ put row qubit (with_sign bit (row_string row (rows_at self.old qubit))) self.old }
     {
-        self.rows.negate_if(row.place(qubit), bit);
+        self.rows.negate_if(row.position(qubit), bit);
     }
 
     /// Exchanges two rows.
@@ -155,9 +155,10 @@ impl Table {
         requires distinct { (row ≢ other) ⊎ (qubit ≢ other_qubit) }
         ensures value { self.new ≡ rows_exchanged row qubit other other_qubit self.old }
     {
-        self.rows.swap(row.place(qubit), other.place(other_qubit));
+        self.rows
+            .swap(row.position(qubit), other.position(other_qubit));
         self.supports
-            .swap(row.place(qubit), other.place(other_qubit));
+            .swap(row.position(qubit), other.position(other_qubit));
     }
 
     /// Makes a row the product of itself and another, with which it commutes.
@@ -170,8 +171,8 @@ impl Table {
         ensures value { self.new ≡ put row qubit (product (row_string row (rows_at self.old qubit)) (row_string other (rows_at self.old other_qubit))) self.old }
     {
         self.rows
-            .multiply(row.place(qubit), other.place(other_qubit));
-        self.supports.forget(row.place(qubit));
+            .multiply(row.position(qubit), other.position(other_qubit));
+        self.supports.forget(row.position(qubit));
     }
 
     /// Makes a row i times the product of itself and another, with which it anticommutes.
@@ -190,8 +191,8 @@ impl Table {
         ensures value { self.new ≡ put row qubit (product_times_i (row_string row (rows_at self.old qubit)) (row_string other (rows_at self.old other_qubit))) self.old }
     {
         self.rows
-            .multiply_times_i(row.place(qubit), other.place(other_qubit));
-        self.supports.forget(row.place(qubit));
+            .multiply_times_i(row.position(qubit), other.position(other_qubit));
+        self.supports.forget(row.position(qubit));
     }
 
     /// Makes a string the product of itself and a row, with which it commutes.
@@ -202,7 +203,7 @@ impl Table {
         requires commuting { anticommute out.old (row_string row (rows_at self.now qubit)) ≡ false }
         ensures value { out.new ≡ product out.old (row_string row (rows_at self.now qubit)) }
     {
-        self.rows.multiply_into(row.place(qubit), out);
+        self.rows.multiply_into(row.position(qubit), out);
     }
 
     /// Makes a string i times the product of itself and a row, with which it anticommutes.
@@ -213,7 +214,7 @@ impl Table {
         requires anticommuting { anticommute out.old (row_string row (rows_at self.now qubit)) ≡ true }
         ensures value { out.new ≡ product_times_i out.old (row_string row (rows_at self.now qubit)) }
     {
-        self.rows.multiply_into_times_i(row.place(qubit), out);
+        self.rows.multiply_into_times_i(row.position(qubit), out);
     }
 
     /// Makes a string what a row is.
@@ -223,27 +224,27 @@ impl Table {
         requires same_length { length out.old.letters ≡ length self.now }
         ensures value { out.new ≡ row_string row (rows_at self.now qubit) }
     {
-        self.rows.copy_row(row.place(qubit), out);
+        self.rows.copy_row(row.position(qubit), out);
     }
 
-    /// The letter of a row at a place.
+    /// The letter of a row at a position.
     #[inline(always)]
-    pub fn letter(&self, row: InverseRow, qubit: usize, place: usize) -> Letter
+    pub fn letter(&self, row: InverseRow, qubit: usize, position: usize) -> Letter
         requires in_range { qubit < length self.now }
-        requires place_in_range { place < length self.now }
-        ensures value { result ≡ letter_at (row_string row (rows_at self.now qubit)).letters place }
+        requires position_in_range { position < length self.now }
+        ensures value { result ≡ letter_at (row_string row (rows_at self.now qubit)).letters position }
     {
-        self.rows.letter(row.place(qubit), place)
+        self.rows.letter(row.position(qubit), position)
     }
 
-    /// Whether the letter of a row at a place is X or Y, and so anticommutes with Z.
+    /// Whether the letter of a row at a position is X or Y, and so anticommutes with Z.
     #[inline(always)]
-    pub fn has_x(&self, row: InverseRow, qubit: usize, place: usize) -> bool
+    pub fn has_x(&self, row: InverseRow, qubit: usize, position: usize) -> bool
         requires in_range { qubit < length self.now }
-        requires place_in_range { place < length self.now }
-        ensures value { result ≡ has_x (letter_at (row_string row (rows_at self.now qubit)).letters place) }
+        requires position_in_range { position < length self.now }
+        ensures value { result ≡ has_x (letter_at (row_string row (rows_at self.now qubit)).letters position) }
     {
-        self.rows.has_x(row.place(qubit), place)
+        self.rows.has_x(row.position(qubit), position)
     }
 
     /// Whether the sign of a row is -.
@@ -252,7 +253,7 @@ impl Table {
         requires in_range { qubit < length self.now }
         ensures value { result ≡ (row_string row (rows_at self.now qubit)).negative }
     {
-        self.rows.is_negative(row.place(qubit))
+        self.rows.is_negative(row.position(qubit))
     }
 
     /// The sign of a row of letters I and Z alone, which is the outcome of a measurement, or `None` if it has others.
@@ -263,9 +264,9 @@ impl Table {
         ensures some { IfSome result (λ b. (b ≡ (row_string row (rows_at self.now qubit)).negative) × (list_any has_x (row_string row (rows_at self.now qubit)).letters ≡ false)) }
         ensures none { IfNone result ((k : ℕ) × (k < length (row_string row (rows_at self.now qubit)).letters) × (has_x (letter_at (row_string row (rows_at self.now qubit)).letters k) ≡ true)) }
     {
-        match self.rows.first_x(row.place(qubit)) {
+        match self.rows.first_x(row.position(qubit)) {
             Some(_) => None,
-            None => Some(self.rows.fixed_sign(row.place(qubit))),
+            None => Some(self.rows.fixed_sign(row.position(qubit))),
         }
     }
 }

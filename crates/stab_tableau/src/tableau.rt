@@ -339,9 +339,9 @@ impl Tableau {
         true
     }
 
-    /// The reduced rows of the strings that stabilise the state, n in number: by ascending place of the first 1 of some
+    /// The reduced rows of the strings that stabilise the state, n in number: by ascending position of the first 1 of some
     /// of these strings, bits in the order x_0 .. x_(n-1), z_0 .. z_(n-1), the one with its first 1 there and 0 at every
-    /// other such place.
+    /// other such position.
     ///
     /// States of one group have the same reduced rows, and only they. Refusal `OutOfMemory` alone.
     pub fn reduced_rows(&mut self, alloc: Global) -> Result<Vec<Pauli>, Refusal>

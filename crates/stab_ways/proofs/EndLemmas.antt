@@ -9,7 +9,7 @@ abbrev pub begin : ℕ → PropagationState
 begin n = record { letters = replicate n I; flips = nothing; coin = 0; number = 0 }
 
 -- the frame that begins
-put-begins : (every : Bool) (n k : ℕ) (string : List Letter) (xs : List Step) → length string ≡ n → frame_at 0 (put_at every n string k xs (begin n)) ≡ frame_begun k string xs
+put-begins : (every : Bool) (n k : ℕ) (string : List Letter) (xs : List Step) → length string ≡ n → frame_at 0 (put_at every n string [] k xs (begin n)) ≡ frame_begun k string xs
 put-begins every n k string xs size =
     ap (λ (f : Frame). record { letters = string_product f.letters string; flips = f.flips }) (frame-passed n (take k xs) (begin n) ∙ blank-over n (take k xs) 0 ∙ ap (identity_frame n) none)
     ∙ ap (λ s. frame_of s (records_of (take k xs))) (string_product-blank n string size)
@@ -28,7 +28,7 @@ module _ (every : Bool) (n k : ℕ) (string : List Letter) (items : Items) (size
   xs = unroll items
 
   abbrev put : PropagationState
-  put = put_at every n string k xs (begin n)
+  put = put_at every n string [] k xs (begin n)
 
   whole : (w : WalkState) → w ≡ under_way every (0 + length (steps_in (parts_of items))) (passed n (drop k xs) put) (turns every n k (frame_at 0 put) (parts_after k (parts_of items)))
       → IsEnd every n k string items w
@@ -43,8 +43,8 @@ module _ (every : Bool) (n k : ℕ) (string : List Letter) (items : Items) (size
       begins : frame_at 0 put ≡ frame_begun k string xs
       begins = put-begins every n k string xs size
 
-  pub walk-ends : (w : WalkState) → w ≡ walked n string (parts_of items) (waiting every k 0 (begin n)) → IsEnd every n k string items (ended w.waits string w)
-  walk-ends w is = by_place (cases_lt (length (steps_in (parts_of items))) k)
+  pub walk-ends : (w : WalkState) → w ≡ walked n string (parts_of items) (waiting every k 0 (begin n) []) → IsEnd every n k string items (ended w.waits string w)
+  walk-ends w is = by_position (cases_lt (length (steps_in (parts_of items))) k)
     where
       same : steps_in (parts_of items) ≡ xs
       same = steps-unrolled items
@@ -54,14 +54,14 @@ module _ (every : Bool) (n k : ℕ) (string : List Letter) (items : Items) (size
 
       by_within : 0 < length (parts_of items) → k ≤ length (steps_in (parts_of items)) → IsEnd every n k string items (ended w.waits string w)
       by_within some le =
-          let shown = is ∙ walked-put every n string k (parts_of items) 0 (begin n) some le in
+          let shown = is ∙ walked-put every n string [] k (parts_of items) 0 (begin n) some le in
           subst (λ o. IsEnd every n k string items (ended o string w)) (sym (ap (λ (v : WalkState). v.waits) shown))
-          (whole w (shown ∙ (λ i. under_way every (0 + length (steps_in (parts_of items))) (passed n (drop k (same i)) (put_at every n string k (same i) (begin n)))
-          (turns every n (from i) (frame_at 0 (put_at every n string k (same i) (begin n))) (parts_after k (parts_of items))))))
+          (whole w (shown ∙ (λ i. under_way every (0 + length (steps_in (parts_of items))) (passed n (drop k (same i)) (put_at every n string [] k (same i) (begin n)))
+          (turns every n (from i) (frame_at 0 (put_at every n string [] k (same i) (begin n))) (parts_after k (parts_of items))))))
 
       by_past : IsPast k (parts_of items) → IsEnd every n k string items (ended w.waits string w)
       by_past past =
-          let shown = is ∙ walked-past every n string k (parts_of items) 0 (begin n) past in
+          let shown = is ∙ walked-past every n string [] k (parts_of items) 0 (begin n) past in
           let long : length xs ≤ k = omega (arith, past.past, ap length same) in
           let front : steps_in (parts_of items) ≡ take k xs = same ∙ sym (take_all k xs long) in
           subst (λ o. IsEnd every n k string items (ended o string w)) (sym (ap (λ (v : WalkState). v.waits) shown))
@@ -75,9 +75,9 @@ module _ (every : Bool) (n k : ℕ) (string : List Letter) (items : Items) (size
       by_some le (inl some) = by_within some le
       by_some le (inr none) = by_past (record { past = omega (arith, no-parts (parts_of items) none); fewer = λ some. absurd (omega (arith, some, none)) })
 
-      by_place : (length (steps_in (parts_of items)) < k) ⊎ (k ≤ length (steps_in (parts_of items))) → IsEnd every n k string items (ended w.waits string w)
-      by_place (inl lt) = by_past (record { past = omega (arith, lt); fewer = λ some. lt })
-      by_place (inr le) = by_some le (cases_lt 0 (length (parts_of items)))
+      by_position : (length (steps_in (parts_of items)) < k) ⊎ (k ≤ length (steps_in (parts_of items))) → IsEnd every n k string items (ended w.waits string w)
+      by_position (inl lt) = by_past (record { past = omega (arith, lt); fewer = λ some. lt })
+      by_position (inr le) = by_some le (cases_lt 0 (length (parts_of items)))
 
 -- the same, as the code shows it
 pub walk-found : (every : Bool) (n m k : ℕ) (string : List Letter) (items given : Items) (p : PropagationState) (ts : List Turn) (w v : WalkState) → length string ≡ n → m ≡ n → p ≡ begin m

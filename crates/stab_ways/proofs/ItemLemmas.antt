@@ -1,6 +1,10 @@
 -- Items: their instructions one after another and in rounds, and the walk over them.
 use Rattle.stab_ways.proofs.Names.{◌≡◌, ℕ, zero, suc, ◌+◌, ◌-◌, ◌*◌, ◌<◌, ◌≤◌, refl, sym, ◌∙◌, ap, subst, Bool, false, List, [], ◌∷◌, ◌++◌, length, take, drop, All, get_or, nat_le, arith, append_assoc, append-nil, length-append, length-take, length-drop, true, ◌⊎◌, inl, inr, put_in, take-append-drop, take_more, take-append_seam, drop-append_seam, All-take, All-drop, Option, Some, None, if◌then◌else◌, flat_map-append, Letter, Items, OneItem, next, block, done, before, listed, join, listed-append, listed_pushed, Step, steps_of, unroll, rounds, length-rounds, unroll-join, StepFits, Part, is_tick, rest_of, rounds_counted, parts_of, part_rounds, WalkState, past_steps, reported, over_part, walked}
-use Rattle.std.proofs.Common.{min}
+use Rattle.std.proofs.Common.{min, nat_lt}
+use Rattle.stab_items.specs.Steps.{looks_too_far}
+use Rattle.stab_items.specs.declared.summary.Summary.{Summary}
+use Rattle.stab_items.specs.inner.Summaries.{summary_of, window}
+use Rattle.stab_items.proofs.StepLemmas.{looks_too_far_window}
 use Rattle.std.proofs.lemmas.Bool.{ne_eqb}
 use Rattle.stab_ways.proofs.WalkedLemmas.{steps_in, walked-append}
 
@@ -13,7 +17,7 @@ parts-join (block count tag body rest) ys =
     let own = part_rounds (rounds_counted count (length (unroll body))) (parts_of body) in
     ap (λ ps. own ++ ps) (parts-join rest ys) ∙ sym (append_assoc own (parts_of rest) (parts_of ys))
 
-steps-rounds : (k : ℕ) (parts : List Part) → steps_in (part_rounds k parts) ≡ rounds k (steps_in parts)
+pub steps-rounds : (k : ℕ) (parts : List Part) → steps_in (part_rounds k parts) ≡ rounds k (steps_in parts)
 steps-rounds zero parts = refl
 steps-rounds (suc k) parts = flat_map-append (λ (p : Part). p.steps) parts (part_rounds k parts) ∙ ap (λ zs. steps_in parts ++ zs) (steps-rounds k parts)
 
@@ -49,12 +53,14 @@ pub long-rounds : (k : ℕ) (items : Items) → length (steps_in (part_rounds k 
 long-rounds k items =
     ap length (steps-rounds k (parts_of items) ∙ ap (rounds k) (steps-unrolled items)) ∙ length-rounds k (unroll items)
 
--- one round more, after the others
-pub rounds-following : (k : ℕ) (parts : List Part) → part_rounds (k + 1) parts ≡ part_rounds k parts ++ parts
-rounds-following zero parts = append-nil parts
-rounds-following (suc k) parts =
-    let further : suc k + 1 ≡ suc (k + 1) = omega arith in
-    ap (λ m. part_rounds m parts) further ∙ ap (λ more. parts ++ more) (rounds-following k parts) ∙ sym (append_assoc parts (part_rounds k parts) parts)
+-- rounds after others
+rounds-more : (j k : ℕ) (parts : List Part) → part_rounds (j + k) parts ≡ part_rounds j parts ++ part_rounds k parts
+rounds-more zero k parts = ap (λ m. part_rounds m parts) {x = zero + k} {y = k} (omega arith)
+rounds-more (suc j) k parts =
+    let further : suc j + k ≡ suc (j + k) = omega arith in
+    ap (λ m. part_rounds m parts) further
+    ∙ ap (λ more. parts ++ more) (rounds-more j k parts)
+    ∙ sym (append_assoc parts (part_rounds j parts) (part_rounds k parts))
 
 -- one item more
 
@@ -129,13 +135,19 @@ pub round-fits : (n k : ℕ) (xs : List Step) → 0 < k → All (StepFits n) (ro
 round-fits n zero xs lt fits = absurd (omega (arith, lt))
 round-fits n (suc k) xs lt fits = subst (All (StepFits n)) (take-append_seam xs (rounds k xs)) (All-take (StepFits n) (length xs) (xs ++ rounds k xs) fits)
 
+-- rounds after others
+pub walked-rounds : (n j k whole : ℕ) (string : List Letter) (parts : List Part) (start mid new : WalkState) → j + k ≡ whole → mid ≡ walked n string (part_rounds j parts) start
+    → new ≡ walked n string (part_rounds k parts) mid → new ≡ walked n string (part_rounds whole parts) start
+walked-rounds n j k whole string parts start mid new sum before is =
+    is ∙ ap (walked n string (part_rounds k parts)) before
+    ∙ sym (walked-append n string (part_rounds j parts) (part_rounds k parts) start)
+    ∙ ap (λ ps. walked n string ps start) (sym (rounds-more j k parts) ∙ ap (λ m. part_rounds m parts) sum)
+
 -- one round more
 pub walked-round : (n k : ℕ) (string : List Letter) (body : Items) (start mid new : WalkState) → mid ≡ walked n string (part_rounds k (parts_of body)) start
     → new ≡ walked n string (parts_of body) mid → new ≡ walked n string (part_rounds (k + 1) (parts_of body)) start
 walked-round n k string body start mid new before is =
-    is ∙ ap (walked n string (parts_of body)) before
-    ∙ sym (walked-append n string (part_rounds k (parts_of body)) (parts_of body) start)
-    ∙ ap (λ ps. walked n string ps start) (sym (rounds-following k (parts_of body)))
+    walked-rounds n k 1 (k + 1) string (parts_of body) start mid new refl before (is ∙ ap (λ ps. walked n string ps mid) (sym (append-nil (parts_of body))))
 
 pub round-steps : (n k : ℕ) (string : List Letter) (body : Items) (start mid : WalkState) → mid ≡ walked n string (part_rounds k (parts_of body)) start
     → mid.steps ≡ start.steps + k * length (unroll body)
@@ -179,3 +191,11 @@ times-split k d l = omega arith
 pub times-more : (k count l : ℕ) → k < count → k * l + l ≤ count * l
 times-more k count l lt =
     let whole : (k + 1) + (count - (k + 1)) ≡ count = omega (arith, lt) in subst (λ c. k * l + l ≤ c * l) whole (times-split k (count - (k + 1)) l)
+
+-- a round looks no further back than its summary says
+pub near-enough : (kept : Summary) (body : Items) → kept ≡ summary_of body → looks_too_far kept.window (unroll body) ≡ false
+near-enough kept body is =
+    looks_too_far_window kept.window (unroll body) ∙ ap (λ (s : Summary). nat_lt s.window (window (unroll body))) is ∙ below-itself (window (unroll body))
+  where
+    below-itself : (n : ℕ) → nat_lt n n ≡ false
+    below-itself n = grind arith

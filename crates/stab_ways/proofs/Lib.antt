@@ -13,3 +13,6 @@ pub mod ItemLemmas
 pub mod TurnLemmas
 pub mod WalkLemmas
 pub mod EndLemmas
+pub mod AlikeWayLemmas
+pub mod FoldLemmas
+pub mod ListedLemmas

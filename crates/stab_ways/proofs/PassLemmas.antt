@@ -33,31 +33,31 @@ goes n strings ys old mid new placed over together is =
 
 -- the steps of an instruction from one to another, and those that come next
 
-part-next : (from place : ℕ) (xs ys rest : List Step) → from ≤ place → drop place xs ≡ ys ++ rest
-    → take ((place + length ys) - from) (drop from xs) ≡ take (place - from) (drop from xs) ++ ys
-part-next from place xs ys rest le e =
-    let whole : (place + length ys) - from ≡ (place - from) + length ys = omega (arith, le) in
-    let there : from + (place - from) ≡ place = omega (arith, le) in
+part-next : (from position : ℕ) (xs ys rest : List Step) → from ≤ position → drop position xs ≡ ys ++ rest
+    → take ((position + length ys) - from) (drop from xs) ≡ take (position - from) (drop from xs) ++ ys
+part-next from position xs ys rest le e =
+    let whole : (position + length ys) - from ≡ (position - from) + length ys = omega (arith, le) in
+    let there : from + (position - from) ≡ position = omega (arith, le) in
     ap (λ m. take m (drop from xs)) whole
-    ∙ take-add (place - from) (length ys) (drop from xs)
-    ∙ ap (λ zs. take (place - from) (drop from xs) ++ take (length ys) zs) (drop-drop (place - from) from xs ∙ ap (λ m. drop m xs) there ∙ e)
-    ∙ ap (λ zs. take (place - from) (drop from xs) ++ zs) (take-append_seam ys rest)
+    ∙ take-add (position - from) (length ys) (drop from xs)
+    ∙ ap (λ zs. take (position - from) (drop from xs) ++ take (length ys) zs) (drop-drop (position - from) from xs ∙ ap (λ m. drop m xs) there ∙ e)
+    ∙ ap (λ zs. take (position - from) (drop from xs) ++ zs) (take-append_seam ys rest)
 
 all-taken : (count : ℕ) (ys : List Step) → length ys ≤ count → take count ys ≡ ys
 all-taken count ys le = take_all count ys le
 
-pub passed-next : (n m from place count : ℕ) (strings : List (List Letter)) (xs ys rest : List Step) (start old mid new : PropagationState) → from ≤ place
-    → drop place xs ≡ ys ++ rest → length ys ≤ count → m ≡ n → IsPlaced [] start → old ≡ passed n (take (place - from) (drop from xs)) start
+pub passed-next : (n m from position count : ℕ) (strings : List (List Letter)) (xs ys rest : List Step) (start old mid new : PropagationState) → from ≤ position
+    → drop position xs ≡ ys ++ rest → length ys ≤ count → m ≡ n → IsPlaced [] start → old ≡ passed n (take (position - from) (drop from xs)) start
     → GoesOver m strings [] never (take count ys) old mid → EndsTogether m ys (frame_at 0 old) → new ≡ record mid { letters = steps_leave m ys mid.letters }
-    → new ≡ passed n (take ((place + length ys) - from) (drop from xs)) start
-passed-next n m from place count strings xs ys rest start old mid new le e all same placed is over together left =
+    → new ≡ passed n (take ((position + length ys) - from) (drop from xs)) start
+passed-next n m from position count strings xs ys rest start old mid new le e all same placed is over together left =
     goes n strings ys old mid new (none-placed start old (ap (λ p. p.number) is) placed)
     (subst (λ k. GoesOver k strings [] never ys old mid) same (subst (λ zs. GoesOver m strings [] never zs old mid) (all-taken count ys all) over))
     (subst (λ k. EndsTogether k ys (frame_at 0 old)) same together)
     (left ∙ ap (λ k. record mid { letters = steps_leave k ys mid.letters }) same)
     ∙ ap (passed n ys) is
-    ∙ sym (passed-more n (take (place - from) (drop from xs)) ys start)
-    ∙ ap (λ zs. passed n zs start) (sym (part-next from place xs ys rest le e))
+    ∙ sym (passed-more n (take (position - from) (drop from xs)) ys start)
+    ∙ ap (λ zs. passed n zs start) (sym (part-next from position xs ys rest le e))
 
 -- steps that are the first of the next ones
 pub front-next : (xs zs rest ys : List Step) → xs ≡ zs ++ rest → (front : IsFront ys zs) → xs ≡ ys ++ (front.0 ++ rest)

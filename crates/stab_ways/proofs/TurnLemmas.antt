@@ -8,14 +8,14 @@ use Rattle.stab_ways.proofs.ItemLemmas.{steps-unrolled}
 -- what comes after k steps has the steps after them
 rest-steps : (k : ℕ) (parts : List Part) → steps_in (parts_after k parts) ≡ drop k (steps_in parts)
 rest-steps k [] = sym (drop_all k [] (omega arith))
-rest-steps k (q ∷ parts) = by_place (nat_le k (length q.steps)) refl (rest-steps (k - length q.steps) parts)
+rest-steps k (q ∷ parts) = by_position (nat_le k (length q.steps)) refl (rest-steps (k - length q.steps) parts)
   where
-    by_place : (b : Bool) → nat_le k (length q.steps) ≡ b → steps_in (parts_after (k - length q.steps) parts) ≡ drop (k - length q.steps) (steps_in parts)
+    by_position : (b : Bool) → nat_le k (length q.steps) ≡ b → steps_in (parts_after (k - length q.steps) parts) ≡ drop (k - length q.steps) (steps_in parts)
         → steps_in (if nat_le k (length q.steps) then rest_of k q ∷ parts else parts_after (k - length q.steps) parts) ≡ drop k (q.steps ++ steps_in parts)
-    by_place true e later =
+    by_position true e later =
         ap (λ (b : Bool). steps_in (if b then rest_of k q ∷ parts else parts_after (k - length q.steps) parts)) e
         ∙ sym (drop-into k q.steps (steps_in parts) (leb-true k (length q.steps) e))
-    by_place false e later =
+    by_position false e later =
         let less : length q.steps < k = leb-false k (length q.steps) e in
         ap (λ (b : Bool). steps_in (if b then rest_of k q ∷ parts else parts_after (k - length q.steps) parts)) e
         ∙ later

@@ -81,8 +81,8 @@ walked-reported every n string (q ∷ parts) t p ts =
 
 -- not yet put in
 
-abbrev pub waiting : Bool → ℕ → ℕ → PropagationState → WalkState
-waiting every k t p = record { every = every; steps = t; waits = Some k; frame = p; turns = [] }
+abbrev pub waiting : Bool → ℕ → ℕ → PropagationState → List Turn → WalkState
+waiting every k t p ts = record { every = every; steps = t; waits = Some k; frame = p; turns = ts }
 
 abbrev pub with_letters : List Letter → PropagationState → PropagationState
 with_letters string p = record p { letters = string_product p.letters string }
@@ -139,28 +139,28 @@ past-others k q parts is =
 
 -- what the walk comes to, if the string is put in at a step, and if it is not yet
 
-module _ (every : Bool) (n : ℕ) (string : List Letter) where
+module _ (every : Bool) (n : ℕ) (string : List Letter) (ts : List Turn) where
   abbrev pub put_at : ℕ → List Step → PropagationState → PropagationState
   put_at k xs p = with_letters string (passed n (take k xs) p)
 
   -- all of them passed, with these turns
   abbrev pub put_within : ℕ → List Step → ℕ → PropagationState → List Part → WalkState
   put_within k xs t p parts =
-      under_way every (t + length xs) (passed n (drop k xs) (put_at k xs p)) (turns every n (t + k) (frame_at 0 (put_at k xs p)) parts)
+      under_way every (t + length xs) (passed n (drop k xs) (put_at k xs p)) (ts ++ turns every n (t + k) (frame_at 0 (put_at k xs p)) parts)
 
   abbrev pub passed_by : ℕ → List Part → ℕ → PropagationState → WalkState
-  passed_by k parts t p = waiting every (k - length (steps_in parts)) (t + length (steps_in parts)) (passed n (steps_in parts) p)
+  passed_by k parts t p = waiting every (k - length (steps_in parts)) (t + length (steps_in parts)) (passed n (steps_in parts) p) ts
 
   abbrev pub after : ℕ → Part → ℕ → PropagationState → Bool → WalkState
-  after k q t p b = if b then reported n (rest_of k q) (put_in string (past_steps n (take k q.steps) (waiting every k t p)))
-      else record (past_steps n q.steps (waiting every k t p)) { waits = Some (k - length q.steps) }
+  after k q t p b = if b then reported n (rest_of k q) (put_in string (past_steps n (take k q.steps) (waiting every k t p ts)))
+      else record (past_steps n q.steps (waiting every k t p ts)) { waits = Some (k - length q.steps) }
 
   abbrev pub left : ℕ → Part → List Part → Bool → List Part
   left k q parts b = if b then rest_of k q ∷ parts else parts_after (k - length q.steps) parts
 
   -- in this instruction
   put-here : (k : ℕ) (q : Part) (parts : List Part) (t : ℕ) (p : PropagationState) → k ≤ length q.steps
-      → walked n string parts (reported n (rest_of k q) (put_in string (past_steps n (take k q.steps) (waiting every k t p)))) ≡
+      → walked n string parts (reported n (rest_of k q) (put_in string (past_steps n (take k q.steps) (waiting every k t p ts)))) ≡
       put_within k (steps_in (q ∷ parts)) t p (rest_of k q ∷ parts)
   put-here k q parts t p le =
       let ys = q.steps in
@@ -169,29 +169,29 @@ module _ (every : Bool) (n : ℕ) (string : List Letter) where
       omega (arith, cut, le, length-append (drop k ys) (steps_in parts), length-append ys (steps_in parts), length-drop k ys) in
       let front : take k ys ≡ take k (ys ++ steps_in parts) = sym (take-into k ys (steps_in parts) le) in
       let back : drop k ys ++ steps_in parts ≡ drop k (ys ++ steps_in parts) = sym (drop-into k ys (steps_in parts) le) in
-      walked-reported every n string (rest_of k q ∷ parts) (t + length (take k ys)) (with_letters string (passed n (take k ys) p)) []
+      walked-reported every n string (rest_of k q ∷ parts) (t + length (take k ys)) (with_letters string (passed n (take k ys) p)) ts
       ∙ (λ i. under_way every (sum i) (passed n (back i) (with_letters string (passed n (front i) p)))
-      (turns every n (t + cut i) (frame_at 0 (with_letters string (passed n (front i) p))) (rest_of k q ∷ parts)))
+      (ts ++ turns every n (t + cut i) (frame_at 0 (with_letters string (passed n (front i) p))) (rest_of k q ∷ parts)))
 
   pub walked-put : (k : ℕ) (parts : List Part) (t : ℕ) (p : PropagationState) → 0 < length parts → k ≤ length (steps_in parts)
-      → walked n string parts (waiting every k t p) ≡ put_within k (steps_in parts) t p (parts_after k parts)
+      → walked n string parts (waiting every k t p ts) ≡ put_within k (steps_in parts) t p (parts_after k parts)
   walked-put k [] t p some le = absurd (omega (arith, some))
   walked-put k (q ∷ parts) t p some le =
-      by_place (nat_le k (length q.steps)) refl
+      by_position (nat_le k (length q.steps)) refl
       (λ past.
       let rest : k - length q.steps ≤ length (steps_in parts) = omega (arith, le, past, length-append q.steps (steps_in parts)) in
       walked-put (k - length q.steps) parts (t + length q.steps) (passed n q.steps p) (some-parts parts (omega (arith, past, rest))) rest)
     where
-      by_place : (b : Bool) → nat_le k (length q.steps) ≡ b
-          → (length q.steps < k → walked n string parts (waiting every (k - length q.steps) (t + length q.steps) (passed n q.steps p)) ≡
+      by_position : (b : Bool) → nat_le k (length q.steps) ≡ b
+          → (length q.steps < k → walked n string parts (waiting every (k - length q.steps) (t + length q.steps) (passed n q.steps p) ts) ≡
           put_within (k - length q.steps) (steps_in parts) (t + length q.steps) (passed n q.steps p) (parts_after (k - length q.steps) parts))
           → walked n string parts (after k q t p (nat_le k (length q.steps))) ≡
           put_within k (steps_in (q ∷ parts)) t p (left k q parts (nat_le k (length q.steps)))
-      by_place true e later =
+      by_position true e later =
           ap (λ b. walked n string parts (after k q t p b)) e
           ∙ put-here k q parts t p (leb-true k (length q.steps) e)
           ∙ ap (λ b. put_within k (steps_in (q ∷ parts)) t p (left k q parts b)) (sym e)
-      by_place false e later =
+      by_position false e later =
           let ys = q.steps in
           let less : length ys < k = leb-false k (length ys) e in
           let past : length ys ≤ k = omega (arith, less) in
@@ -203,14 +203,14 @@ module _ (every : Bool) (n : ℕ) (string : List Letter) where
           ap (λ b. walked n string parts (after k q t p b)) e
           ∙ later less
           ∙ (λ i. under_way every (sum i) (passed n (back i) (with_letters string (front i)))
-          (turns every n (more i) (frame_at 0 (with_letters string (front i))) (left k q parts (sym e i))))
+          (ts ++ turns every n (more i) (frame_at 0 (with_letters string (front i))) (left k q parts (sym e i))))
 
   pub walked-past : (k : ℕ) (parts : List Part) (t : ℕ) (p : PropagationState) → IsPast k parts
-      → walked n string parts (waiting every k t p) ≡ passed_by k parts t p
+      → walked n string parts (waiting every k t p ts) ≡ passed_by k parts t p
   walked-past k [] t p is =
       let same : k ≡ k - 0 = omega arith in
       let none : t ≡ t + 0 = omega arith in
-      (λ i. waiting every (same i) (none i) (sym (passed-none n p) i))
+      (λ i. waiting every (same i) (none i) (sym (passed-none n p) i) ts)
   walked-past k (q ∷ parts) t p is =
       let ys = q.steps in
       let far : nat_le k (length ys) ≡ false = lt-leb k (length ys) (past-first k q parts is) in
@@ -218,7 +218,7 @@ module _ (every : Bool) (n : ℕ) (string : List Letter) where
       let less : (k - length ys) - length (steps_in parts) ≡ k - length (ys ++ steps_in parts) = omega (arith, length-append ys (steps_in parts)) in
       ap (λ b. walked n string parts (after k q t p b)) far
       ∙ walked-past (k - length ys) parts (t + length ys) (passed n ys p) (past-others k q parts is)
-      ∙ (λ i. waiting every (less i) (sum i) (sym (passed-more n ys (steps_in parts) p) i))
+      ∙ (λ i. waiting every (less i) (sum i) (sym (passed-more n ys (steps_in parts) p) i) ts)
 
 -- nothing comes after all
 pub none-after : (k : ℕ) (parts : List Part) → IsPast k parts → parts_after k parts ≡ []

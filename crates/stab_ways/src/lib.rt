@@ -4,7 +4,7 @@
 //! - `way`: where a string is listed, and the frame at the end.
 //! - `strings`: letters of strings with their qubits, and whether strings differ.
 //! - `resets`: what resets leave of a string.
-//! - `walk`: a string on its way over instructions. `rounds`: over items, and rounds of blocks.
+//! - `walk`: a string on its way over instructions. `folds`: rounds of a block that are repeated. `rounds`: over items, and rounds of blocks.
 //! - `string_ways`: the call.
 //!
 //! `specs/PutIn` says what a string becomes and flips, `specs/Ways` where it becomes another one and what it is at ticks, `specs/Laws` what that
@@ -18,6 +18,7 @@
 //! without it, flipped as reported; and its state after each step is that of the other with the string reported there applied.
 #![tactic(auto)]
 
+mod folds;
 pub mod laws;
 mod resets;
 mod rounds;

@@ -1,12 +1,13 @@
 //! A string on its way over items, and rounds of blocks.
 
-ghost use Rattle.std.specs.Prelude.{◌≡◌, ◌+◌, ◌*◌, ◌≤◌, All, length, OnOk};
+ghost use Rattle.std.specs.Prelude.{◌≡◌, ◌+◌, ◌*◌, ◌≤◌, false, All, length, OnOk};
 ghost use Rattle.stab_items.specs.Items.{before, done, listed};
-ghost use Rattle.stab_items.specs.Steps.{rounds, unroll, most_steps};
+ghost use Rattle.stab_items.specs.Steps.{looks_too_far, rounds, unroll, most_steps};
 ghost use Rattle.stab_run.specs.ProgramStates.{StepFits};
 ghost use Rattle.stab_ways.specs.Ways.{part_rounds, parts_of, rounds_counted};
 ghost use Rattle.stab_ways.specs.inner.Walks.{walked, walk_shown, IsWalk};
 
+use crate::folds::{Checkpoint, fold_rounds};
 use crate::walk::{Walk, over_instruction};
 use stab_instructions::Kind;
 use stab_items::{Item, Part};
@@ -31,14 +32,19 @@ fn over_item(alloc: Global, walk: &mut Walk, string: &Pauli, item: &Item) -> Res
             over_instruction(alloc, walk, string, kind)?;
             Ok(())
         }
-        Part::Block { count, body, .. } => {
-            over_rounds(alloc, walk, string, body, count.number())?;
+        Part::Block {
+            count,
+            body,
+            kept,
+            ..
+        } => {
+            over_rounds(alloc, walk, string, body, count.number(), kept.window)?;
             Ok(())
         }
     }
 }
 
-/// Passes this many rounds of items.
+/// Passes this many rounds of items, which look no further back from a round than the window.
 #[cycle(walking)]
 fn over_rounds(
     alloc: Global,
@@ -46,20 +52,34 @@ fn over_rounds(
     string: &Pauli,
     body: &[Item],
     count: u64,
+    window: u32,
 ) -> Result<(), AllocError>
     requires walks { IsWalk (length string.now.letters) walk.old }
     requires fits { All (StepFits (length string.now.letters)) (rounds count (unroll (listed body.now))) }
+    requires near { looks_too_far window (unroll (listed body.now)) ≡ false }
     requires few { walk.old.steps + count * length (unroll (listed body.now)) ≤ most_steps }
     ensures walks { OnOk result (IsWalk (length string.now.letters) walk.new) }
     ensures over { OnOk result (walk_shown walk.new ≡ walked (length string.now.letters) string.now.letters (part_rounds (rounds_counted count (length (unroll (listed body.now)))) (parts_of (listed body.now))) (walk_shown walk.old)) }
 {
-    'rounds: for _ in 0..count {
+    let mut checkpoint = Checkpoint::of(alloc, walk, 0)?;
+    let mut done = 0;
+    'rounds: while done < count {
         let steps = walk.steps;
         over_items(alloc, walk, string, body)?;
         // Rounds without a step are all at one place, however many they are.
         if walk.steps == steps {
             return Ok(());
         }
+        done = fold_rounds(
+            alloc,
+            walk,
+            string,
+            body,
+            &mut checkpoint,
+            done + 1,
+            count,
+            window,
+        )?;
     }
     Ok(())
 }

@@ -30,14 +30,14 @@ pub fn way_of(
     alloc: Global,
     circuit: &Circuit,
     every: bool,
-    place: usize,
+    position: usize,
     string: &Pauli,
 ) -> Result<Way, Refusal>
     requires checked { check_within (length string.now.letters) (circuit_items circuit.now) ≡ None }
-    ensures turns { IfOk result (λ w. map turn_shown w.turns.items ≡ string_turns every (length string.now.letters) place string.now.letters (circuit_items circuit.now)) }
-    ensures flips { IfOk result (λ w. w.end.flips ≡ string_flips (length string.now.letters) place string.now.letters (unroll (circuit_items circuit.now))) }
-    ensures left { IfOk result (λ w. w.end.letters ≡ string_after (length string.now.letters) place string.now.letters (unroll (circuit_items circuit.now)) (length (unroll (circuit_items circuit.now)))) }
-    ensures runs { IfOk result (λ w. (coins : ℕ → Bool) → FlipsRun (length string.now.letters) place string.now.letters (unroll (circuit_items circuit.now)) coins (coins_with (length string.now.letters) place string.now.letters (unroll (circuit_items circuit.now)) coins)) }
+    ensures turns { IfOk result (λ w. map turn_shown w.turns.items ≡ string_turns every (length string.now.letters) position string.now.letters (circuit_items circuit.now)) }
+    ensures flips { IfOk result (λ w. w.end.flips ≡ string_flips (length string.now.letters) position string.now.letters (unroll (circuit_items circuit.now))) }
+    ensures left { IfOk result (λ w. w.end.letters ≡ string_after (length string.now.letters) position string.now.letters (unroll (circuit_items circuit.now)) (length (unroll (circuit_items circuit.now)))) }
+    ensures runs { IfOk result (λ w. (coins : ℕ → Bool) → FlipsRun (length string.now.letters) position string.now.letters (unroll (circuit_items circuit.now)) coins (coins_with (length string.now.letters) position string.now.letters (unroll (circuit_items circuit.now)) coins)) }
     ensures err { IfErr result (λ r. r ≡ OutOfMemory) }
 {
     strings_flip_runs();
@@ -46,7 +46,7 @@ pub fn way_of(
         every,
         propagation: Propagation::new(alloc, n, &[], 0)?,
         turns: Vec::new(alloc),
-        waits: Some(place),
+        waits: Some(position),
         steps: 0,
         strings: Pivots::new(alloc, n),
     };

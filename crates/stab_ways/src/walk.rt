@@ -61,15 +61,15 @@ fn pass(
         draw: &SameCoins,
     };
     let mut none = ListCoins::new(&[]);
-    let mut place = from;
-    'steps: while place < to {
-        let Some(steps) = steps_from(kind, place, to - place) else {
+    let mut position = from;
+    'steps: while position < to {
+        let Some(steps) = steps_from(kind, position, to - position) else {
             return Ok(());
         };
         let front = at_once(propagation.letters(), steps);
         let went = propagate_instruction(propagation, known, &mut none, front, by_frame)?;
         leave_out_reset(propagation, front);
-        place += went;
+        position += went;
     }
     Ok(())
 }

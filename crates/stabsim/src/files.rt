@@ -14,7 +14,7 @@ use std::{fs, io};
 /// By which path the standard input is found among the files.
 pub(crate) const STANDARD_INPUT: &str = "/dev/stdin";
 
-/// A file that is written from its beginning, in place of what it held.
+/// A file that is written from its beginning, over what it held.
 ///
 /// It is cut at the first byte that is written to it, or at a flush, which comes after a run without a
 /// fault. What is no regular file, such as a pipe or a terminal, is never cut.

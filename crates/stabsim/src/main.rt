@@ -199,7 +199,7 @@ fn run_written<E: Output>(
 
 /// Runs a job on what it reads and writes. All jobs come here, on devices of the same types, so the program
 /// has one copy of what they do. What they don't know is said after it: a file that could not be read,
-/// and that no place is marked.
+/// and that no site is marked.
 fn run_on<E: Output>(
     rt: &HostRuntime,
     job: &Job,
@@ -239,8 +239,8 @@ fn shows_progress(command: Command) -> bool {
     }
 }
 
-/// Whether a command looked at marked places alone, and shows that there are none: `distance` by the number of errors that it searches or
-/// writes, and `faults` by no byte, except in the format b8, in which a fault may be of no byte.
+/// Whether a command looked at marked sites alone, and shows that there are none: `distance` by the number of errors that it searches or
+/// writes, and `faults` and `propagate_each` by no byte, except in the format b8, in which a fault may be of no byte.
 fn is_on_no_marks(command: Command, is_over_nothing: bool, is_empty: bool) -> bool {
     match command {
         Command::Faults {
@@ -248,6 +248,7 @@ fn is_on_no_marks(command: Command, is_over_nothing: bool, is_empty: bool) -> bo
             everywhere,
             ..
         } => is_empty && !everywhere && layout != FaultLayout::Shots(Format::B8),
+        Command::PropagateEach { everywhere } => is_empty && !everywhere,
         Command::Distance { options, .. } => is_over_nothing && !options.everywhere,
         _ => false,
     }

@@ -119,7 +119,7 @@ fn an_edit_is_judged_on_its_qubits(rt: HostRuntime) -> Result<(), Fail> {
         let found = judged(rt.alloc(), &mut circuit, n, call, path, item)?;
         assert!(rt; found == answer, "{item} on {n}");
     }
-    // The circuit has another item in its block and in the place of its last one, and no such round.
+    // The circuit has another item in its block and instead of its last one, and no such round.
     let split = fault_of(circuit.split(Path::new(&[0]), u64::MAX));
     let text = "REPEAT 3 {\n    X 0\n    X 1\n    M 0\n}\nTICK\n";
     let printed = prints(rt.alloc(), &circuit, text)?;

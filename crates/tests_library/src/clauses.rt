@@ -176,7 +176,7 @@ fn counted_blocks(alloc: Global, circuit: &Circuit) -> Result<usize, Refusal>
     Ok(repeats.len())
 }
 
-/// The first number of a path is that of its outermost place.
+/// The first number of a path is the position in the outermost list.
 fn outermost_place(path: &Path) -> usize
     ensures value { slice_get (numbers path.now) 0 ≡ Some result }
 {
@@ -213,7 +213,7 @@ fn runs_at_once(
     run_shots(alloc, circuit, n, seed, first, number)
 }
 
-/// A reference is the run with all coins 0, and there is one if no more outcomes are free than may be noted.
+/// A reference is the run with all coins 0, and there is one if no more outcomes are random than may be noted.
 fn recorded_reference(
     alloc: Global,
     circuit: &Circuit,

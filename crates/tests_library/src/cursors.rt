@@ -67,7 +67,7 @@ Some(One(H, 1))
 None
 ";
 
-// Texts, places among their unrolled steps, how many lines are asked for, whether the cursor is started
+// Texts, positions among their unrolled steps, how many lines are asked for, whether the cursor is started
 // again, and the lines.
 const CASES: &[(&str, usize, usize, bool, &str)] = &[
     (

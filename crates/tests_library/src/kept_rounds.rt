@@ -12,7 +12,7 @@ use stab_rounds::{edited_rounds, find_rounds};
 use std::alloc::Global;
 use std::test::Fail;
 
-/// A round of four steps, each a line of its own, so that places in the circuit are the numbers of its steps.
+/// A round of four steps, each a line of its own, so that positions in the circuit are the numbers of its steps.
 const ROUND: &str = "X 1\nM 0\nM 1\nDETECTOR rec[-1] rec[-2]\n";
 
 /// How many rounds are written out, one after the other from step 0 on. They look back to two records.

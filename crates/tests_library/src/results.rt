@@ -1,4 +1,4 @@
-//! Entries of places, as results name them.
+//! Entries of 1 bits at positions, as results name them.
 
 use stab_pauli::{MemoryOutput, Refusal};
 use stab_results::{Kinds, write_entries};
@@ -9,7 +9,7 @@ const M: Kinds = Kinds::Measurements;
 
 const D: Kinds = Kinds::Detectors(2);
 
-// Whether an output with this much room answers and has what it should if the entries of some places are written.
+// Whether an output with this much room answers and has what it should if the entries of some positions are written.
 fn is_right_in(
     alloc: Global,
     kinds: Kinds,
@@ -40,7 +40,7 @@ const ENTRIES: &[(Kinds, &[u32], &[u8])] = &[
     (M, &[], b""),
     (M, &[0, 12, 4_294_967_295], b" M0 M12 M4294967295"),
     (D, &[0, 1, 2, 5], b" D0 D1 L0 L3"),
-    // They come in the order of the places.
+    // They come in the order of the positions.
     (D, &[3, 0], b" L1 D0"),
 ];
 

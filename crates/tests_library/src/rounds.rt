@@ -74,8 +74,8 @@ fn text_of(alloc: Global, case: Case) -> Result<Vec<u8>, Fail> {
     Ok(text)
 }
 
-/// Where rounds of three steps are found, of which the first is another one: the place at step 0 never comes again, that at
-/// step 1 not as a round, and the next one that is tried is four steps further or after that, at step 6.
+/// Where rounds of three steps are found after a round that differs. The search tries step 0, which never comes again; then
+/// step 1, which doesn't come again as a round; and then the first step at which rounds may begin, four or more further: step 6.
 #[test]
 fn written_rounds_stand_in_the_steps(rt: HostRuntime) -> Result<(), Fail> {
     let alloc = rt.alloc();

@@ -116,7 +116,7 @@ fn costs(
     Ok([applied, by_frame] == steps && kept <= copies && asked_for)
 }
 
-/// A place in the outermost list, or in a block of it.
+/// The path of a position in the outermost list, or in a block of it.
 fn path(block: Option<usize>, place: usize) -> Path {
     match block {
         Some(block) => Path::new(&[block, place]),

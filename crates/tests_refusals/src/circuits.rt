@@ -26,7 +26,7 @@ REPEAT 2 {
 OBSERVABLE_INCLUDE(1) rec[-1]
 ";
 
-/// A circuit with a Pauli gate at place 1, whose flips go on to the end.
+/// A circuit with a Pauli gate at position 1, whose flips go on to the end.
 pub const WITH_PAULI: &[u8] = b"H 0
 X 2
 M 2 0 2 1 2

@@ -1,9 +1,9 @@
-//! The program `tests_refusals`: calls that are refused memory, at every place.
+//! The program `tests_refusals`: calls that are refused memory, at each request in turn.
 //!
 //! Each call is made on values that had ample memory. If it answers 20, all that its contract names
 //! must be as before, and the call, made again, must give what a call gives that was never refused. By
-//! itself the program is refused nothing; `tools/refuse.c` refuses the calls their requests for memory,
-//! each request in turn. A line says how each call ended.
+//! itself the program is refused nothing: `tools/refuse.c` refuses the requests. A line says how each
+//! call ended.
 //! Words and commands are not here: `tools/refuse.py` refuses the requests of the whole program for them.
 //!
 //! - `trial`: a call that is tried, and how it ended; `window`: where memory may be refused.

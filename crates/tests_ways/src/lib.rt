@@ -6,6 +6,8 @@
 #[cfg(test)]
 mod errors;
 #[cfg(test)]
+mod rounds;
+#[cfg(test)]
 mod ticks;
 #[cfg(test)]
 mod ways;

@@ -44,7 +44,7 @@ const CASES: &[Case] = &[
         X0,
         &[(2, X1), (4, X1)],
     ),
-    // All rounds of a block without steps are at one place, and the first counts.
+    // All rounds of a block without steps are before one step, and the first counts.
     (
         "H 0\nREPEAT 1000000000000 {\nTICK\nTICK\n}\nH 0\nTICK",
         0,

@@ -113,6 +113,90 @@ const CASES: &[Case] = &[
         X0,
     ),
     (
+        "REPEAT 7 {\nSWAP 0 1\n}",
+        3,
+        X0,
+        &[(4, X1), (5, X0), (6, X1), (7, X0)],
+        &[],
+        &[],
+        &[],
+        X0,
+    ),
+    // It comes back after two rounds, and in every other one it is measured as X. In each two records differ.
+    (
+        "M 0\nREPEAT 7 {\nH 0\nM 0\nDETECTOR rec[-1] rec[-2]\n}",
+        0,
+        X0,
+        &[
+            (2, Z0),
+            (5, X0),
+            (8, Z0),
+            (11, X0),
+            (14, Z0),
+            (17, X0),
+            (20, Z0),
+        ],
+        &[0, 2, 4, 6],
+        &[0, 1, 2, 3, 4, 5, 6],
+        &[],
+        Z0,
+    ),
+    // In each round it goes to a qubit that is measured and reset, and flips its record.
+    (
+        "R 1\nREPEAT 5 {\nCX 0 1\nMR 1\nDETECTOR rec[-1]\nOBSERVABLE_INCLUDE(0) rec[-1]\n}",
+        1,
+        X0,
+        &[
+            (2, X0_X1),
+            (3, X0),
+            (6, X0_X1),
+            (7, X0),
+            (10, X0_X1),
+            (11, X0),
+            (14, X0_X1),
+            (15, X0),
+            (18, X0_X1),
+            (19, X0),
+        ],
+        &[0, 1, 2, 3, 4],
+        &[0, 1, 2, 3, 4],
+        &[0, 1, 2, 3, 4],
+        X0,
+    ),
+    // The first round looks back to the flipped record before the block, and no later one does.
+    (
+        "MR 0\nM 1\nREPEAT 6 {\nCX rec[-2] 1\nM 0\n}",
+        0,
+        X0,
+        &[(1, &[]), (3, X1)],
+        &[0],
+        &[],
+        &[],
+        X1,
+    ),
+    // So does the second alone, though the string comes to it as it came to the first.
+    (
+        "M 1\nMR 0\nREPEAT 6 {\nCX rec[-2] 1\nM 0\n}",
+        0,
+        X0,
+        &[(2, &[]), (5, X1)],
+        &[1],
+        &[],
+        &[],
+        X1,
+    ),
+    // It is gone after the first round, and a detector after the block looks back to the record that it flipped there.
+    (
+        "R 1\nREPEAT 9 {\nMR 0\nDETECTOR rec[-1]\n}\nDETECTOR rec[-9]",
+        1,
+        X0,
+        &[(2, &[])],
+        &[0],
+        &[0, 9],
+        &[],
+        &[],
+    ),
+    (
         "REPEAT 2 {\nREPEAT 2 {\nS 0\n}\nM 0\n}",
         3,
         X0,
@@ -172,7 +256,7 @@ fn are(found: &[PlacedLetter], wanted: Letters) -> bool {
 }
 
 /// Whether a string has these letters, and no others.
-fn left(letters: &[Letter], wanted: Letters) -> bool {
+pub(crate) fn left(letters: &[Letter], wanted: Letters) -> bool {
     let mut next = 0;
     for qubit in 0..letters.len() {
         if letters[qubit] == Letter::I {
@@ -235,7 +319,7 @@ pub(crate) fn set(string: &mut Pauli, qubit: usize, letter: Letter) {
 }
 
 /// The way of a string of two letters, of which these are not I.
-fn way(alloc: Global, circuit: &Circuit, place: usize, letters: Letters) -> Option<Way> {
+pub(crate) fn way(alloc: Global, circuit: &Circuit, place: usize, letters: Letters) -> Option<Way> {
     let mut string = Pauli::identity(alloc, 2).ok()?;
     for (qubit, letter) in letters {
         set(&mut string, *qubit, *letter);

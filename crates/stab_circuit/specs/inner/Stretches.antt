@@ -62,7 +62,7 @@ pub record IsRunOf (xs : List OneItem) (s : Progress) (n : ℕ) (rest : List ℕ
 abbrev pub IsRun : List OneItem → Progress → ℕ → List ℕ → Option Run → Type 0
 IsRun xs s n rest run = MatchOption run (Unit {0}) (IsRunOf xs s n rest)
 
--- a run whose items are now those of the list from a place on
+-- a run whose items are now those of the list from a position on
 pub record IsEnded (xs : List OneItem) (first n : ℕ) (rest : List ℕ) (run : Run) : Type 0 where
   pub within : first ≤ length xs
   pub lines : List (List ℕ)

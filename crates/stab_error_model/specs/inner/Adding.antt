@@ -4,21 +4,21 @@ use Rattle.std.specs.Prelude.{◌≡◌, ℕ, List, ◌∷◌, ◌++◌, map, dr
 use Rattle.stab_gates.specs.declared.letter.Letter.TheVariants as letter
 use Rattle.stab_regions.specs.Faults.{FaultPlace}
 use Rattle.stab_error_model.specs.Errors.{Error}
-use Rattle.stab_error_model.specs.Placed.{letter_at, error_shown}
+use Rattle.stab_error_model.specs.Placed.{fault_of_letter, error_shown}
 use Rattle.stab_error_model.specs.declared.placed.Place.{Place}
 use Rattle.stab_error_model.specs.declared.placed.Error.{Error as ErrorValue}
 use Rattle.stab_error_model.specs.declared.placed.Error.TheVariants as error
 
--- X and then Z at a place are in a list of faults from its row on
+-- X and then Z at a site are in a list of faults from its row on
 abbrev pub Stands : Place → List FaultPlace → Type 0
-Stands p faults = (rest : List FaultPlace) × (drop p.row faults ≡ letter_at p letter.X ∷ letter_at p letter.Z ∷ rest)
+Stands p faults = (rest : List FaultPlace) × (drop p.row faults ≡ fault_of_letter p letter.X ∷ fault_of_letter p letter.Z ∷ rest)
 
--- the same of all places of an error
+-- the same of all sites of an error
 abbrev pub ErrorStands : List FaultPlace → ErrorValue → Type 0
-ErrorStands faults (error.Letter f) = Stands f.place faults
-ErrorStands faults (error.Letters f g) = Stands f.place faults × Stands g.place faults
-ErrorStands faults (error.Record number flip None) = Stands flip.place faults
-ErrorStands faults (error.Record number flip (Some back)) = Stands flip.place faults × Stands back.place faults
+ErrorStands faults (error.Letter f) = Stands f.site faults
+ErrorStands faults (error.Letters f g) = Stands f.site faults × Stands g.site faults
+ErrorStands faults (error.Record number flip None) = Stands flip.site faults
+ErrorStands faults (error.Record number flip (Some back)) = Stands flip.site faults × Stands back.site faults
 
 -- errors are put after others; and all are in a list of faults, if the others are and this holds for the list
 pub record Adds (Is : List FaultPlace → Type 0) (given : List Error) (old new : List ErrorValue) : Type 0 where

@@ -1,4 +1,4 @@
--- Rows of errors: what an error flips, by the rows of X and Z at its places.
+-- Rows of errors: what an error flips, by the rows of X and Z at its sites.
 -- Source: this project's own.
 use Rattle.std.specs.Prelude.{◌≡◌, ℕ, ◌+◌, Bool, List, Some, None}
 use Rattle.std.specs.List.{AllZip}
@@ -14,11 +14,11 @@ use Rattle.stab_error_model.specs.declared.placed.Error.TheVariants as error
 abbrev pub RowsAscend : List (List ℕ) → Type 0
 RowsAscend rows = (k : ℕ) → IsAscending (row rows k)
 
--- a letter flips a bit, by the rows of X and Z at its place
+-- a letter flips a bit, by the rows of X and Z at its site
 abbrev pub letter_names : ℕ → List (List ℕ) → PlacedLetter → Bool
-letter_names i rows f = bits_at i f.letter (row rows f.place.row) (row rows (f.place.row + 1))
+letter_names i rows f = bits_at i f.letter (row rows f.site.row) (row rows (f.site.row + 1))
 
--- an error does
+-- an error flips it, by the same rows
 abbrev pub error_names : ℕ → List (List ℕ) → Error → Bool
 error_names i rows (error.Letter f) = letter_names i rows f
 error_names i rows (error.Letters f g) = letter_names i rows f ⊕ letter_names i rows g

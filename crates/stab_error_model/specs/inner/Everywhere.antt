@@ -19,7 +19,7 @@ abbrev pub reset_errors : List Letter → (following : Letter → FaultPlace) �
 reset_errors letters following true = each_letter letters following
 reset_errors letters following false = []
 
--- the errors at a measurement of a letter between two places, with its record of this number
+-- the errors at a measurement of a letter between two sites, with its record of this number
 abbrev pub measured_errors : List Letter → Letter → (front following : Letter → FaultPlace) → (resets : Bool) → (number : ℕ) → List Error
 measured_errors letters l front following resets number =
     each_letter letters front ++ ((wrong_record number (front (flip_of l)) (back_of resets (following (flip_of l))) ∷ []) ++ reset_errors letters following resets)

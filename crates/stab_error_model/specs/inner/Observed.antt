@@ -2,14 +2,14 @@
 -- Source: this project's own.
 use Rattle.std.specs.Prelude.{◌≡◌, ℕ, ◌+◌, ◌-◌, ◌<◌, Bool, true, false, ◌||◌, ◌==◌, nat_lt, List, length, map, All, Option, Some, None}
 use Rattle.std.specs.List.{filter}
-use Rattle.stab_search.specs.Tables.{ErrorTable, flips}
+use Rattle.stab_search.specs.Tables.{ErrorTable, flipped_by_rows}
 use Rattle.stab_error_model.specs.Unseen.{IsAskedFor}
 
 -- whether a number is that of a detector, or of this observable
 abbrev pub is_kept : (detectors observable : ℕ) → ℕ → Bool
 is_kept detectors observable number = nat_lt number detectors || ((number - detectors) == observable)
 
--- the numbers of a row that are
+-- the numbers of a row that are kept so
 abbrev pub kept_row : (detectors observable : ℕ) → List ℕ → List ℕ
 kept_row detectors observable = filter (is_kept detectors observable)
 
@@ -21,7 +21,7 @@ with_observable (Some observable) t = record { detectors = t.detectors; rows = m
 -- a logical error of a table that flips an observable that is asked for
 pub record IsLogicalOf (observable : Option ℕ) (t : ErrorTable) (errors : List ℕ) : Type 0 where
   pub inside : All (λ r. r < length t.rows) errors
-  pub undetected : (d : ℕ) → d < t.detectors → flips t.rows errors d ≡ false
+  pub undetected : (d : ℕ) → d < t.detectors → flipped_by_rows t.rows errors d ≡ false
   pub number : ℕ
   pub asked : IsAskedFor observable number
-  pub flipped : flips t.rows errors (t.detectors + number) ≡ true
+  pub flipped : flipped_by_rows t.rows errors (t.detectors + number) ≡ true

@@ -18,7 +18,7 @@ never coin = false
 abbrev pub differing : (olds others : ℕ → Bool) → ℕ → Bool
 differing olds others coin = olds coin ⊕ others coin
 
--- if an outcome was free, its coin differs as is drawn
+-- if an outcome was random, its coin differs as is drawn
 abbrev pub IsDrawn : List Bool → (draw changes : ℕ → Bool) → ℕ → Type 0
 IsDrawn free draw changes coin = slice_index_or free coin false ≡ true → changes coin ≡ draw coin
 
@@ -28,6 +28,6 @@ AreDrawn free draw changes [] coin = Unit {0}
 AreDrawn free draw changes (x ∷ xs) coin =
     (0 < coins_of x → IsDrawn free draw changes coin) × AreDrawn free draw changes xs (coin + coins_of x)
 
--- between two counts of asks the coins of free outcomes were asked for, from one number to another, each once at most
+-- between two counts of asks the coins of random outcomes were asked for, from one number to another, each once at most
 abbrev pub AsksFree : List Bool → (from to : ℕ) → (old new : ℕ) → Type 0
 AsksFree free from to old new = new + ones (take from free) ≤ old + ones (take to free)

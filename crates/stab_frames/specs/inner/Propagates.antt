@@ -70,12 +70,12 @@ pub record GoesOver (n : ℕ) (strings : List (List Letter)) (free : List Bool) 
   pub placed : IsPlaced free new
   pub size : length new.letters ≡ n
 
--- whatever strings were kept, whichever outcomes were free, and whatever is drawn
+-- whatever strings were kept, whichever outcomes were random, and whatever is drawn
 abbrev pub GoesFreely : ℕ → List Step → PropagationState → PropagationState → Type 0
 GoesFreely n xs old new =
     (strings : List (List Letter)) (free : List Bool) (draw : ℕ → Bool) → IsPlaced free old → GoesOver n strings free draw xs old new
 
--- the string of a free outcome before a coin was not kept
+-- the string of a random outcome before a coin was not kept
 abbrev pub IsMissing : List (List Letter) → List Bool → ℕ → Type 0
 IsMissing strings free coin = length strings < ones (take coin free)
 

@@ -17,7 +17,7 @@ pub record IsAdded (n : ℕ) (member : Signed → Bool) (m : Signed) (old new : 
   pub is_pivot : IsPivot n member m string
   pub strings : new.strings ≡ kept_with old.most old.strings (string ∷ [])
 
--- if the outcome of what is measured is free, a string is added, and else none
+-- if the outcome of what is measured is random, a string is added, and else none
 abbrev pub KeepsPivotsOf : ℕ → (Signed → Bool) → Option Signed → PivotsState → PivotsState → Type 0
 KeepsPivotsOf n member None old new = new.strings ≡ old.strings
 KeepsPivotsOf n member (Some m) old new =

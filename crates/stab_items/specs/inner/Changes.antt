@@ -1,4 +1,4 @@
--- Changes: what is put in place of an item, part by part.
+-- Changes: what replaces an item, part by part.
 -- Source: this project's own.
 use Rattle.std.specs.Prelude.{◌≡◌, ℕ, zero, suc, ◌+◌, nat_lt, List, [], ◌∷◌, ◌++◌, length, take, drop, slice_get, if◌then◌else◌, All, Result, Ok, Err}
 use Rattle.stab_io.specs.declared.refusal.Refusal.{Refusal}
@@ -23,11 +23,11 @@ abbrev pub changed_in : ListChange → List ℕ → ListChange
 changed_in f [] xs = f xs
 changed_in f (b ∷ bs) xs = with_item b xs (edited_inside (changed_in f bs) (slice_get xs b))
 
--- the parts in the place of an item, if there is one
+-- the parts that replace an item, if there is one
 abbrev pub parts_at : ℕ → List OneItem → ListChange
 parts_at place parts xs = if nat_lt place (length xs) then Ok (take place xs ++ (parts ++ drop (place + 1) xs)) else Err PlaceOutOfRange
 
--- the parts in place of the item at a path
+-- the parts that replace the item at a path
 abbrev pub with_parts_at : Path → List OneItem → ListChange
 with_parts_at path parts xs = changed_in (parts_at path.place parts) path.blocks xs
 
@@ -37,6 +37,6 @@ pub record AreAsDeep (path : Path) (parts xs : List OneItem) : Type 0 where
   pub there : item_at path xs ≡ Ok item
   pub deep : All (λ x. depth_of x ≡ depth_of item) parts
 
--- the parts came before those that are in place of an item, whatever those are
+-- the parts came before those that replace an item, whatever those are
 pub record AreBefore (path : Path) (parts old new : List OneItem) : Type 0 where
   pub put : (others xs : List OneItem) → with_parts_at path others xs ≡ Ok old → with_parts_at path (parts ++ others) xs ≡ Ok new

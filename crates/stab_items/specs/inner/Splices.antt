@@ -8,7 +8,7 @@ use Rattle.stab_items.specs.declared.edit.Edit.TheVariants.{Insert, Replace, Del
 use Rattle.stab_items.specs.Items.{OneItem}
 use Rattle.stab_items.specs.Edits.{edited_inside, edited_in}
 
--- some items are put into a list in place of those from one place up to another
+-- some items are put into a list instead of those from one position up to another
 pub record Splice : Type 0 where
   pub first : ℕ
   pub following : ℕ
@@ -20,7 +20,7 @@ splice_at (Insert place x) n = if nat_le place.place n then Ok (record { first =
 splice_at (Replace place x) n = if nat_lt place.place n then Ok (record { first = place.place; following = place.place + 1; put = x ∷ [] }) else Err PlaceOutOfRange
 splice_at (Delete place) n = if nat_lt place.place n then Ok (record { first = place.place; following = place.place + 1; put = [] }) else Err PlaceOutOfRange
 
--- the splice of an item that is rebuilt at a place, unless that was refused
+-- the splice of an item that is rebuilt at a position, unless that was refused
 abbrev pub splice_block : ℕ → Result OneItem Refusal → Result Splice Refusal
 splice_block b (Ok x) = Ok (record { first = b; following = b + 1; put = x ∷ [] })
 splice_block b (Err r) = Err r

@@ -6,8 +6,8 @@ use Rattle.stab_items.specs.Items.{OneItem, listed}
 use Rattle.stab_items.specs.Steps.{unroll}
 use Rattle.stab_items.specs.StepPaths.{paths_from, item_steps_left}
 
--- the item is the one that a step of the items from a place on is of: this many of its steps come before the step, those of the items after do not, and the
--- paths from the step on and the number of its item's steps left are the same
+-- the item is the one that a step of the items from a position on is of: this many of its steps come before the step, those of the items
+-- after do not, and the paths from the step on and the number of its item's steps left are the same
 pub record IsFoundItem (xs : List OneItem) (place step : ℕ) (f : FoundItem) : Type 0 where
   pub in_range : f.place < length xs
   pub within : f.within + length (unroll (listed (drop (f.place + 1) xs))) < length (unroll (listed (drop f.place xs)))

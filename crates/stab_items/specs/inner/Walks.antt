@@ -1,4 +1,4 @@
--- Walks: what is left of the steps at a place within nested blocks.
+-- Walks: what is left of the steps at a position within nested blocks.
 -- Source: this project's own.
 use Rattle.std.specs.Prelude.{◌≡◌, ◌<◌, ◌≤◌, ◌^◌, ℕ, ◌+◌, ◌*◌, Bool, true, false, List, [], ◌∷◌, ◌++◌, length, drop, Option, Some, None, slice_index_or, vec_capacity}
 use Rattle.std.specs.Borrow.{Bor}
@@ -13,13 +13,13 @@ abbrev pub kind_steps : Option (Bor Kind) → List Step
 kind_steps None = []
 kind_steps (Some kind) = steps_of kind.now
 
--- the steps of a list of items from a place on, and of this many rounds of the list after them
+-- the steps of a list of items from a position on, and of this many rounds of the list after them
 abbrev pub left_at : List OneItem → ℕ → ℕ → List Step
-left_at xs place more = unroll (listed (drop place xs)) ++ rounds more (unroll (listed xs))
+left_at xs position more = unroll (listed (drop position xs)) ++ rounds more (unroll (listed xs))
 
 -- the steps of a level that are left
 abbrev pub level_left : Level → List Step
-level_left l = left_at l.items.now l.place l.rounds
+level_left l = left_at l.items.now l.position l.rounds
 
 -- the steps of levels, of which the last is the innermost, and then others
 abbrev pub levels_left : List Step → List Level → List Step
@@ -37,13 +37,13 @@ weight done = 0
 weight (next op rest) = 1 + weight rest
 weight (block count tag body rest) = 1 + count * (1 + weight body) + weight rest
 
--- how much of a list there is from a place on, with this many rounds of the list after it
+-- how much of a list there is from a position on, with this many rounds of the list after it
 abbrev pub weight_at : List OneItem → ℕ → ℕ → ℕ
-weight_at xs place more = weight (listed (drop place xs)) + more * (1 + weight (listed xs)) + 1
+weight_at xs position more = weight (listed (drop position xs)) + more * (1 + weight (listed xs)) + 1
 
 -- how much of a level there is
 abbrev pub level_weight : Level → ℕ
-level_weight l = weight_at l.items.now l.place l.rounds
+level_weight l = weight_at l.items.now l.position l.rounds
 
 -- how much of levels there is
 abbrev pub levels_weight : List Level → ℕ
@@ -68,10 +68,10 @@ pub record IsWalk (w : Walk) : Type 0 where
   pub nested : IsNested 0 w.around.items
   pub shallow : depth (listed w.top.items.now) + length w.around.items ≤ 16
 
--- the item at a level's place, or that there is none
+-- the item at a level's position, or that there is none
 abbrev pub IsItemOf : Level → Option (Bor OneItem) → Type 0
-IsItemOf l None = length l.items.now ≤ l.place
-IsItemOf l (Some x) = (l.place < length l.items.now) × (x.now ≡ slice_index_or l.items.now l.place x.now) × (l.place + 1 < 2 ^ 64)
+IsItemOf l None = length l.items.now ≤ l.position
+IsItemOf l (Some x) = (l.position < length l.items.now) × (x.now ≡ slice_index_or l.items.now l.position x.now) × (l.position + 1 < 2 ^ 64)
 
 -- the instruction under way stayed
 pub record SameKind (old new : Walk) : Type 0 where

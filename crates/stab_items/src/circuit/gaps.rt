@@ -17,14 +17,14 @@ use std::alloc::Global;
 /// The most gaps that are reported: as many as a circuit may have steps.
 const MOST_GAPS: u64 = 1_048_576;
 
-/// The item at a place of a list, if there is one.
+/// The item at a position of a list, if there is one.
 fn item_in_list(items: &[Item], place: usize) -> Option<&Item>
     ensures value { shown_item result ≡ slice_get items.now place }
 {
     items.get(place)
 }
 
-/// How many steps the items after the one at a place make, or 1,048,577 if they make more.
+/// How many steps the items after the one at a position make, or 1,048,577 if they make more.
 fn steps_after(items: &[Item], place: usize) -> u32
     ensures value { result ≡ min (length (unroll (listed (drop (place + 1) items.now)))) steps_cap }
 {
@@ -100,7 +100,7 @@ fn gaps_of_rounds(
     Ok(Some(gaps))
 }
 
-/// The gaps after the item at a place in nested blocks of a list, the last up to the end of the list;
+/// The gaps after the item at a position in nested blocks of a list, the last up to the end of the list;
 /// or `None` if no block is on the way, or there are too many gaps.
 #[cycle(gaps)]
 fn gaps_in(
@@ -128,7 +128,7 @@ fn gaps_in(
     }
 }
 
-/// The gaps after the item at a place in a block and the blocks in it, the last up to the end of the
+/// The gaps after the item at a position in a block and the blocks in it, the last up to the end of the
 /// block; or `None` if no block is on the way, or there are too many gaps.
 #[cycle(gaps)]
 fn gaps_inside(

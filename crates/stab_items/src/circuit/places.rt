@@ -8,7 +8,7 @@ use crate::judge::block_at;
 use crate::path::Path;
 use stab_io::Refusal;
 
-/// The item at a place, if there is one.
+/// The item that was found, if there is one.
 fn item_of(found: Option<&Item>) -> Result<&Item, Refusal>
     ensures value { FindsItem result (item_there (shown_item found.entry)) }
 {
@@ -18,14 +18,14 @@ fn item_of(found: Option<&Item>) -> Result<&Item, Refusal>
     }
 }
 
-/// The item at a place of a list.
+/// The item at a position of a list.
 fn item_of_list(items: &[Item], place: usize) -> Result<&Item, Refusal>
     ensures value { FindsItem result (item_there (slice_get items.now place)) }
 {
     item_of(items.get(place))
 }
 
-/// The item at a place in nested blocks of a list.
+/// The item at a position in nested blocks of a list.
 #[cycle(finding)]
 fn item_in<'a>(items: &'a [Item], blocks: &[usize], place: usize) -> Result<&'a Item, Refusal>
     ensures value { FindsItem result (item_within blocks.now place items.now) }
@@ -36,7 +36,7 @@ fn item_in<'a>(items: &'a [Item], blocks: &[usize], place: usize) -> Result<&'a 
     }
 }
 
-/// The item at a place in a block of a list and the blocks in it.
+/// The item at a position in a block of a list and the blocks in it.
 #[cycle(finding)]
 fn item_inside<'a>(
     items: &'a [Item],

@@ -36,7 +36,7 @@ pub(super) fn item_steps(item: &Item) -> u32
     }
 }
 
-/// What the item at a place is.
+/// What the item at a position is.
 fn part_at(items: &[Item], place: usize) -> Part<'_>
     requires in_range { place < length items.now }
     ensures value { part_of result ≡ slice_index_or items.now place (part_of result) }
@@ -45,7 +45,7 @@ fn part_at(items: &[Item], place: usize) -> Part<'_>
     items[place].part()
 }
 
-/// The item of a step of the items from a place on.
+/// The item of a step of the items from a position on.
 fn find_item(items: &[Item], place: usize, step: u32) -> FoundItem
     requires few { length (unroll (listed items.now)) ≤ most_steps }
     requires in_range { step < length (unroll (listed (drop place items.now))) }

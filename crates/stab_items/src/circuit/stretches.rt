@@ -18,7 +18,7 @@ pub(crate) struct Stretch {
     pub(crate) summary: Summary,
 }
 
-/// A place in a list, and how many steps are left out from there on.
+/// A position in a list, and how many steps are left out from there on.
 #[derive(Clone, Copy)]
 pub(crate) struct StepPlace {
     pub(crate) place: usize,
@@ -58,22 +58,22 @@ fn stretch_at(stretches: &[Stretch], number: usize) -> Stretch
     stretches[number]
 }
 
-/// The items of a list before a place.
+/// The items of a list before a position.
 fn items_up_to(items: &[Item], place: usize) -> &[Item]
     ensures value { result.now ≡ take place items.now }
 {
     items.split_at(place.min(items.len())).0
 }
 
-/// The items of a list from a place on.
+/// The items of a list from a position on.
 fn items_from(items: &[Item], place: usize) -> &[Item]
     ensures value { result.now ≡ drop place items.now }
 {
     items.split_at(place.min(items.len())).1
 }
 
-/// The summary of those items of a stretch, which begins at a place of a list, that are in a front
-/// of the list and from another place on.
+/// The summary of those items of a stretch, which begins at a position of a list, that are in a front
+/// of the list and from another position on.
 fn summary_within(stretch: Stretch, place: usize, front: &[Item], first: usize) -> Summary
     requires room { place + stretch.items < 2 ^ 64 }
     requires sum { place + stretch.items ≤ length front.now → IsSumOf (listed (take stretch.items (drop place front.now))) stretch.summary }
@@ -86,7 +86,7 @@ fn summary_within(stretch: Stretch, place: usize, front: &[Item], first: usize) 
     items_summary(items_from(items_up_to(front, end), first.max(place)))
 }
 
-/// The summary of the items of a list from one place up to another, by its stretches.
+/// The summary of the items of a list from one position up to another, by its stretches.
 pub(crate) fn summary_between(
     stretches: &[Stretch],
     items: &[Item],
@@ -132,7 +132,7 @@ impl Circuit {
     ghost use Rattle.stab_items.specs.Items.{listed};
     ghost use Rattle.stab_items.specs.Steps.{unroll, most_steps};
 
-    /// The last place that is known before a step, and how many steps are between.
+    /// The last position that is known before a step, and how many steps are between.
     pub(crate) fn place_before(&self, step: u32) -> StepPlace
         requires few { step ≤ most_steps }
         ensures within { result.place ≤ length self.now }

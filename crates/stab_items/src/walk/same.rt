@@ -7,15 +7,15 @@ use crate::same::count_same_items;
 impl<'a> Level<'a> {
     ghost use Rattle.std.specs.Prelude.{◌≡◌, ◌<◌, ◌+◌, ◌^◌, length, drop};
 
-    /// The items from the place on.
+    /// The items from the position on.
     fn items_ahead(self) -> &'a [Item]
-        ensures value { result.now ≡ drop self.entry.place self.entry.items.now }
-        ensures room { self.entry.place + length result.now < 2 ^ 64 }
+        ensures value { result.now ≡ drop self.entry.position self.entry.items.now }
+        ensures room { self.entry.position + length result.now < 2 ^ 64 }
     {
-        if self.place >= self.items.len() {
+        if self.position >= self.items.len() {
             return &[];
         }
-        let (_, ahead) = self.items.split_at(self.place);
+        let (_, ahead) = self.items.split_at(self.position);
         ahead
     }
 }
@@ -41,15 +41,15 @@ impl<'a> Walk<'a> {
     fn pass_items(&mut self, count: usize)
         requires walks { IsWalk self.old }
         requires given { drop self.old.within (kind_steps self.old.kind) ≡ [] }
-        requires room { self.old.top.place + count < 2 ^ 64 }
+        requires room { self.old.top.position + count < 2 ^ 64 }
         ensures walks { IsWalk self.new }
-        ensures left { walk_left self.old ≡ unroll (listed (take count (drop self.old.top.place self.old.top.items.now))) ++ walk_left self.new }
+        ensures left { walk_left self.old ≡ unroll (listed (take count (drop self.old.top.position self.old.top.items.now))) ++ walk_left self.new }
     {
-        self.top.place += count;
+        self.top.position += count;
     }
 
     /// Goes past the items that come next in the innermost blocks of two walks, as far as they have the
-    /// same steps, and says how many steps each has passed. Neither moves if either has given only
+    /// same steps, and says how many steps each walk has passed. Neither moves if either has given only
     /// some steps of an instruction.
     pub fn pass_same(&mut self, other: &mut Walk) -> usize
         requires walks { IsWalk self.old }

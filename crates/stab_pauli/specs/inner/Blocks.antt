@@ -38,7 +38,7 @@ pub record CoversLetters (m mask : ℕ) (row : List ℕ) : Type 0 where
   pub within : (b : ℕ) → b < 64 → chooses mask b ≡ true → b < m
   pub blank : (b : ℕ) → b < m → chooses mask b ≡ false → chunk (8 * b) 8 row ≡ replicate 8 0
 
--- no letter before the place is X or Y
+-- no letter before the position is X or Y
 abbrev pub HasNoXBefore : ℕ → List Letter → Type 0
 HasNoXBefore k letters = (j : ℕ) → j < k → has_x (slice_index_or letters j I) ≡ false
 
@@ -48,7 +48,7 @@ pub record IsFirstX (size : ℕ) (letters : List Letter) (k : ℕ) : Type 0 wher
   pub has_x_here : has_x (slice_index_or letters k I) ≡ true
   pub first : HasNoXBefore k letters
 
--- the letters from one place on to another are I
+-- the letters from one position on to another are I
 abbrev pub IsBlankFrom : ℕ → ℕ → List Letter → Type 0
 IsBlankFrom from k letters = (j : ℕ) → from ≤ j → j < k → slice_index_or letters j I ≡ I
 

@@ -28,7 +28,7 @@ letters_meet Z X = true
 letters_meet Z Y = true
 letters_meet Z Z = false
 
--- whether that is so at an odd number of places of two strings
+-- whether that is so at an odd number of positions of two strings
 abbrev pub strings_meet : List Letter → List Letter → Bool
 strings_meet [] q = false
 strings_meet (x ∷ p) [] = false

@@ -15,7 +15,7 @@ abbrev pub spread_next : List ℕ → List ℕ → ℕ → List ℕ
 spread_next gaps [] following = []
 spread_next gaps (word ∷ kept) following = word ∷ spread gaps kept following
 
--- the words from a place on: this many that are 0, and then those from the next on that is kept, if any is
+-- the words from a position on: this many that are 0, and then those from the next on that is kept, if any is
 abbrev pub words_from : (gaps kept : List ℕ) (following next gap : ℕ) → List ℕ
 words_from gaps kept following next gap = replicate gap 0 ++ spread_next (drop (next + 1) gaps) (drop next kept) following
 

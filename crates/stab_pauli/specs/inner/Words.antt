@@ -52,7 +52,7 @@ words_ones k (word ∷ words) = word_ones k word + words_ones k words
 abbrev pub xor_words : List ℕ → List ℕ → List ℕ
 xor_words = zip2 bit_xor
 
--- the size words from a on and those from b on have changed places
+-- the size words from a on and those from b on were exchanged
 abbrev pub swapped_words : ℕ → ℕ → ℕ → List ℕ → List ℕ
 swapped_words a b size words = put_chunk b (put_chunk a words (chunk b size words)) (chunk a size words)
 

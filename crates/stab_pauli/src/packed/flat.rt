@@ -35,7 +35,7 @@ pub(crate) fn row_of(words: &[u64], count: usize, blocks: usize, a: usize) -> &[
 
 /// Where the words of the eight rows from row a on begin.
 #[inline(always)]
-fn place_of_part(size: usize, count: usize, blocks: usize, a: usize) -> usize
+fn position_of_part(size: usize, count: usize, blocks: usize, a: usize) -> usize
     requires in_range { a + 8 ≤ count }
     requires all { size ≡ 8 * blocks * count }
     ensures value { result ≡ 8 * blocks * a }
@@ -52,12 +52,12 @@ pub(crate) fn part_of(words: &[u64], count: usize, blocks: usize, a: usize) -> &
     ensures value { result.now ≡ chunk (8 * blocks * a) (8 * blocks * 8) words.now }
     ensures size { length result.now ≡ 8 * blocks * 8 }
 {
-    let at = place_of_part(words.len(), count, blocks, a);
+    let at = position_of_part(words.len(), count, blocks, a);
     &words[at..at + 8 * blocks * 8]
 }
 
 /// Multiplies row a of this many rows by row b, and says whether its Z bits meet X bits of row b at an odd number of
-/// places, as all products here do.
+/// positions, as all products here do.
 #[inline(always)]
 pub(crate) fn multiply(words: &mut [u64], count: usize, blocks: usize, a: usize, b: usize) -> bool
     requires all { length words.old ≡ 8 * blocks * count }
@@ -173,7 +173,7 @@ pub(crate) fn clear(words: &mut [u64], count: usize, blocks: usize, a: usize)
     words[at..at + 8 * blocks].fill(0);
 }
 
-/// Puts a letter at a place of row a.
+/// Puts a letter on a qubit in row a.
 #[inline(always)]
 pub(crate) fn set(
     words: &mut [u64],

@@ -1,5 +1,5 @@
-//! Parts: the words of eight rows that lie side by side, which of these rows have X or Y at a place, and where any has it in the
-//! words with it.
+//! Parts: the words of eight rows that lie side by side. They say which of these rows have X or Y on a qubit, and on which qubits
+//! of the same word any of them has.
 
 ghost use Rattle.std.specs.Prelude.{◌≡◌, ℕ, ◌+◌, ◌*◌, ◌/◌, ◌^◌, ◌<◌, true, length, slice_index_or};
 ghost use Rattle.std.specs.Simd.Lanes.{chunk};
@@ -11,40 +11,40 @@ ghost use Rattle.stab_pauli.specs.inner.Blocks.{row_letters};
 use crate::masks;
 use crate::packed::{flat, row};
 
-/// Which of the eight rows have X or Y at a place, and at which of the 64 places of its word any of them has, each by a
-/// mask. If few rows of a table have, most parts have none: that is asked first, of all their words at once. If half
-/// of the rows have, nearly no part has none, so the answer is guessed right.
+/// Which of the eight rows have X or Y on a qubit, and on which of the 64 qubits of its word any of them has, each by a
+/// mask. If few rows of a table have, most parts have none, so one test of all eight words comes first. If half of the rows
+/// have, hardly any part has none, and the processor predicts that test.
 #[inline(always)]
 pub(crate) fn rows_with_x(blocks: usize, part: &[u64], qubit: usize) -> (u64, u64)
     requires length { length part.now ≡ 8 * blocks * 8 }
     requires in_range { qubit < 256 * blocks }
     ensures value { (k : ℕ) → k < 8 → chooses result.0 k ≡ has_x (slice_index_or (row_letters blocks (chunk (8 * blocks * k) (8 * blocks) part.now)) qubit I) }
     ensures short { result.0 < 2 ^ 8 }
-    ensures places { (k j : ℕ) → k < 8 → j < 64 → has_x (slice_index_or (row_letters blocks (chunk (8 * blocks * k) (8 * blocks) part.now)) (64 * (qubit / 64) + j) I) ≡ true → chooses result.1 j ≡ true }
+    ensures positions { (k j : ℕ) → k < 8 → j < 64 → has_x (slice_index_or (row_letters blocks (chunk (8 * blocks * k) (8 * blocks) part.now)) (64 * (qubit / 64) + j) I) ≡ true → chooses result.1 j ≡ true }
 {
-    let places = places_with_x(blocks, part, qubit / 64);
-    if !row::bit_of(places, qubit % 64) {
-        return (0, places);
+    let positions = positions_with_x(blocks, part, qubit / 64);
+    if !row::bit_of(positions, qubit % 64) {
+        return (0, positions);
     }
-    (mask_of_x(blocks, part, qubit), places)
+    (mask_of_x(blocks, part, qubit), positions)
 }
 
-/// At which of the 64 places of a word any of the eight rows has X or Y, by a mask.
+/// On which of the 64 qubits of a word any of the eight rows has X or Y, by a mask.
 #[inline(always)]
-fn places_with_x(blocks: usize, part: &[u64], word: usize) -> u64
+fn positions_with_x(blocks: usize, part: &[u64], word: usize) -> u64
     requires length { length part.now ≡ 8 * blocks * 8 }
     requires in_range { word < 4 * blocks }
     ensures value { (k j : ℕ) → k < 8 → j < 64 → has_x (slice_index_or (row_letters blocks (chunk (8 * blocks * k) (8 * blocks) part.now)) (64 * word + j) I) ≡ true → chooses result j ≡ true }
 {
-    let mut places = 0;
+    let mut positions = 0;
     for k in 0..8 {
-        places = places | x_mask(blocks, part, k, word);
+        positions = positions | x_mask(blocks, part, k, word);
     }
-    places
+    positions
 }
 
-/// Which of the eight rows have X or Y at a place, with a look at each. The mask grows from the last row to the first, so
-/// that each of its bits takes one sum.
+/// Which of the eight rows have X or Y on a qubit, by a look at each. The mask grows from the last row to the first, so
+/// that each of its bits takes one addition.
 #[inline(always)]
 fn mask_of_x(blocks: usize, part: &[u64], qubit: usize) -> u64
     requires length { length part.now ≡ 8 * blocks * 8 }
@@ -62,7 +62,7 @@ fn mask_of_x(blocks: usize, part: &[u64], qubit: usize) -> u64
     mask
 }
 
-/// At which of the 64 places of a word row k of the eight has X or Y, by a mask.
+/// On which of the 64 qubits of a word row k of the eight has X or Y, by a mask.
 #[inline(always)]
 fn x_mask(blocks: usize, part: &[u64], k: usize, word: usize) -> u64
     requires length { length part.now ≡ 8 * blocks * 8 }

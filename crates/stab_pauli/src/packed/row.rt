@@ -25,7 +25,7 @@ pub(crate) fn blocks_of(n: usize) -> usize
 }
 
 /// The power of i before the bits of a product, by those of both and whether Z bits of the first meet X bits of the
-/// second at an odd number of places.
+/// second at an odd number of positions.
 #[inline(always)]
 pub(crate) fn product_power(first: Phase, second: Phase, meet: bool) -> Phase
     ensures value { result ≡ phase_add (phase_add first second) (phase_of_sign meet) }
@@ -34,7 +34,7 @@ pub(crate) fn product_power(first: Phase, second: Phase, meet: bool) -> Phase
 }
 
 /// Makes a row of this many blocks the product of itself and another, and says whether its Z bits meet X bits of the
-/// other at an odd number of places.
+/// other at an odd number of positions.
 #[inline(always)]
 pub(crate) fn multiply(blocks: usize, row: &mut [u64], other: &[u64]) -> bool
     requires length { length row.old ≡ 8 * blocks }
@@ -108,7 +108,7 @@ pub(crate) fn power_with(power_before: Phase, old: Letter, new: Letter) -> Phase
     old.power().inverse().times(new.power().times(power_before))
 }
 
-/// The letter at a place of a row of this many blocks.
+/// The letter on a qubit in a row of this many blocks.
 #[inline(always)]
 pub(crate) fn letter(blocks: usize, row: &[u64], qubit: usize) -> Letter
     requires length { length row.now ≡ 8 * blocks }
@@ -120,7 +120,7 @@ pub(crate) fn letter(blocks: usize, row: &[u64], qubit: usize) -> Letter
     letter_of(bit_of(row[at], bit), bit_of(row[at + 4], bit))
 }
 
-/// Puts a letter at a place of a row of this many blocks.
+/// Puts a letter on a qubit in a row of this many blocks.
 #[inline(always)]
 pub(crate) fn set(blocks: usize, row: &mut [u64], qubit: usize, letter: Letter)
     requires length { length row.old ≡ 8 * blocks }
@@ -135,7 +135,7 @@ pub(crate) fn set(blocks: usize, row: &mut [u64], qubit: usize, letter: Letter)
     row[at + 4] = with_bit(row[at + 4], bit, z);
 }
 
-/// Whether the letter at a place of a row of this many blocks is X or Y: its X bit.
+/// Whether the letter on a qubit in a row of this many blocks is X or Y: its X bit.
 #[inline(always)]
 pub(crate) fn has_x_at(blocks: usize, row: &[u64], qubit: usize) -> bool
     requires length { length row.now ≡ 8 * blocks }
@@ -155,7 +155,7 @@ pub(crate) fn x_mask(blocks: usize, row: &[u64], word: usize) -> u64
     row[8 * (word / 4) + word % 4]
 }
 
-/// The first place in a row of this many blocks where the letter is X or Y.
+/// The first qubit in a row of this many blocks whose letter is X or Y.
 pub(crate) fn first_x(blocks: usize, row: &[u64]) -> Option<usize>
     requires few { blocks ≤ 2 ^ 56 }
     requires length { length row.now ≡ 8 * blocks }
@@ -188,7 +188,7 @@ fn still_blocks(blocks: usize, row: &[u64]) -> usize
     blocks
 }
 
-/// The first place of a row of this many blocks, from one on, where the letter is not I.
+/// The first qubit in a row of this many blocks, from one on, whose letter is not I.
 #[inline(always)]
 pub(crate) fn next_letter(blocks: usize, row: &[u64], from: usize) -> Option<usize>
     requires few { blocks ≤ 2 ^ 56 }
@@ -231,7 +231,7 @@ pub(crate) fn letters_mask(blocks: usize, row: &[u64], word: usize) -> u64
     row[at] | row[at + 4]
 }
 
-/// The place of the word with the X bit of a qubit.
+/// The index of the word with the X bit of a qubit.
 #[inline(always)]
 pub(crate) fn x_word(qubit: usize) -> usize
     ensures value { result ≡ 8 * (qubit / 256) + qubit % 256 / 64 }
@@ -248,7 +248,7 @@ pub(crate) fn bit_of(word: u64, bit: usize) -> bool
     (word >> bit) % 2 == 1
 }
 
-/// The word with another bit at a place.
+/// The word with one of its bits set to a value.
 #[inline(always)]
 fn with_bit(word: u64, bit: usize, value: bool) -> u64
     requires in_range { bit < 64 }

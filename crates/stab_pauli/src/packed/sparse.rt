@@ -9,30 +9,30 @@ use std::alloc::{AllocError, Global};
 /// Words, without those that are 0.
 #[derive(Drop)]
 pub(crate) struct SparseWords {
-    /// How many words 0 are before each word that is kept. A gap that fits no byte is cut by words 0 that are kept.
+    /// How many words 0 are before each word that is kept. A gap too long for a byte is cut by words 0 that are kept.
     pub(crate) gaps: Vec<u8>,
     pub(crate) kept: Vec<u64>,
     /// How many are after the last word that is kept.
     pub(crate) following: usize,
 }
 
-/// A place among such words.
+/// A position among such words.
 #[derive(Clone, Copy)]
-struct SparsePlace {
+struct SparsePosition {
     /// How many of the words that are kept are passed.
     next: usize,
     /// How many words 0 are before the next of these, or, after the last, how many are left.
     gap: usize,
 }
 
-/// A law, and no work: words have 64 bits.
+/// A law, which does no work: words have 64 bits.
 pub(crate) fn are_short(words: &[u64])
     ensures law { AreShort 64 words.now }
 {
     let _ = words;
 }
 
-/// Whether all eight words of a block are 0, as most are: one question.
+/// Whether all eight words of a block are 0, as most are, by one test.
 #[inline(always)]
 pub(crate) fn is_blank(block: &[u64]) -> bool
     requires size { length block.now ≡ 8 }
@@ -125,7 +125,7 @@ impl SparseWords {
         Ok(())
     }
 
-    /// Puts a block after these, that is blank or not.
+    /// Puts a block after these, blank or not.
     #[inline(always)]
     fn push_block(&mut self, block: &[u64]) -> Result<(), AllocError>
         requires even { length self.old.gaps.items ≡ length self.old.kept.items }
@@ -146,7 +146,7 @@ impl SparseWords {
         requires all { length words.now ≡ 8 * blocks }
         ensures value { IfOk result (λ s. IsSparse s.gaps.items s.kept.items s.following words.now) }
     {
-        // Room for two words of each block, about as many as a code's states keep. What is not used is given back untouched.
+        // Room for two words of each block, about as many as a code's states keep. Room that is not used is given back.
         let mut sparse = SparseWords::with_room(alloc, 2 * blocks)?;
         for block in 0..blocks {
             let at = 8 * block;
@@ -195,67 +195,67 @@ impl SparseWords {
         self.following
     }
 
-    /// The place before all of them.
+    /// The position before all of them.
     #[inline(always)]
-    fn first_place(&self) -> SparsePlace
+    fn first_place(&self) -> SparsePosition
         requires even { length self.now.gaps.items ≡ length self.now.kept.items }
         ensures value { words_from self.now.gaps.items self.now.kept.items self.now.following result.next result.gap ≡ spread self.now.gaps.items self.now.kept.items self.now.following }
     {
-        SparsePlace {
+        SparsePosition {
             next: 0,
             gap: self.gap_after(0),
         }
     }
 
-    /// The next word, which the place then has passed.
+    /// The next word, which the position then has passed.
     #[inline(always)]
-    fn take_word(&self, place: &mut SparsePlace) -> u64
+    fn take_word(&self, position: &mut SparsePosition) -> u64
         requires even { length self.now.gaps.items ≡ length self.now.kept.items }
-        requires some { 0 < length (words_from self.now.gaps.items self.now.kept.items self.now.following place.old.next place.old.gap) }
-        ensures value { words_from self.now.gaps.items self.now.kept.items self.now.following place.old.next place.old.gap ≡ result ∷ words_from self.now.gaps.items self.now.kept.items self.now.following place.new.next place.new.gap }
+        requires some { 0 < length (words_from self.now.gaps.items self.now.kept.items self.now.following position.old.next position.old.gap) }
+        ensures value { words_from self.now.gaps.items self.now.kept.items self.now.following position.old.next position.old.gap ≡ result ∷ words_from self.now.gaps.items self.now.kept.items self.now.following position.new.next position.new.gap }
     {
-        if place.gap > 0 {
-            place.gap -= 1;
+        if position.gap > 0 {
+            position.gap -= 1;
             return 0;
         }
-        let word = self.kept[place.next];
-        place.next += 1;
-        place.gap = self.gap_after(place.next);
+        let word = self.kept[position.next];
+        position.next += 1;
+        position.gap = self.gap_after(position.next);
         word
     }
 
-    /// Whether the next eight words are those of a block, which the place then has passed: one question a word.
+    /// Whether the next eight words are those of a block, which the position then has passed: one test a word.
     #[inline(always)]
-    fn has_words(&self, place: &mut SparsePlace, block: &[u64]) -> bool
+    fn has_words(&self, position: &mut SparsePosition, block: &[u64]) -> bool
         requires even { length self.now.gaps.items ≡ length self.now.kept.items }
         requires size { length block.now ≡ 8 }
-        requires fits { 8 ≤ length (words_from self.now.gaps.items self.now.kept.items self.now.following place.old.next place.old.gap) }
-        ensures value { IsTrue result ↔ (take 8 (words_from self.now.gaps.items self.now.kept.items self.now.following place.old.next place.old.gap) ≡ block.now) }
-        ensures following { IsTrue result → words_from self.now.gaps.items self.now.kept.items self.now.following place.new.next place.new.gap ≡ drop 8 (words_from self.now.gaps.items self.now.kept.items self.now.following place.old.next place.old.gap) }
+        requires fits { 8 ≤ length (words_from self.now.gaps.items self.now.kept.items self.now.following position.old.next position.old.gap) }
+        ensures value { IsTrue result ↔ (take 8 (words_from self.now.gaps.items self.now.kept.items self.now.following position.old.next position.old.gap) ≡ block.now) }
+        ensures following { IsTrue result → words_from self.now.gaps.items self.now.kept.items self.now.following position.new.next position.new.gap ≡ drop 8 (words_from self.now.gaps.items self.now.kept.items self.now.following position.old.next position.old.gap) }
     {
         for k in 0..8 {
-            if self.take_word(place) != block[k] {
+            if self.take_word(position) != block[k] {
                 return false;
             }
         }
         true
     }
 
-    /// Whether the next eight words are those of a block, which the place then has passed: if as many words 0 are next, one
-    /// question.
+    /// Whether the next eight words are those of a block, which the position then has passed: one test if as many words 0
+    /// are next.
     #[inline(always)]
-    fn has_block(&self, place: &mut SparsePlace, block: &[u64]) -> bool
+    fn has_block(&self, position: &mut SparsePosition, block: &[u64]) -> bool
         requires even { length self.now.gaps.items ≡ length self.now.kept.items }
         requires size { length block.now ≡ 8 }
-        requires fits { 8 ≤ length (words_from self.now.gaps.items self.now.kept.items self.now.following place.old.next place.old.gap) }
-        ensures value { IsTrue result ↔ (take 8 (words_from self.now.gaps.items self.now.kept.items self.now.following place.old.next place.old.gap) ≡ block.now) }
-        ensures following { IsTrue result → words_from self.now.gaps.items self.now.kept.items self.now.following place.new.next place.new.gap ≡ drop 8 (words_from self.now.gaps.items self.now.kept.items self.now.following place.old.next place.old.gap) }
+        requires fits { 8 ≤ length (words_from self.now.gaps.items self.now.kept.items self.now.following position.old.next position.old.gap) }
+        ensures value { IsTrue result ↔ (take 8 (words_from self.now.gaps.items self.now.kept.items self.now.following position.old.next position.old.gap) ≡ block.now) }
+        ensures following { IsTrue result → words_from self.now.gaps.items self.now.kept.items self.now.following position.new.next position.new.gap ≡ drop 8 (words_from self.now.gaps.items self.now.kept.items self.now.following position.old.next position.old.gap) }
     {
-        if place.gap >= 8 {
-            place.gap -= 8;
+        if position.gap >= 8 {
+            position.gap -= 8;
             return is_blank(block);
         }
-        self.has_words(place, block)
+        self.has_words(position, block)
     }
 
     /// Whether these are the words, of which there are as many, eight for each of this many blocks.
@@ -265,10 +265,10 @@ impl SparseWords {
         requires size { length words.now ≡ length (spread self.now.gaps.items self.now.kept.items self.now.following) }
         ensures value { IsTrue result ↔ (spread self.now.gaps.items self.now.kept.items self.now.following ≡ words.now) }
     {
-        let mut place = self.first_place();
+        let mut position = self.first_place();
         for block in 0..blocks {
             let at = 8 * block;
-            if !self.has_block(&mut place, &words[at..at + 8]) {
+            if !self.has_block(&mut position, &words[at..at + 8]) {
                 return false;
             }
         }

@@ -70,8 +70,8 @@ fn multiply(blocks: usize, row: &mut [u64], support: u64, other: &[u64]) -> bool
     ones::are_odd(meets)
 }
 
-/// Multiplies the block of a row at a word by that of another row there, and says at which places its Z bits meet X bits of
-/// the other.
+/// Multiplies the block of a row at a word by that of another row there, and says at which positions its Z bits meet X bits
+/// of the other.
 #[inline(always)]
 fn multiply_block(row: &mut [u64], at: usize, other: &[u64]) -> u64x4
     requires fits { at + 8 ≤ length row.old }

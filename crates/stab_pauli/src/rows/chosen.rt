@@ -17,7 +17,7 @@ impl PauliRows {
     ghost use Rattle.stab_pauli.specs.Masks.{chooses, AreChosen, CoversSupport};
 
     /// Which of the 64 rows from one on have X or Y at a qubit, by a mask: bit k says it for row first + k, and is 0 if
-    /// there is no such row. It is a call of its own, whose cost 64 rows can bear: within its caller the words of eight rows would
+    /// there is no such row. It is not inlined, which costs little for 64 rows: within its caller the words of eight rows would
     /// not all stay in registers.
     #[inline(never)]
     pub fn rows_with_x(&self, first: usize, qubit: usize) -> u64
@@ -32,11 +32,11 @@ impl PauliRows {
     /// The same, and at which of the 64 qubits from 64 * (qubit / 64) on any of these rows has X or Y, by a mask too, which
     /// leaves none out: their X bits lie in one word with that of the qubit, and so are read anyway.
     #[inline(never)]
-    pub fn rows_and_places_with_x(&self, first: usize, qubit: usize) -> (u64, u64)
+    pub fn rows_and_positions_with_x(&self, first: usize, qubit: usize) -> (u64, u64)
         requires first_in_range { first ≤ length self.now.rows }
         requires qubit_in_range { qubit < self.now.qubits }
         ensures value { (k : ℕ) → k < 64 → chooses result.0 k ≡ has_x (slice_index_or (row_at self.now (first + k)).letters qubit I) }
-        ensures places { (k j : ℕ) → k < 64 → j < 64 → has_x (slice_index_or (row_at self.now (first + k)).letters (64 * (qubit / 64) + j) I) ≡ true → chooses result.1 j ≡ true }
+        ensures positions { (k j : ℕ) → k < 64 → j < 64 → has_x (slice_index_or (row_at self.now (first + k)).letters (64 * (qubit / 64) + j) I) ≡ true → chooses result.1 j ≡ true }
     {
         let end = first + (self.len() - first).min(64);
         self.mask_of_x(first, end, qubit)
@@ -54,17 +54,17 @@ impl PauliRows {
         requires qubit_in_range { qubit < self.now.qubits }
         ensures value { (k : ℕ) → first + k < end → chooses result.0 k ≡ has_x (slice_index_or (row_at self.now (first + k)).letters qubit I) }
         ensures short { result.0 < 2 ^ (end - first) }
-        ensures places { (k j : ℕ) → first + k < end → j < 64 → has_x (slice_index_or (row_at self.now (first + k)).letters (64 * (qubit / 64) + j) I) ≡ true → chooses result.1 j ≡ true }
+        ensures positions { (k j : ℕ) → first + k < end → j < 64 → has_x (slice_index_or (row_at self.now (first + k)).letters (64 * (qubit / 64) + j) I) ≡ true → chooses result.1 j ≡ true }
     {
         let mut a = first + (end - first) / 8 * 8;
-        let (mut mask, mut places) = self.mask_row_by_row(a, end, qubit);
+        let (mut mask, mut positions) = self.mask_row_by_row(a, end, qubit);
         while a > first {
             let (eight, among) = self.eight_with_x(a - 8, qubit);
             mask = masks::after_eight(mask, end - a, eight);
-            places = places | among;
+            positions = positions | among;
             a -= 8;
         }
-        (mask, places)
+        (mask, positions)
     }
 
     /// The same, with a look at each row.
@@ -76,18 +76,18 @@ impl PauliRows {
         requires qubit_in_range { qubit < self.now.qubits }
         ensures value { (k : ℕ) → first + k < end → chooses result.0 k ≡ has_x (slice_index_or (row_at self.now (first + k)).letters qubit I) }
         ensures short { result.0 < 2 ^ (end - first) }
-        ensures places { (k j : ℕ) → first + k < end → j < 64 → has_x (slice_index_or (row_at self.now (first + k)).letters (64 * (qubit / 64) + j) I) ≡ true → chooses result.1 j ≡ true }
+        ensures positions { (k j : ℕ) → first + k < end → j < 64 → has_x (slice_index_or (row_at self.now (first + k)).letters (64 * (qubit / 64) + j) I) ≡ true → chooses result.1 j ≡ true }
     {
         let mut mask = 0;
-        let mut places = 0;
+        let mut positions = 0;
         let mut a = end;
         while a > first {
             let word = self.x_mask(a - 1, qubit / 64);
             mask = masks::following(mask, end - a, row::bit_of(word, qubit % 64));
-            places = places | word;
+            positions = positions | word;
             a -= 1;
         }
-        (mask, places)
+        (mask, positions)
     }
 
     /// At which of the 64 qubits of a word row a has X or Y, by a mask.
@@ -109,7 +109,7 @@ impl PauliRows {
         requires qubit_in_range { qubit < self.now.qubits }
         ensures value { (k : ℕ) → k < 8 → chooses result.0 k ≡ has_x (slice_index_or (row_at self.now (a + k)).letters qubit I) }
         ensures short { result.0 < 2 ^ 8 }
-        ensures places { (k j : ℕ) → k < 8 → j < 64 → has_x (slice_index_or (row_at self.now (a + k)).letters (64 * (qubit / 64) + j) I) ≡ true → chooses result.1 j ≡ true }
+        ensures positions { (k j : ℕ) → k < 8 → j < 64 → has_x (slice_index_or (row_at self.now (a + k)).letters (64 * (qubit / 64) + j) I) ≡ true → chooses result.1 j ≡ true }
     {
         let words = flat::part_of(self.words.as_slice(), self.powers.len(), self.blocks, a);
         part::rows_with_x(self.blocks, words, qubit)

@@ -76,7 +76,7 @@ IsAlike n coins ys r (Some w) c = DiffersFrom n coins ys r w c
 
 -- how far it may go by what it gave since
 
--- an end is that of a block at the latest, and not after the last step or the place of the old checkpoint that may be met next
+-- an end is that of a block at the latest, and not after the last step or the step of the old checkpoint that may be met next
 pub record IsEndIn (p : Plan) (checkpoints : List Checkpoint) (next : ℕ) (block : Repeat) (end : ℕ) : Type 0 where
   pub in_block : end ≤ block.first + block.rounds * block.length
   pub in_steps : end ≤ p.total
@@ -157,7 +157,7 @@ pub record HasPropagated (coins : ℕ → Bool) (g : Segment) (old new : Replay)
   pub conjugated : IsConjugated d.tableau.qubits v.letters (stabilises d.tableau) (stabilises state)
   pub saved : new.saved.items ≡ old.saved.items ++ record { step = new.step; lengths = lengths_of (output_of new.outputs); tableau = state } ∷ []
 
--- a replay with the lists and the place of a later one
+-- a replay with the lists and the position of a later one
 abbrev pub with_folded : Replay → Replay → Replay
 with_folded old new = record old {
   outputs = new.outputs;

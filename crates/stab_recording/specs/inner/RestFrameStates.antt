@@ -15,10 +15,10 @@ pub record IsBeside (n : ℕ) (coins : ℕ → Bool) (p : Plan) (ys : List Step)
   pub old : IsOldRun n coins p ys checkpoints o
   pub at_step : IsAtStep n coins ys r
 
--- a replay is at the place of an old checkpoint after what was changed, and has another number of the next coin there, or other records
+-- a replay is at the step of an old checkpoint after what was changed, and has another number of the next coin there, or other records
 pub record HasOtherCoins (p : Plan) (r : Replay) (o : RunOutput) (c : Checkpoint) : Type 0 where
   pub following : p.old_end ≤ c.step
-  pub place : step_among_new p c ≡ r.step
+  pub position : step_among_new p c ≡ r.step
   pub differs : (c.lengths.free ≢ length r.outputs.free.items) ⊎ (take c.lengths.records o.records ≢ r.outputs.records.items)
 
 -- the state of the last of some checkpoints, or another one if there are none

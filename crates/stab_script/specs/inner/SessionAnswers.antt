@@ -3,9 +3,9 @@
 use Rattle.std.specs.Prelude.{ℕ, Bool, List}
 use Rattle.stab_run.specs.Runs.{State, run_of}
 use Rattle.stab_session.specs.Sessions.{SessionState}
-use Rattle.stab_script.specs.Changes.{mark_shown}
+use Rattle.stab_script.specs.Changes.{bookmark_shown}
 use Rattle.stab_script.specs.Scripts.{Environment, Held, Answer, Shows}
-use Rattle.stab_script.specs.declared.changes.MarkedBits.{MarkedBits}
+use Rattle.stab_script.specs.declared.changes.BookmarkedBits.{BookmarkedBits}
 use Rattle.stab_script.specs.declared.request.Show.{Show}
 
 -- the qubits and coins of a session, and whether its script is counted
@@ -16,9 +16,9 @@ session_environment sequence counted s = record { counted = counted; qubits = s.
 abbrev pub session_run : {C : Type 0} → (C → ℕ → Bool) → SessionState C → State
 session_run sequence s = run_of s.qubits (sequence s.coins) s.items
 
--- what is held: the items of a session, and a mark
-abbrev pub held_of : {C : Type 0} → SessionState C → MarkedBits → Held
-held_of s m = record { items = s.items; mark = mark_shown m }
+-- what is held: the items of a session, and a bookmark
+abbrev pub held_of : {C : Type 0} → SessionState C → BookmarkedBits → Held
+held_of s m = record { items = s.items; bookmark = bookmark_shown m }
 
 -- what is shown of a session
 abbrev pub ShowsOf : {C : Type 0} → (C → ℕ → Bool) → SessionState C → Show → List ℕ → Type 0

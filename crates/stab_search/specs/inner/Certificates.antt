@@ -1,7 +1,7 @@
 -- Certificates: an observable and detectors of which each row names an even number, so that errors that flip no detector do not flip it.
 use Rattle.std.specs.Prelude.{◌≡◌, ℕ, ◌<◌, ◌≤◌, Bool, true, false, List, [], ◌∷◌, length, slice_index_or, All}
 use Rattle.stab_gates.specs.Letters.{◌⊕◌}
-use Rattle.stab_search.specs.Tables.{ErrorTable, row, flips}
+use Rattle.stab_search.specs.Tables.{ErrorTable, row, flipped_by_rows}
 
 -- whether an odd number of a list are members
 abbrev pub odd_members : List Bool → List ℕ → Bool
@@ -17,4 +17,4 @@ pub record IsCertificate (t : ErrorTable) (o : ℕ) (members : List Bool) : Type
 -- errors that flip no detector do not flip the observable
 abbrev pub FollowsDetectors : ErrorTable → ℕ → Type 0
 FollowsDetectors t o =
-    (errors : List ℕ) → All (λ r. r < length t.rows) errors → ((d : ℕ) → d < t.detectors → flips t.rows errors d ≡ false) → flips t.rows errors o ≡ false
+    (errors : List ℕ) → All (λ r. r < length t.rows) errors → ((d : ℕ) → d < t.detectors → flipped_by_rows t.rows errors d ≡ false) → flipped_by_rows t.rows errors o ≡ false

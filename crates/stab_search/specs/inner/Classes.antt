@@ -1,7 +1,7 @@
 -- Classes of detectors: if the part of each error in each class is an error, errors of one class each are enough. Detectors of class 0 are ignored.
 use Rattle.std.specs.Prelude.{◌≡◌, ◌≢◌, ◌⊎◌, ℕ, ◌<◌, ◌≤◌, true, List, [], ◌∷◌, length, map, slice_index}
 use Rattle.stab_search.specs.Ascending.{IsAscending}
-use Rattle.stab_search.specs.Tables.{ErrorTable, odd, row, flips}
+use Rattle.stab_search.specs.Tables.{ErrorTable, odd, row, flipped_by_rows}
 use Rattle.stab_search.specs.LogicalErrors.{IsLogicalError}
 use Rattle.stab_search.specs.inner.Errors.{AreRowsOf}
 use Rattle.stab_search.specs.inner.Lists.{Each}
@@ -26,7 +26,7 @@ Counts classes detectors i = (detectors ≤ i) ⊎ (slice_index classes i ≢ 0)
 -- errors of different classes that flip together what counts of these numbers
 pub record AreParts (t : ErrorTable) (classes is parts : List ℕ) : Type 0 where
   pub inside : Each (λ r. r < length t.rows) parts
-  pub same : (i : ℕ) → Counts classes t.detectors i → flips t.rows parts i ≡ odd i is
+  pub same : (i : ℕ) → Counts classes t.detectors i → flipped_by_rows t.rows parts i ≡ odd i is
   pub distinct : IsAscending (map (λ r. class_of classes (row t.rows r)) parts)
 
 -- what an error flips splits into errors of a table

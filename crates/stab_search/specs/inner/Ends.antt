@@ -3,15 +3,15 @@ use Rattle.std.specs.Prelude.{◌≡◌, ℕ, ◌<◌, ◌≤◌, true, false, L
 use Rattle.std.specs.Global.{Vec}
 use Rattle.stab_gates.specs.Letters.{◌⊕◌}
 use Rattle.stab_search.specs.Ascending.{IsAscending}
-use Rattle.stab_search.specs.Tables.{ErrorTable, odd, flips}
+use Rattle.stab_search.specs.Tables.{ErrorTable, odd, flipped_by_rows}
 use Rattle.stab_search.specs.inner.Indexes.{listed}
 use Rattle.stab_search.specs.inner.Lists.{Each, has}
 
 -- errors that flip the flipped detectors back, and leave an observable flipped
 pub record Completes (t : ErrorTable) (flipped rest : List ℕ) : Type 0 where
   pub inside : Each (λ r. r < length t.rows) rest
-  pub undetected : (d : ℕ) → d < t.detectors → flips t.rows rest d ≡ odd d flipped
-  pub observed : (o : ℕ) × (t.detectors ≤ o) × (flips t.rows rest o ⊕ odd o flipped ≡ true)
+  pub undetected : (d : ℕ) → d < t.detectors → flipped_by_rows t.rows rest d ≡ odd d flipped
+  pub observed : (o : ℕ) × (t.detectors ≤ o) × (flipped_by_rows t.rows rest o ⊕ odd o flipped ≡ true)
 
 -- at most `left` errors that do
 pub record EndsWithin (t : ErrorTable) (flipped : List ℕ) (left : ℕ) (rest : List ℕ) : Type 0 where

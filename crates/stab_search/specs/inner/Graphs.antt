@@ -2,7 +2,7 @@
 use Rattle.std.specs.Prelude.{◌≡◌, ℕ, ◌<◌, ◌≤◌, ◌==◌, Bool, true, false, List, length, slice_index_or, All}
 use Rattle.stab_gates.specs.Letters.{◌⊕◌}
 use Rattle.stab_search.specs.declared.edges.Edge.{Edge}
-use Rattle.stab_search.specs.Tables.{ErrorTable, odd, row, flips}
+use Rattle.stab_search.specs.Tables.{ErrorTable, odd, row, flipped_by_rows}
 use Rattle.stab_search.specs.LogicalErrors.{IsLogicalError}
 
 -- an edge flips the detectors of its row: its two nodes, one of which or both may be the boundary
@@ -28,7 +28,7 @@ pub record AreBits (rows : List (List ℕ)) (o : ℕ) (bits : List Bool) : Type 
 -- errors that flip no detector and this observable are at least this many
 abbrev pub HasAtLeast : ErrorTable → (o bound : ℕ) → Type 0
 HasAtLeast t o bound =
-    (errors : List ℕ) → All (λ r. r < length t.rows) errors → ((d : ℕ) → d < t.detectors → flips t.rows errors d ≡ false) → flips t.rows errors o ≡ true → bound ≤ length errors
+    (errors : List ℕ) → All (λ r. r < length t.rows) errors → ((d : ℕ) → d < t.detectors → flipped_by_rows t.rows errors d ≡ false) → flipped_by_rows t.rows errors o ≡ true → bound ≤ length errors
 
 -- each logical error has at least this many errors
 abbrev pub HasBound : ErrorTable → (bound : ℕ) → Type 0

@@ -6,9 +6,9 @@ use Rattle.stab_search.specs.inner.Lists.{Each, has}
 
 -- the rows listed at a place; none past the end
 abbrev pub listed : List (Vec ℕ) → ℕ → List ℕ
-listed [] place = []
+listed [] position = []
 listed (rows ∷ index) zero = rows.items
-listed (rows ∷ index) (suc place) = listed index place
+listed (rows ∷ index) (suc position) = listed index position
 
 -- each row is listed at each detector that it flips
 pub record ListsDetectors (rows : List (List ℕ)) (index : List (Vec ℕ)) : Type 0 where
@@ -17,5 +17,5 @@ pub record ListsDetectors (rows : List (List ℕ)) (index : List (Vec ℕ)) : Ty
 
 -- each row is listed at the low bits of its key
 pub record ListsKeys (keys : List ℕ) (mask : ℕ) (index : List (Vec ℕ)) : Type 0 where
-  pub inside : (place : ℕ) → Each (λ r. r < length keys) (listed index place)
+  pub inside : (position : ℕ) → Each (λ r. r < length keys) (listed index position)
   pub complete : (r : ℕ) → r < length keys → has r (listed index (bit_and (slice_index keys r) mask)) ≡ true

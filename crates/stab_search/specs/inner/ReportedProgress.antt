@@ -1,30 +1,73 @@
--- Reports: what the steps of a search report of the numbers of errors that they exclude.
-use Rattle.std.specs.Prelude.{◌≡◌, ℕ, ◌+◌, ◌≤◌, List, ◌++◌, length, Option, Some, None, Result, IfOk}
+-- Reports: what the steps of a search of a part report of the numbers of errors that they exclude, and what they find.
+use Rattle.std.specs.Prelude.{◌≡◌, ℕ, ◌+◌, ◌<◌, ◌≤◌, List, ◌++◌, length, map, min, slice_index, Option, Some, None, Result, IfOk}
 use Rattle.std.specs.Global.{Vec}
 use Rattle.stab_search.specs.declared.answer.Answer.{Answer}
+use Rattle.stab_search.specs.declared.answer.Answer.TheVariants.{Least, NoneWithin, NoneAtAll}
+use Rattle.stab_search.specs.declared.sizes.Begun.{Begun}
+use Rattle.stab_search.specs.declared.part_search.Found.{Found}
+use Rattle.stab_search.specs.declared.search_part.PartAnswer.{PartAnswer}
 use Rattle.stab_search.specs.Tables.{ErrorTable}
-use Rattle.stab_search.specs.LogicalErrors.{HasNoneWithin}
+use Rattle.stab_search.specs.LogicalErrors.{HasNoneWithin, HasNone, HasSome}
+use Rattle.stab_search.specs.PartNumbers.{PartNumbers}
 use Rattle.stab_search.specs.Progress.{Heard, Hears, up_to, IsExcludedBy}
+use Rattle.stab_search.specs.SearchParts.{Searched, IsSearchOf, HasNoneIn, IsBegunIn}
+use Rattle.stab_search.specs.inner.Lists.{Each}
+use Rattle.stab_search.specs.inner.Shortest.{IsGathered}
+use Rattle.stab_search.specs.inner.Steps.{BeginsBefore}
 
 -- who had heard all numbers up to one, after what was said before, has then heard all up to another
 abbrev pub HearsOn : (from last : ℕ) → Option (List Heard) → Option (List Heard) → Type 0
 HearsOn from last old new = (first : Option (List Heard)) (said : List Heard) → Hears first old (said ++ up_to from) → Hears first new (said ++ up_to last)
 
--- the last number that a search of the sizes up to `most` excludes, if it found these errors or none
-abbrev pub IsLast : (most : ℕ) → Option (Vec ℕ) → ℕ → Type 0
-IsLast most (Some errors) k = length errors.items ≤ k + 1
-IsLast most None k = k ≡ most
+-- a search of a part for the sizes after `from` reports each of which it has no set, and what it finds is so after the last of these
+pub record ReportsSizes {A E : Type 0} (p : PartNumbers) (s : Searched) (from : ℕ) (IsSo : ℕ → A → Type 0) (old new : Option (List Heard)) (result : Result A E) : Type 0 where
+  pub begun : BeginsBefore s.table s.firsts
+  pub last : ℕ
+  pub none : (size : ℕ) → from < size → size ≤ last → HasNoneIn p s size
+  pub heard : HearsOn from last old new
+  pub found : IfOk result (IsSo last)
 
--- a search of the sizes after `from` up to `most` reports each that it excludes
-pub record ReportsSizes {E : Type 0} (t : ErrorTable) (from most : ℕ) (old new : Option (List Heard)) (result : Result (Option (Vec ℕ)) E) : Type 0 where
+-- what a part finds among the sizes up to `most`, if it has none up to a number: a logical error, or nothing
+abbrev pub IsFirst : PartNumbers → Searched → (most last : ℕ) → Option Begun → Type 0
+IsFirst p s most last (Some b) = (b.last ≡ last) × (b.last < most) × IsBegunIn p s (b.last + 1) b.first b.errors.items
+IsFirst p s most last None = last ≡ most
+
+-- and all in all: errors in any order; none up to `most`, or up to as many as there are; or that there is no logical error
+abbrev pub IsFoundAfter : PartNumbers → Searched → (most last first : ℕ) → Answer → Type 0
+IsFoundAfter p s most last first (Least errors) = (last < most) × IsBegunIn p s (last + 1) first errors.items
+IsFoundAfter p s most last first NoneWithin = (min most (length s.table.rows) ≤ last) × HasSome s.table
+IsFoundAfter p s most last first NoneAtAll = HasNone s.table
+
+abbrev pub IsFound : PartNumbers → Searched → (most last : ℕ) → Found → Type 0
+IsFound p s most last f = (f.last ≡ last) × (f.last ≤ most) × IsFoundAfter p s most f.last f.first f.answer
+
+-- errors that an answer has are below a number
+abbrev pub AreInside : ℕ → Answer → Type 0
+AreInside n (Least errors) = Each (λ r. r < n) errors.items
+AreInside n NoneWithin = Unit {0}
+AreInside n NoneAtAll = Unit {0}
+
+-- an answer by the numbers of errors in a table
+abbrev pub IsInTable : (numbers : List ℕ) → Answer → Answer → Type 0
+IsInTable numbers (Least own) a = (set : Vec ℕ) × (a ≡ Least set) × IsGathered (map (slice_index numbers) own.items) set.items
+IsInTable numbers NoneWithin a = a ≡ NoneWithin
+IsInTable numbers NoneAtAll a = a ≡ NoneAtAll
+
+-- if a part answers that it has none, it looked for as many errors as were asked for, or as there are
+abbrev pub Reaches : Searched → (most last : ℕ) → Answer → Type 0
+Reaches s most last (Least errors) = Unit {0}
+Reaches s most last NoneWithin = min most (length s.table.rows) ≤ last
+Reaches s most last NoneAtAll = Unit {0}
+
+-- a search of a part of a table reports each number of errors of which it has no set
+pub record ReportsPart {E : Type 0} (p : PartNumbers) (t : ErrorTable) (most : ℕ) (old new : Option (List Heard)) (result : Result PartAnswer E) : Type 0 where
+  pub searched : Searched
+  pub is : IsSearchOf t searched
+  pub reports : ReportsSizes p searched 0 (λ last (a : PartAnswer). (a.last ≡ last) × Reaches searched most last a.answer) old new result
+
+-- a search reports each number of errors of which there is no set, up to the last that its answer excludes
+pub record ReportsAnswer {E : Type 0} (t : ErrorTable) (most : ℕ) (old new : Option (List Heard)) (result : Result Answer E) : Type 0 where
   pub last : ℕ
   pub none : HasNoneWithin t last
-  pub heard : HearsOn from last old new
-  pub all : IfOk result (λ a. IsLast most a last)
-
--- a search after `from` errors to the end does
-pub record ReportsAnswer {E : Type 0} (t : ErrorTable) (from most : ℕ) (old new : Option (List Heard)) (result : Result Answer E) : Type 0 where
-  pub last : ℕ
-  pub none : HasNoneWithin t last
-  pub heard : HearsOn from last old new
+  pub heard : HearsOn 0 last old new
   pub all : IfOk result (λ a. IsExcludedBy most a last)

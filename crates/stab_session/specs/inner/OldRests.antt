@@ -1,4 +1,4 @@
--- Old rests: the checkpoints of a recording from one on, which move to another place, the first of them with other states.
+-- Old rests: the checkpoints of a recording from one on, which move to another step, the first of them with other states.
 -- Source: this project's own.
 use Rattle.std.specs.Prelude.{◌≡◌, ℕ, ◌+◌, ◌≤◌, List, [], Option, None, Some, length, take, drop, map, vec_capacity}
 use Rattle.stab_tableau.specs.Tableaus.{stabilises}

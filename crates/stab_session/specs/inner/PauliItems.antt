@@ -56,7 +56,7 @@ is_pauli_item (repeat count tag body) = false
 abbrev pub IsPauliItem : OneItem → Type 0
 IsPauliItem x = (unroll (listed (x ∷ [])) ≡ []) ⊎ (is_pauli_item x ≡ true)
 
--- a pending edit is of such items alone, and what it put in, or what is for nothing in its place, is carried out no more often than a
+-- a pending edit is of such items alone, and what it put in, or what stands for nothing instead, is carried out no more often than a
 -- circuit may have steps
 pub record IsPauliEdit (p : Pending) (now : List OneItem) : Type 0 where
   pub taken : AllByRecursion IsPauliItem (taken_items p)

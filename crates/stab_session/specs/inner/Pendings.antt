@@ -37,7 +37,7 @@ item_back (Inserted path) items = taken (Delete path) items
 item_back (Replaced path old) items = taken (Replace path old) items
 item_back (Deleted path old) items = None
 
--- the items after the edit is finished: an item that is to be deleted has another in its place until then, which is for nothing
+-- the items after the edit is finished: an item that is to be deleted is replaced until then by one that stands for nothing
 abbrev pub finished : Pending → List OneItem → Result (List OneItem) Refusal
 finished (Inserted path) items = Ok items
 finished (Replaced path old) items = Ok items

@@ -14,7 +14,7 @@ letter_anticommuting false true = X
 letter_anticommuting true true = Y
 letter_anticommuting true false = Z
 
--- the letters of the string whose preimage has a letter at place k and I elsewhere: it anticommutes with X or Z on a
+-- the letters of the string whose preimage has a letter at position k and I elsewhere: it anticommutes with X or Z on a
 -- qubit where their preimages anticommute with that letter
 abbrev pub column : Letter → ℕ → List InverseRows → List Letter
 column l k [] = []

@@ -21,8 +21,8 @@ pub record IsBasis (member : Signed → Bool) (r : Rows) : Type 0 where
       → (p : Signed) → length p.letters ≡ r.qubits → member p ≡ true → f p.letters ≡ false
   pub independent : (v : ℕ → Bool) → (f : List Letter → Bool) × IsLinear f × ((a : ℕ) → a < length r.rows → f (row_at r a).letters ≡ v a)
 
--- an elimination that has come to place k: the first rows have their leads before k, where all other rows have 0, and the
--- rows that are left have 0 at all places before k
+-- an elimination that has come to position k: the first rows have their leads before k, where all other rows have 0, and the
+-- rows that are left have 0 at all positions before k
 pub record HasCome (member : Signed → Bool) (k used : ℕ) (r : Rows) : Type 0 where
   pub basis : IsBasis member r
   pub few : used ≤ length r.rows
@@ -33,32 +33,32 @@ pub record HasCome (member : Signed → Bool) (k used : ℕ) (r : Rows) : Type 0
   pub clear : (a b : ℕ) → a < used → b < used → b ≢ a → bit_at r.qubits (row_at r b).letters (lead a) ≡ false
   pub zeros : (b : ℕ) → used ≤ b → b < length r.rows → (j : ℕ) → j < k → bit_at r.qubits (row_at r b).letters j ≡ false
 
--- rows that generate a stabiliser group, of which an elimination has come to place k
+-- rows that generate a stabiliser group, of which an elimination has come to position k
 abbrev pub ComesTo : ℕ → ℕ → Rows → Type 0
 ComesTo k used r = (member : Signed → Bool) × IsStabiliserGroup r.qubits member × HasCome member k used r
 
--- the number of the row at a place after two rows have changed places
+-- the number of the row at a position after two rows were exchanged
 abbrev pub exchanged : ℕ → ℕ → ℕ → ℕ
 exchanged a b c = if eqb c a then b else (if eqb c b then a else c)
 
--- two rows have changed places
+-- two rows were exchanged
 pub record AreExchanged (a b : ℕ) (old new : Rows) : Type 0 where
   pub qubits : new.qubits ≡ old.qubits
   pub count : length new.rows ≡ length old.rows
   pub rows : (c : ℕ) → c < length old.rows → row_at new c ≡ row_at old (exchanged a b c)
 
--- a string without its 1 at a place: if it has one, its product with a leading
+-- a string without its 1 at a position: if it has one, its product with the leading one
 abbrev pub cleared_with : ℕ → ℕ → Signed → Signed → Signed
 cleared_with n k leading p = if bit_at n p.letters k then product p leading else p
 
--- all rows but a leading are cleared by it at a place
+-- all rows but the leading one are cleared by it at a position
 pub record AreCleared (leading k : ℕ) (old new : Rows) : Type 0 where
   pub qubits : new.qubits ≡ old.qubits
   pub count : length new.rows ≡ length old.rows
   pub kept : row_at new leading ≡ row_at old leading
   pub others : (c : ℕ) → c < length old.rows → c ≢ leading → row_at new c ≡ cleared_with old.qubits k (row_at old leading) (row_at old c)
 
--- a step of an elimination from place k on
+-- a step of an elimination from position k on
 pub record HasStepped (k used now : ℕ) (old new : Rows) : Type 0 where
   pub qubits : new.qubits ≡ old.qubits
   pub count : length new.rows ≡ length old.rows

@@ -10,7 +10,8 @@ use Rattle.stab_pauli.specs.Paulis.{Signed, identity, single, anticommute}
 use Rattle.stab_pauli.specs.Phaseds.{Phased, plain, phased, times_phase, phased_product}
 use Rattle.stab_gates.specs.declared.gate.Gate.{Gate}
 use Rattle.stab_gates.specs.declared.gate.PairGate.{PairGate}
-use Rattle.stab_tableau.specs.Gates.{SignedLetter, letter_image, inverse, letter_at, pair_letters}
+use Rattle.stab_tableau.specs.declared.images.SignedLetter.{SignedLetter}
+use Rattle.stab_tableau.specs.Gates.{letter_image, inverse, letter_at, pair_letters}
 
 -- what was made into X and what into Z on one qubit by all that happened
 pub record InverseRows : Type 0 where
@@ -33,7 +34,7 @@ rows_at rows q = slice_index_or rows q (record { x = identity 0; z = identity 0 
 abbrev pub zeros_row : ℕ → ℕ → InverseRows
 zeros_row n qubit = record { x = single n qubit X; z = single n qubit Z }
 
--- the preimage of a letter on a qubit, over n places; Y is i times X times Z
+-- the preimage of a letter on a qubit, over n positions; Y is i times X times Z
 abbrev pub letter_preimage : ℕ → InverseRows → Letter → Phased
 letter_preimage n r I = plain (blank n)
 letter_preimage n r X = phased r.x
@@ -50,7 +51,7 @@ string_preimage n (r ∷ rows) (l ∷ p) = phased_product (letter_preimage n r l
 abbrev pub extend : (List Letter → Phased) → Phased → Phased
 extend h p = times_phase p.phase (h p.letters)
 
--- a map from strings over n places to strings over m that keeps products
+-- a map from strings over n positions to strings over m that keeps products
 pub record IsHomomorphism (n m : ℕ) (h : List Letter → Phased) : Type 0 where
   pub unit : h (blank n) ≡ plain (blank m)
   pub product : (p q : List Letter) → length p ≡ n → length q ≡ n
@@ -62,7 +63,7 @@ pub record IsOver (n : ℕ) (r : InverseRows) : Type 0 where
   pub x : length r.x.letters ≡ n
   pub z : length r.z.letters ≡ n
 
--- the rows of a table for one qubit: over n places, and they anticommute
+-- the rows of a table for one qubit: over n positions, and they anticommute
 pub record IsRow (n : ℕ) (r : InverseRows) : Type 0 where
   pub over : IsOver n r
   pub opposed : anticommute r.x r.z ≡ true
@@ -76,7 +77,7 @@ pub record AreRows (n : ℕ) (r s : InverseRows) : Type 0 where
   pub zx : anticommute r.z s.x ≡ false
   pub zz : anticommute r.z s.z ≡ false
 
--- n rows over n places by which preimages keep products
+-- n rows over n positions by which preimages keep products
 pub record IsTable (n : ℕ) (rows : List InverseRows) : Type 0 where
   pub count : length rows ≡ n
   pub sizes : (q : ℕ) → q < n → IsOver n (rows_at rows q)

@@ -111,7 +111,7 @@ impl CompactTable {
         requires same_letters { SameLetters self.now table.now }
         ensures value { result ≡ (row_string row (rows_at self.now qubit)).negative ⊕ (row_string row (rows_at table.now qubit)).negative }
     {
-        self.rows.signs_differ(&table.rows, row.place(qubit))
+        self.rows.signs_differ(&table.rows, row.position(qubit))
     }
 
     /// Flips the signs of those rows of a qubit that a letter on it anticommutes with.
@@ -129,6 +129,6 @@ impl CompactTable {
         requires in_range { qubit < length self.old }
         ensures value { self.new ≡ put row qubit (with_sign bit (row_string row (rows_at self.old qubit))) self.old }
     {
-        self.rows.negate_if(row.place(qubit), bit);
+        self.rows.negate_if(row.position(qubit), bit);
     }
 }

@@ -11,7 +11,7 @@ impl Tableau {
     ghost use Rattle.stab_tableau.specs.Rules.{outcome_by, is_free_by, projected_by};
     ghost use Rattle.stab_tableau.specs.Pivots.{IsPivot};
 
-    /// `collapse`, which also, if the outcome is free, makes another string the letters of a stabiliser of the state before that
+    /// `collapse`, which also, if the outcome is random, makes another string the letters of a stabiliser of the state before that
     /// anticommutes with what is measured, and so exchanges the outcomes. Its sign then does not matter; if the outcome
     /// is fixed the string stays as it was.
     pub fn collapse_with_pivot(&mut self, pauli: &Pauli, coin: bool, pivot: &mut Pauli) -> Collapse

@@ -1,9 +1,9 @@
-use Rattle.stab_commands.proofs.Names.{◌∙◌, ap, places_in}
-use Rattle.stab_commands.proofs.PlacedWordLaws.{places-push, places-zero}
+use Rattle.stab_commands.proofs.Names.{◌∙◌, ap, positions_in}
+use Rattle.stab_commands.proofs.PlacedWordLaws.{positions-push, positions-zero}
 use Rattle.stab_commands.proofs.coin_rows.push_word.Goals as goal
 
 pub returns-then-word-eq0-clause-value : goal.returns-then-word-eq0-clause-value
-returns-then-word-eq0-clause-value c = λ l. places-zero l c.args.place c.args.word c.args.found.now.items c.if-word-eq0.true
+returns-then-word-eq0-clause-value c = λ l. positions-zero l c.args.position c.args.word c.args.found.now.items c.if-word-eq0.true
 
 pub returns-clause-value : goal.returns-clause-value
-returns-clause-value c = λ l. ap (places_in l) c.in_ok-push.ensures.items ∙ places-push l c.args.found.now.items _
+returns-clause-value c = λ l. ap (positions_in l) c.in_ok-push.ensures.items ∙ positions-push l c.args.found.now.items _

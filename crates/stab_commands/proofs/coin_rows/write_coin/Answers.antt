@@ -7,6 +7,6 @@ returns-in-Shots-clause-writes g c = λ flips count ones.
     let items = circuit_items c.args.circuit.now in
     let old = g.O.Output.seen c.args.out.now in
     let new = g.O.Output.seen c.write_row.new.out in
-    subst (λ y. WritesAllOrFault old new (coin_text y items (coin_at items c.args.place) flips) c.write_row.result) (sym c.in-Shots.is)
-    (subst (λ l. WritesAllOrFault old new (shot_bytes c.in-Shots.format (whole_kinds items) l) c.write_row.result) (set-ones flips c.args.bits.now c.args.places.now c.requires.zero count ones)
-    (subst (λ k. WritesAllOrFault old new (shot_bytes c.in-Shots.format k (set_all c.args.places.now true c.args.bits.now)) c.write_row.result) c.whole_kinds.ensures.value c.write_row.ensures.writes))
+    subst (λ y. WritesAllOrFault old new (coin_text y items (coin_at items c.args.position) flips) c.write_row.result) (sym c.in-Shots.is)
+    (subst (λ l. WritesAllOrFault old new (shot_bytes c.in-Shots.format (whole_kinds items) l) c.write_row.result) (set-ones flips c.args.bits.now c.args.positions.now c.requires.zero count ones)
+    (subst (λ k. WritesAllOrFault old new (shot_bytes c.in-Shots.format k (set_all c.args.positions.now true c.args.bits.now)) c.write_row.result) c.whole_kinds.ensures.value c.write_row.ensures.writes))

@@ -1,15 +1,15 @@
-use Rattle.stab_commands.proofs.Names.{◌≡◌, ◌∙◌, ◌+◌, ◌*◌, ◌<◌, ap, sym, subst, length, arith, length-map, IsErrAnd, Took, OutOfMemory, whole, circuit_items, one_places, lane_bits, coin_text, texts_from, coin_at, places_in, text_at}
+use Rattle.stab_commands.proofs.Names.{◌≡◌, ◌∙◌, ◌+◌, ◌*◌, ◌<◌, ap, sym, subst, length, arith, length-map, IsErrAnd, Took, OutOfMemory, whole, circuit_items, one_places, lane_bits, coin_text, texts_from, coin_at, positions_in, text_at}
 use Rattle.stab_commands.proofs.PlacedWordLaws.{ones-below}
 use Rattle.stab_report.proofs.SendingLaws.{sends_none, sent_shot, shots_break_off, cut_off_as, cut_off_here}
 use Rattle.stab_commands.proofs.coin_rows.write_lanes.Goals as goal
 
 pub write_coin-requires-clause-below : goal.write_coin-requires-clause-below
 write_coin-requires-clause-below g c =
-    let place = 64 * c.args.part + c.loop-lane.lane in
+    let position = 64 * c.args.part + c.loop-lane.lane in
     let less : c.loop-lane.lane < 64 = omega (arith, c.loop-lane-test.true, c.requires.in_range) in
-    ones-below g.W.Word.at place (length c.loop-lane.bits) c.args.words.now c.as_slice-in-loop-lane.result.now
+    ones-below g.W.Word.at position (length c.loop-lane.bits) c.args.words.now c.as_slice-in-loop-lane.result.now
     (ap length c.loop-lane.invariant.same ∙ c.requires.as_many)
-    (c.as_slice-in-loop-lane.ensures.value ∙ c.in_ok-write_places.ensures.value ∙ ap (places_in c.loop-lane.lane) c.as_slice.ensures.value ∙ c.in_ok-find_words.ensures.ones c.loop-lane.lane less)
+    (c.as_slice-in-loop-lane.ensures.value ∙ c.in_ok-write_positions.ensures.value ∙ ap (positions_in c.loop-lane.lane) c.as_slice.ensures.value ∙ c.in_ok-find_words.ensures.ones c.loop-lane.lane less)
 
 pub loop-lane-preserved : goal.loop-lane-preserved
 loop-lane-preserved g c =
@@ -19,7 +19,7 @@ loop-lane-preserved g c =
     let flips = lane_bits g.W.Word.at (64 * c.args.part + lane) words in
     let less : lane < 64 = omega (arith, c.loop-lane-test.true, c.requires.in_range) in
     let count : length flips ≡ length c.loop-lane.bits = length-map words (λ w. g.W.Word.at w (64 * c.args.part + lane)) ∙ sym (ap length c.loop-lane.invariant.same ∙ c.requires.as_many) in
-    let ones : one_places flips ≡ c.as_slice-in-loop-lane.result.now = sym (c.as_slice-in-loop-lane.ensures.value ∙ c.in_ok-write_places.ensures.value ∙ ap (places_in lane) c.as_slice.ensures.value ∙ c.in_ok-find_words.ensures.ones lane less) in
+    let ones : one_places flips ≡ c.as_slice-in-loop-lane.result.now = sym (c.as_slice-in-loop-lane.ensures.value ∙ c.in_ok-write_positions.ensures.value ∙ ap (positions_in lane) c.as_slice.ensures.value ∙ c.in_ok-find_words.ensures.ones lane less) in
     record {
       same = c.in_ok-write_coin.ensures.same ∙ c.loop-lane.invariant.same;
       took = λ have.
@@ -36,7 +36,7 @@ returns-in_err-write_coin-clause-sends g c = λ have.
     let flips = lane_bits g.W.Word.at (64 * c.args.part + lane) words in
     let less : lane < 64 = omega (arith, c.loop-lane-test.true, c.requires.in_range) in
     let count : length flips ≡ length c.loop-lane.bits = length-map words (λ w. g.W.Word.at w (64 * c.args.part + lane)) ∙ sym (ap length c.loop-lane.invariant.same ∙ c.requires.as_many) in
-    let ones : one_places flips ≡ c.as_slice-in-loop-lane.result.now = sym (c.as_slice-in-loop-lane.ensures.value ∙ c.in_ok-write_places.ensures.value ∙ ap (places_in lane) c.as_slice.ensures.value ∙ c.in_ok-find_words.ensures.ones lane less) in
+    let ones : one_places flips ≡ c.as_slice-in-loop-lane.result.now = sym (c.as_slice-in-loop-lane.ensures.value ∙ c.in_ok-write_positions.ensures.value ∙ ap (positions_in lane) c.as_slice.ensures.value ∙ c.in_ok-find_words.ensures.ones lane less) in
     let same = ap (coin_text c.args.layout items (coin_at items (c.args.first + lane))) (have lane c.loop-lane-test.true) in
     shots_break_off (text_at c.args.layout items) c.args.first lane c.args.lanes c.in_err-write_coin.field-0.0 c.from_residual-in_err-write_coin.result
     c.loop-lane-test.true (c.loop-lane.invariant.took have) (cut_off_as _ _ c.in_err-write_coin.field-0.0 same (c.in_err-write_coin.ensures.writes flips count ones)) c.from_residual-in_err-write_coin.ensures.1
@@ -44,10 +44,10 @@ returns-in_err-write_coin-clause-sends g c = λ have.
 pub returns-in_err-find_words-clause-sends : goal.returns-in_err-find_words-clause-sends
 returns-in_err-find_words-clause-sends g c = λ have. sends_none (g.O.Output.seen c.args.out.now) _ c.from_residual.result (subst (λ f. IsErrAnd c.from_residual.result (λ y. y ≡ f)) c.in_err-find_words.ensures.err c.from_residual.ensures.1)
 
-pub returns-in_err-write_places-clause-sends : goal.returns-in_err-write_places-clause-sends
-returns-in_err-write_places-clause-sends g c = λ have.
-    shots_break_off (text_at c.args.layout (circuit_items c.args.circuit.now)) c.args.first c.loop-lane.lane c.args.lanes (whole OutOfMemory) c.from_residual-in_err-write_places.result
-    c.loop-lane-test.true (c.loop-lane.invariant.took have) (cut_off_here (g.O.Output.seen c.loop-lane.out) _) c.from_residual-in_err-write_places.ensures.1
+pub returns-in_err-write_positions-clause-sends : goal.returns-in_err-write_positions-clause-sends
+returns-in_err-write_positions-clause-sends g c = λ have.
+    shots_break_off (text_at c.args.layout (circuit_items c.args.circuit.now)) c.args.first c.loop-lane.lane c.args.lanes (whole OutOfMemory) c.from_residual-in_err-write_positions.result
+    c.loop-lane-test.true (c.loop-lane.invariant.took have) (cut_off_here (g.O.Output.seen c.loop-lane.out) _) c.from_residual-in_err-write_positions.ensures.1
 
 pub returns-clause-sends : goal.returns-clause-sends
 returns-clause-sends g c = λ have.

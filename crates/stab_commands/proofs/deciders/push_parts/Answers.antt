@@ -4,13 +4,13 @@ use Rattle.stab_commands.proofs.deciders.push_parts.Goals as goal
 
 pub loop-pushed-init : goal.loop-pushed-init
 loop-pushed-init g c =
-    let before = c.args.places.now.items in
+    let before = c.args.positions.now.items in
     let none = ap (ones_of g.W.Word.at c.args.word c.args.first) {x = c.args.first + 0} {y = c.args.first} (omega arith) ∙ ones-none g.W.Word.at c.args.word c.args.first in
     record { within = omega arith; whole = λ less. omega arith; has = sym (ap (λ l. before ++ l) none ∙ append-nil before) }
 
 pub loop-pushed-preserved : goal.loop-pushed-preserved
 loop-pushed-preserved g c =
-    let before = c.args.places.now.items in
+    let before = c.args.positions.now.items in
     let pushed = c.loop-pushed.pushed in
     let some = c.min-some.result in
     let first = c.args.first in
@@ -33,4 +33,4 @@ loop-pushed-smaller g c = omega (arith, c.min-some.ensures, c.loop-pushed-test.t
 pub returns : goal.returns
 returns g c =
     let end : c.args.first + c.loop-pushed.pushed ≡ c.args.end = omega (arith, c.loop-pushed-test.false, c.loop-pushed.invariant.within, c.requires.some) in
-    record { value = c.loop-pushed.invariant.has ∙ ap (λ e. c.args.places.now.items ++ ones_of g.W.Word.at c.args.word c.args.first e) end }
+    record { value = c.loop-pushed.invariant.has ∙ ap (λ e. c.args.positions.now.items ++ ones_of g.W.Word.at c.args.word c.args.first e) end }

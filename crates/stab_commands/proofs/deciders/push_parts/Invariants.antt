@@ -5,7 +5,7 @@ abbrev pub invariant-loop-pushed : goal.invariant-loop-pushed
 invariant-loop-pushed g l = record {
   within : l.pushed ≤ l.end - l.first;
   whole : l.pushed < l.end - l.first → l.pushed % 64 ≡ 0;
-  has : l.places.items ≡ l.initial.places.items ++ ones_of g.W.Word.at l.word l.first (l.first + l.pushed);
+  has : l.positions.items ≡ l.initial.positions.items ++ ones_of g.W.Word.at l.word l.first (l.first + l.pushed);
 }
 
 abbrev pub decreases-loop-pushed : goal.decreases-loop-pushed

@@ -8,7 +8,7 @@ write_reason-requires-clause-are g c =
     let number = c.loop-number.number in
     let lists = c.args.lists.now in
     let less : number < length lists = omega (arith, c.loop-number-test.true) in
-    sym (c.as_slice-places.ensures.value ∙ listed-at lists number c.index-lists-number.result less c.index-lists-number.is ∙ c.requires.are number (omega (arith, less, c.requires.size)))
+    sym (c.as_slice-positions.ensures.value ∙ listed-at lists number c.index-lists-number.result less c.index-lists-number.is ∙ c.requires.are number (omega (arith, less, c.requires.size)))
 
 pub returns-in_err-write_reason : goal.returns-in_err-write_reason
 returns-in_err-write_reason g c =

@@ -13,4 +13,4 @@ write_reason-requires-clause-are g c =
     let number = c.bit_number-number.result in
     let lists = c.in_ok-lists.lists.items in
     let less : number < length lists = omega (arith, c.bit_number-number.ensures.in_range, c.in_ok-lists.ensures.size) in
-    sym (c.as_slice-places.ensures.value ∙ listed-at lists number c.index.result.now less c.index.ensures ∙ c.in_ok-lists.ensures.value number c.bit_number-number.ensures.in_range)
+    sym (c.as_slice-positions.ensures.value ∙ listed-at lists number c.index.result.now less c.index.ensures ∙ c.in_ok-lists.ensures.value number c.bit_number-number.ensures.in_range)

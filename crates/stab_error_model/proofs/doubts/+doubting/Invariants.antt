@@ -10,6 +10,6 @@ decreases-doubt_items l = 2 * depth (listed l.items.now) + 1
 
 abbrev pub invariant-doubt_items-items : goal.invariant-doubt_items-items
 invariant-doubt_items-items l = record {
-  place : l.place ≡ l.step + length (unroll (listed (take l.item-index l.items)));
+  site : l.site ≡ l.step + length (unroll (listed (take l.item-index l.items)));
   doubts : l.doubts.items ≡ l.initial.doubts.items ++ doubts_from l.step (listed (take l.item-index l.items));
 }

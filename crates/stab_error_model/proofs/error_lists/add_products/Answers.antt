@@ -1,4 +1,4 @@
-use Rattle.stab_error_model.proofs.Names.{◌∙◌, ap, map, take, [], ◌∷◌, arith, get_or_default, take_all, Error, product_at, each_product, Letter, letter_at, error_shown, ErrorStands, Stands}
+use Rattle.stab_error_model.proofs.Names.{◌∙◌, ap, map, take, [], ◌∷◌, arith, get_or_default, take_all, Error, product_at, each_product, Letter, fault_of_letter, error_shown, ErrorStands, Stands}
 use Rattle.stab_error_model.proofs.AddingLemmas.{adds-none, adds-same, adds-weaker, mapped-more}
 use Rattle.stab_error_model.proofs.error_lists.add_products.Goals as goal
 
@@ -16,7 +16,7 @@ pairs-preserved c =
     let second = c.args.second in
     let e = c.product_at.result in record {
       is = c.pairs_asked-pair-items.ensures.value;
-      adds = mapped-more (λ p. product_at (letter_at first) (letter_at second) p.0 p.1) (λ faults. Stands first faults × Stands second faults) xs k _
+      adds = mapped-more (λ p. product_at (fault_of_letter first) (fault_of_letter second) p.0 p.1) (λ faults. Stands first faults × Stands second faults) xs k _
           c.args.errors.now.items c.pairs.errors.items c.add_error.new.errors.items c.pairs-test.true
           (get_or_default xs k _ _ c.pairs-test.true)
           c.pairs.invariant.adds
@@ -31,8 +31,8 @@ returns c =
     let xs = c.pairs_asked-pair-items.result.now in
     let first = c.args.first in
     let second = c.args.second in
-    let f : Letter × Letter → Error = λ p. product_at (letter_at first) (letter_at second) p.0 p.1 in record {
-      adds = adds-same (λ faults. Stands first faults × Stands second faults) (map f (take c.pairs.pair-index xs)) (each_product c.args.letters (letter_at first) (letter_at second))
+    let f : Letter × Letter → Error = λ p. product_at (fault_of_letter first) (fault_of_letter second) p.0 p.1 in record {
+      adds = adds-same (λ faults. Stands first faults × Stands second faults) (map f (take c.pairs.pair-index xs)) (each_product c.args.letters (fault_of_letter first) (fault_of_letter second))
           c.args.errors.now.items c.pairs.errors.items
           (ap (map f) (take_all c.pairs.pair-index xs (omega (arith, c.pairs-test.false)) ∙ c.pairs_asked-pair-items.ensures.value))
           c.pairs.invariant.adds;

@@ -1,4 +1,4 @@
-use Rattle.stab_error_model.proofs.Names.{◌≡◌, ◌∙◌, ◌-◌, sym, ap, subst, map, length, false, arith, length-map, detectors_of, unroll, circuit_items, faults_of, flipped, IsErrorTable, AreSearched, error_shown, AreRowsOf}
+use Rattle.stab_error_model.proofs.Names.{◌≡◌, ◌∙◌, ◌-◌, sym, ap, subst, map, length, false, arith, length-map, detectors_of, unroll, circuit_items, faults_of, flipped_by_fault, IsErrorTable, AreSearched, error_shown, AreRowsOf}
 use Rattle.stab_error_model.proofs.FlipLemmas.{table-is}
 use Rattle.stab_error_model.proofs.PartLemmas.{searched-are, searched-stand}
 use Rattle.stab_error_model.proofs.RowLemmas.{rows-ascend}
@@ -8,7 +8,7 @@ use Rattle.stab_error_model.proofs.error_table.table_of.Goals as goal
 pub errors_asked-requires-clause-faults : goal.errors_asked-requires-clause-faults
 errors_asked-requires-clause-faults c =
     let items = circuit_items c.args.circuit.now in
-    c.len.ensures.value ∙ ap length (c.requires.table.are_flipped (λ t. false)) ∙ length-map (faults_of c.args.everywhere (unroll items)) (flipped c.args.n items c.args.faults.now.deterministic (λ t. false))
+    c.len.ensures.value ∙ ap length (c.requires.table.are_flipped (λ t. false)) ∙ length-map (faults_of c.args.everywhere (unroll items)) (flipped_by_fault c.args.n items c.args.faults.now.deterministic (λ t. false))
 
 pub rows_of-requires : goal.rows_of-requires
 rows_of-requires c =
@@ -33,16 +33,16 @@ returns c =
     let stand = searched-stand c.args.graphlike rows D whole errors (faults_of everywhere (unroll items)) c.in_ok-errors.ensures.searched c.in_ok-whole.ensures.stand in
     let fits = c.steps_fit.ensures.fits in
     let found = c.deterministic_parities.ensures.law in
-    let places = c.faults_flip_parities.ensures.places in
+    let sites = c.faults_flip_parities.ensures.sites in
     let adds = c.faults_add.ensures.law in
     let same : c.in_ok-deterministic.deterministic.items ≡ deterministic = c.in_ok-deterministic.ensures.value ∙ c.deterministic.ensures.value in
     let named : AreRowsOf rows errors made = subst (λ es. AreRowsOf rows es made) c.as_slice.ensures.value c.in_ok-table.ensures.rows in
     let count : D ≡ detectors_of (unroll items) = omega (arith, c.len-2.ensures, ap length same, c.requires.table.are_deterministic.count, c.observables.ensures.value) in
     record {
       errors = subst (λ es. AreSearched c.args.graphlike n items es (map error_shown errors)) c.in_ok-whole.ensures.errors
-          (searched-are n everywhere items deterministic rows fits c.requires.table found places adds D count c.args.graphlike whole errors c.in_ok-whole.ensures.stand c.in_ok-errors.ensures.searched);
+          (searched-are n everywhere items deterministic rows fits c.requires.table found sites adds D count c.args.graphlike whole errors c.in_ok-whole.ensures.stand c.in_ok-errors.ensures.searched);
       table = subst (λ bits. IsErrorTable n items (record { deterministic = bits; errors = map error_shown errors; table = c.in_ok-table.table })) (sym same)
-          (table-is n everywhere items deterministic rows fits c.requires.table found places adds detectors (c.in_ok-table.ensures.detectors ∙ count) errors made stand named);
+          (table-is n everywhere items deterministic rows fits c.requires.table found sites adds detectors (c.in_ok-table.ensures.detectors ∙ count) errors made stand named);
       steps = steps-inside everywhere items errors stand;
       err = tt;
     }

@@ -1,4 +1,4 @@
-use Rattle.stab_error_model.proofs.Names.{[], ◌∷◌, ◌++◌, flip_of, each_letter, wrong_record, letter_at, Stands, back_of, reset_errors}
+use Rattle.stab_error_model.proofs.Names.{[], ◌∷◌, ◌++◌, flip_of, each_letter, wrong_record, fault_of_letter, Stands, back_of, reset_errors}
 use Rattle.stab_error_model.proofs.AddingLemmas.{adds-more, adds-weaker}
 use Rattle.stab_error_model.proofs.everywhere.add_measured.Goals as goal
 
@@ -7,9 +7,9 @@ returns c =
     let front = c.args.front in
     let following = c.args.following in
     let flip = flip_of c.args.letter in
-    let first = each_letter c.args.letters.now (letter_at front) in
-    let one = wrong_record c.args.number (letter_at front flip) (back_of c.args.resets (letter_at following flip)) ∷ [] in
-    let last = reset_errors c.args.letters.now (letter_at following) c.args.resets in
+    let first = each_letter c.args.letters.now (fault_of_letter front) in
+    let one = wrong_record c.args.number (fault_of_letter front flip) (back_of c.args.resets (fault_of_letter following flip)) ∷ [] in
+    let last = reset_errors c.args.letters.now (fault_of_letter following) c.args.resets in
     let old = c.args.errors.now.items in
     let a = c.add_letters.new.errors.items in
     let b = c.add_record.new.errors.items in

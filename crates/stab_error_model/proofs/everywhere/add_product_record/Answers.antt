@@ -1,4 +1,4 @@
-use Rattle.stab_error_model.proofs.Names.{◌≡◌, ◌∙◌, ◌<◌, ◌∷◌, [], false, sym, ap, subst, drop, length, arith, ◌==◌, nat_tests, drop_more, letter_of, flip_of, in_front, following, fault_on, wrong_product, wrong_record, letter_at, Adds, HasFrom, Stands, factor_faults}
+use Rattle.stab_error_model.proofs.Names.{◌≡◌, ◌∙◌, ◌<◌, ◌∷◌, [], false, sym, ap, subst, drop, length, arith, ◌==◌, nat_tests, drop_more, letter_of, flip_of, in_front, following, fault_on, wrong_product, wrong_record, fault_of_letter, Adds, HasFrom, Stands, factor_faults}
 use Rattle.stab_error_model.proofs.EverywhereLemmas.{record-at}
 use Rattle.stab_error_model.proofs.everywhere.add_product_record.Goals as goal
 
@@ -21,6 +21,6 @@ returns c =
           (record-at p r c.args.row t m f.qubit (flip_of (letter_of f.letter)) (factor_faults t (drop 1 factors)) old new c.in_front-front.ensures.row c.following-following.ensures.row
           (λ l. c.in_front-front.ensures.value l ∙ ap (λ q. fault_on t (in_front q) l) c.number-qubit.ensures.value)
           (λ l. c.following-following.ensures.value l ∙ ap (λ q. fault_on t (following q) l) c.number-qubit.ensures.value)
-          (subst (λ l. Adds (λ faults. Stands p faults × Stands r faults) (wrong_record m (letter_at p (flip_of l)) (letter_at r (flip_of l) ∷ []) ∷ []) old new)
+          (subst (λ l. Adds (λ faults. Stands p faults × Stands r faults) (wrong_record m (fault_of_letter p (flip_of l)) (fault_of_letter r (flip_of l) ∷ []) ∷ []) old new)
           c.letter.ensures.value c.in_ok-add_record.ensures.adds));
     }

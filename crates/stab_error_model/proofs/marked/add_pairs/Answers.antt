@@ -1,4 +1,4 @@
-use Rattle.stab_error_model.proofs.Names.{◌≡◌, ◌∙◌, ◌+◌, ◌*◌, ◌∷◌, [], refl, sym, ap, subst, append-nil, drop, arith, drop_more, drop_all, in_front, fault_on, faults_on, each_letter, each_two_targets, letters_asked, letter_at, Adds, HasFrom, IsUnderWay, Stands, target_faults}
+use Rattle.stab_error_model.proofs.Names.{◌≡◌, ◌∙◌, ◌+◌, ◌*◌, ◌∷◌, [], refl, sym, ap, subst, append-nil, drop, arith, drop_more, drop_all, in_front, fault_on, faults_on, each_letter, each_two_targets, letters_asked, fault_of_letter, Adds, HasFrom, IsUnderWay, Stands, target_faults}
 use Rattle.stab_error_model.proofs.AddingLemmas.{letters-at, under-way-all, under-way-more}
 use Rattle.stab_error_model.proofs.MarkedLemmas.{targets-more}
 use Rattle.stab_error_model.proofs.marked.add_pairs.Goals as goal
@@ -54,5 +54,5 @@ returns-then-k-qubits c =
           (under-way-more Is all here [] row (row + 2) (faults_on t (in_front a)) [] old now new refl way
           (letters-at (letters_asked asked) c.in_front-first.result row t (in_front a) now new c.in_front-first.ensures.row
           (λ l. c.in_front-first.ensures.value l ∙ ap (λ n. fault_on t (in_front n) l) c.number.ensures.value)
-          (subst (λ ls. Adds (Stands c.in_front-first.result) (each_letter ls (letter_at c.in_front-first.result)) now new) c.letters_asked.ensures.value c.in_ok-add_letters.ensures.adds)));
+          (subst (λ ls. Adds (Stands c.in_front-first.result) (each_letter ls (fault_of_letter c.in_front-first.result)) now new) c.letters_asked.ensures.value c.in_ok-add_letters.ensures.adds)));
     }

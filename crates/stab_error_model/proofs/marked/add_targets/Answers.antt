@@ -12,9 +12,9 @@ targets-preserved c =
     let Is = HasFrom c.args.row (target_faults t xs) in
     let all = each_target ls t xs in
     let split : drop k xs ≡ q ∷ drop (k + 1) xs = drop_more xs k q c.targets-test.true ∙ ap (λ y. y ∷ drop (k + 1) xs) (sym c.index-qubits-k.is) in
-    target-more ls Is all (c.args.row + 2 * k) (c.args.row + 2 * (k + 1)) (t + k) (t + (k + 1)) q (drop (k + 1) xs) c.in_front-place.result c.args.errors.now.items c.targets.errors.items c.add_letters.new.errors.items
-    c.in_front-place.ensures.row
-    (λ l. c.in_front-place.ensures.value l ∙ ap (λ n. fault_on (t + k) (in_front n) l) c.number.ensures.value)
+    target-more ls Is all (c.args.row + 2 * k) (c.args.row + 2 * (k + 1)) (t + k) (t + (k + 1)) q (drop (k + 1) xs) c.in_front-site.result c.args.errors.now.items c.targets.errors.items c.add_letters.new.errors.items
+    c.in_front-site.ensures.row
+    (λ l. c.in_front-site.ensures.value l ∙ ap (λ n. fault_on (t + k) (in_front n) l) c.number.ensures.value)
     (omega arith) (omega arith)
     (subst (λ ys. IsUnderWay Is all (each_target ls (t + k) ys) (c.args.row + 2 * k) (target_faults (t + k) ys) c.args.errors.now.items c.targets.errors.items) split c.targets.invariant)
     c.in_ok-add_letters.ensures.adds

@@ -24,7 +24,7 @@ mark_items-mark_item-requires t c =
     let k = c.items.item-index in
     let x = c.item-item.result in (
       omega (arith, c.decreases, depth_at xs k x c.items-test.true c.item-item.is),
-      omega (arith, c.requires.few, c.items.invariant.place, steps-more xs k x c.items-test.true c.item-item.is, steps-within xs (k + 1)),
+      omega (arith, c.requires.few, c.items.invariant.site, steps-more xs k x c.items-test.true c.item-item.is, steps-within xs (k + 1)),
     )
 
 pub mark_items-items-preserved : goal.mark_items-items-preserved
@@ -34,11 +34,11 @@ mark_items-items-preserved t c =
     let x = c.item-item.result in
     let start = map marks_shown c.args.marks.now.items in
     record {
-      place = omega (arith, c.in_ok-place.ensures.next, c.items.invariant.place, steps-more xs k x c.items-test.true c.item-item.is);
-      marks = c.in_ok-place.ensures.marks
-          ∙ ap (λ ms. ms ++ marks_from c.items.place (instructions (before x done))) c.items.invariant.marks
-          ∙ append_assoc start (marks_from c.args.step (instructions (listed (take k xs)))) (marks_from c.items.place (instructions (before x done)))
-          ∙ ap (λ p. start ++ (marks_from c.args.step (instructions (listed (take k xs))) ++ marks_from p (instructions (before x done)))) c.items.invariant.place
+      site = omega (arith, c.in_ok-site.ensures.next, c.items.invariant.site, steps-more xs k x c.items-test.true c.item-item.is);
+      marks = c.in_ok-site.ensures.marks
+          ∙ ap (λ ms. ms ++ marks_from c.items.site (instructions (before x done))) c.items.invariant.marks
+          ∙ append_assoc start (marks_from c.args.step (instructions (listed (take k xs)))) (marks_from c.items.site (instructions (before x done)))
+          ∙ ap (λ p. start ++ (marks_from c.args.step (instructions (listed (take k xs))) ++ marks_from p (instructions (before x done)))) c.items.invariant.site
           ∙ ap (λ ms. start ++ ms) (sym (marks-more c.args.step xs k x c.items-test.true c.item-item.is));
     }
 
@@ -48,22 +48,22 @@ mark_rounds-rounds-preserved t c =
     let k = c.rounds.counter in
     let start = map marks_shown c.args.marks.now.items in
     record {
-      place = omega (arith, c.in_ok-next.ensures.next, c.rounds.invariant.place);
+      site = omega (arith, c.in_ok-next.ensures.next, c.rounds.invariant.site);
       marks = c.in_ok-next.ensures.marks
-          ∙ ap (λ ms. ms ++ marks_from c.rounds.place (instructions body)) c.rounds.invariant.marks
-          ∙ append_assoc start (marks_from c.args.step (instruction_rounds k (instructions body))) (marks_from c.rounds.place (instructions body))
-          ∙ ap (λ p. start ++ (marks_from c.args.step (instruction_rounds k (instructions body)) ++ marks_from p (instructions body))) c.rounds.invariant.place
+          ∙ ap (λ ms. ms ++ marks_from c.rounds.site (instructions body)) c.rounds.invariant.marks
+          ∙ append_assoc start (marks_from c.args.step (instruction_rounds k (instructions body))) (marks_from c.rounds.site (instructions body))
+          ∙ ap (λ p. start ++ (marks_from c.args.step (instruction_rounds k (instructions body)) ++ marks_from p (instructions body))) c.rounds.invariant.site
           ∙ ap (λ ms. start ++ ms) (sym (marks-round c.args.step k body));
     }
 
-pub mark_rounds-returns-then-next-place-clause-marks : goal.mark_rounds-returns-then-next-place-clause-marks
-mark_rounds-returns-then-next-place-clause-marks t c =
+pub mark_rounds-returns-then-next-site-clause-marks : goal.mark_rounds-returns-then-next-site-clause-marks
+mark_rounds-returns-then-next-site-clause-marks t c =
     let body = listed c.args.body.now in
     let k = c.rounds.counter in
     let start = map marks_shown c.args.marks.now.items in
-    let none : length (unroll body) ≡ 0 = omega (arith, c.if-next-place.true, c.in_ok-next.ensures.next) in
+    let none : length (unroll body) ≡ 0 = omega (arith, c.if-next-site.true, c.in_ok-next.ensures.next) in
     let nothing = λ (n : ℕ). no-marks c.args.step (instruction_rounds n (instructions body)) (long-rounds n body ∙ ap (λ m. n * m) none ∙ times-none n) in
     c.in_ok-next.ensures.marks
-    ∙ ap (λ ms. ms ++ marks_from c.rounds.place (instructions body)) (c.rounds.invariant.marks ∙ ap (λ ms. start ++ ms) (nothing k) ∙ append-nil start)
-    ∙ ap (λ ms. start ++ ms) (no-marks c.rounds.place (instructions body) (long-unrolled body ∙ none))
+    ∙ ap (λ ms. ms ++ marks_from c.rounds.site (instructions body)) (c.rounds.invariant.marks ∙ ap (λ ms. start ++ ms) (nothing k) ∙ append-nil start)
+    ∙ ap (λ ms. start ++ ms) (no-marks c.rounds.site (instructions body) (long-unrolled body ∙ none))
     ∙ ap (λ ms. start ++ ms) (sym (nothing c.args.count))

@@ -12,12 +12,12 @@ decreases-mark_rounds l = 3 * depth (listed l.body.now) + 2
 
 abbrev pub invariant-mark_items-items : goal.invariant-mark_items-items
 invariant-mark_items-items l = record {
-  place : l.place ≡ l.step + length (unroll (listed (take l.item-index l.items)));
+  site : l.site ≡ l.step + length (unroll (listed (take l.item-index l.items)));
   marks : map marks_shown l.marks.items ≡ map marks_shown l.initial.marks.items ++ marks_from l.step (instructions (listed (take l.item-index l.items)));
 }
 
 abbrev pub invariant-mark_rounds-rounds : goal.invariant-mark_rounds-rounds
 invariant-mark_rounds-rounds l = record {
-  place : l.place ≡ l.step + l.counter * length (unroll (listed l.body));
+  site : l.site ≡ l.step + l.counter * length (unroll (listed l.body));
   marks : map marks_shown l.marks.items ≡ map marks_shown l.initial.marks.items ++ marks_from l.step (instruction_rounds l.counter (instructions (listed l.body)));
 }

@@ -16,9 +16,9 @@ returns-in_ok-add_letter_parts-in-Letters-2 c =
     let between = c.add_letter_parts-in-Letters.new.errors.items in
     let new = c.add_letter_parts-in-Letters-2.new.errors.items in record {
       adds = subst (λ e. Adds (λ faults. ErrorStands faults e) (parts_of (error_shown e)) old new) (sym c.in-Letters.is)
-          (adds-more (λ faults. Stands first.place faults × Stands second.place faults) (fault_parts (fault_shown first)) (fault_parts (fault_shown second)) old between new
-          (adds-weaker (Stands first.place) (λ faults. Stands first.place faults × Stands second.place faults) (fault_parts (fault_shown first)) old between (λ faults both. both.0)
+          (adds-more (λ faults. Stands first.site faults × Stands second.site faults) (fault_parts (fault_shown first)) (fault_parts (fault_shown second)) old between new
+          (adds-weaker (Stands first.site) (λ faults. Stands first.site faults × Stands second.site faults) (fault_parts (fault_shown first)) old between (λ faults both. both.0)
           c.in_ok-add_letter_parts-in-Letters.ensures.adds)
-          (adds-weaker (Stands second.place) (λ faults. Stands first.place faults × Stands second.place faults) (fault_parts (fault_shown second)) between new (λ faults both. both.1)
+          (adds-weaker (Stands second.site) (λ faults. Stands first.site faults × Stands second.site faults) (fault_parts (fault_shown second)) between new (λ faults both. both.1)
           c.in_ok-add_letter_parts-in-Letters-2.ensures.adds));
     }

@@ -18,7 +18,7 @@ returns c =
       are_flipped = λ coins.
           table-backwards deterministic c.as_slice.result.now c.in_ok-regions.field-0.rows c.keep.new.self c.as_slice.ensures.value c.keep.ensures.value
           ∙ table-flips n c.args.everywhere items deterministic coins (sites_asked c.asked_for.result) (reverse c.in_ok-regions.field-0.rows)
-          c.faults_flip_parities.ensures.places fits found c.asked_for.ensures.value swept.rows;
+          c.faults_flip_parities.ensures.sites fits found c.asked_for.ensures.value swept.rows;
     } in
     record {
       table = table;

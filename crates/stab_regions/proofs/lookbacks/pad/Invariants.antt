@@ -5,4 +5,4 @@ abbrev pub invariant-padding : goal.invariant-padding
 invariant-padding l = SameRows l.initial.records.items l.records.items
 
 abbrev pub decreases-padding : goal.decreases-padding
-decreases-padding l = (l.place + 1) - length l.records.items
+decreases-padding l = (l.site + 1) - length l.records.items

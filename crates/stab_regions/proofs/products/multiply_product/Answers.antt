@@ -1,5 +1,5 @@
 use Rattle.stab_regions.proofs.Names.{◌<◌, refl, ◌∙◌, sym, ap, subst, List, length, take, get_or, take_more, Factor, letter_of, MovesLetters}
-use Rattle.stab_regions.proofs.FactorLemmas.{by_product, by_product-none, by_product-more, multiplied-as, place-distinct}
+use Rattle.stab_regions.proofs.FactorLemmas.{by_product, by_product-none, by_product-more, multiplied-as, site-distinct}
 use Rattle.stab_regions.proofs.products.multiply_product.Goals as goal
 
 pub loop-factor-init : goal.loop-factor-init
@@ -23,7 +23,7 @@ loop-factor-preserved c =
           subst (λ (fs : List Factor). MovesLetters n (by_product n fs c.args.parities.now) c.args.by_x.now c.args.by_z.now c.multiply.new.by_x c.multiply.new.by_z)
           (sym (take_more factors k c.factor-item.result inside))
           (by_product-more n (take k factors) f c.args.parities.now c.args.by_x.now c.args.by_z.now c.loop-factor.by_x c.loop-factor.by_z c.multiply.new.by_x c.multiply.new.by_z
-          (place-distinct factors k c.factor-item.result inside c.requires.distinct)
+          (site-distinct factors k c.factor-item.result inside c.requires.distinct)
           c.loop-factor.invariant.strings
           (multiplied-as n (length c.loop-factor.by_x) _ f.qubit _ (letter_of f.letter) c.args.parities.now c.loop-factor.by_x c.loop-factor.by_z c.multiply.new.by_x c.multiply.new.by_z
           c.loop-factor.invariant.same_x

@@ -44,7 +44,7 @@ before_all-requires c =
     let at = goal.at.before_all-requires c in
     let xs : List Step = unroll (circuit_items c.args.circuit.now) in
     record {
-      place = record {
+      site = record {
         n = c.args.qubits;
         D = detectors_of xs;
         count = observables_of (circuit_items c.args.circuit.now);

@@ -1,14 +1,14 @@
 use Rattle.stab_report.proofs.Names.{◌≡◌, ◌≤◌, ◌+◌, ◌*◌, ◌-◌, length, drop, flat_map, WroteUpTo, step_shown, faults_on, sites_at, table_lines}
 use Rattle.stab_report.proofs.fault_lines.write_step.Given as goal
 
-abbrev pub invariant-places : goal.invariant-places
-invariant-places g l = record {
-  next : l.next ≡ l.row + 2 * l.place;
-  within : l.place ≤ length (sites_at l.everywhere (step_shown l.step));
+abbrev pub invariant-positions : goal.invariant-positions
+invariant-positions g l = record {
+  next : l.next ≡ l.row + 2 * l.position;
+  within : l.position ≤ length (sites_at l.everywhere (step_shown l.step));
   wrote : WroteUpTo (g.O.Output.seen l.initial.out) (g.O.Output.seen l.out)
       (table_lines l.kinds (λ _. l.path) (flat_map (faults_on l.number) (sites_at l.everywhere (step_shown l.step))) (drop l.row l.table.rows))
-      (table_lines l.kinds (λ _. l.path) (flat_map (faults_on l.number) (drop l.place (sites_at l.everywhere (step_shown l.step)))) (drop l.next l.table.rows));
+      (table_lines l.kinds (λ _. l.path) (flat_map (faults_on l.number) (drop l.position (sites_at l.everywhere (step_shown l.step)))) (drop l.next l.table.rows));
 }
 
-abbrev pub decreases-places : goal.decreases-places
-decreases-places g l = length (sites_at l.everywhere (step_shown l.step)) - l.place
+abbrev pub decreases-positions : goal.decreases-positions
+decreases-positions g l = length (sites_at l.everywhere (step_shown l.step)) - l.position

@@ -10,33 +10,33 @@ two_more : (old new : List PlacedFault) (both : List FaultPlace) → length both
 two_more old new both two is =
     omega (arith, two, ap length is, length-map new fault_placed, length-map old fault_placed, length-append (map fault_placed old) both)
 
-pub overflow_add-place : goal.overflow_add-place
-overflow_add-place c =
-    let more = two_more c.places.faults.items c.push_site.new.faults.items (faults_on c.args.number (site_shown c.in-Some.site)) refl c.in_ok-push_site.ensures.faults in
-    record { fits = omega (arith, c.len.ensures, c.len.type_inv, c.push_site.new.faults.ok.0, more, c.places.invariant.pushed) }
+pub overflow_add-position : goal.overflow_add-position
+overflow_add-position c =
+    let more = two_more c.positions.faults.items c.push_site.new.faults.items (faults_on c.args.number (site_shown c.in-Some.site)) refl c.in_ok-push_site.ensures.faults in
+    record { fits = omega (arith, c.len.ensures, c.len.type_inv, c.push_site.new.faults.ok.0, more, c.positions.invariant.pushed) }
 
-pub places-smaller : goal.places-smaller
-places-smaller c =
+pub positions-smaller : goal.positions-smaller
+positions-smaller c =
     let sites = sites_at c.args.everywhere (step_shown c.args.step) in
     let site = site_shown c.in-Some.site in
-    let found : slice_get sites c.places.place ≡ Some site = sym c.in-Some.ensures.value in
-    let less = slice_get_within sites c.places.place site found in
+    let found : slice_get sites c.positions.position ≡ Some site = sym c.in-Some.ensures.value in
+    let less = slice_get_within sites c.positions.position site found in
     omega (arith, less)
 
-pub places-preserved : goal.places-preserved
-places-preserved c =
+pub positions-preserved : goal.positions-preserved
+positions-preserved c =
     let sites = sites_at c.args.everywhere (step_shown c.args.step) in
     let site = site_shown c.in-Some.site in
-    let found : slice_get sites c.places.place ≡ Some site = sym c.in-Some.ensures.value in
-    let less = slice_get_within sites c.places.place site found in
-    let rest = flat_map (faults_on c.args.number) (drop (c.places.place + 1) sites) in
-    let old = map fault_placed c.places.faults.items in
-    let more = two_more c.places.faults.items c.push_site.new.faults.items (faults_on c.args.number site) refl c.in_ok-push_site.ensures.faults in
+    let found : slice_get sites c.positions.position ≡ Some site = sym c.in-Some.ensures.value in
+    let less = slice_get_within sites c.positions.position site found in
+    let rest = flat_map (faults_on c.args.number) (drop (c.positions.position + 1) sites) in
+    let old = map fault_placed c.positions.faults.items in
+    let more = two_more c.positions.faults.items c.push_site.new.faults.items (faults_on c.args.number site) refl c.in_ok-push_site.ensures.faults in
     record {
-      pushed = omega (arith, more, c.places.invariant.pushed);
+      pushed = omega (arith, more, c.positions.invariant.pushed);
       within = omega (arith, less);
-      faults = c.places.invariant.faults
-          ∙ ap (λ xs. old ++ flat_map (faults_on c.args.number) xs) (drop-found sites c.places.place site found)
+      faults = c.positions.invariant.faults
+          ∙ ap (λ xs. old ++ flat_map (faults_on c.args.number) xs) (drop-found sites c.positions.position site found)
           ∙ sym (append_assoc old (faults_on c.args.number site) rest)
           ∙ ap (λ fs. fs ++ rest) (sym c.in_ok-push_site.ensures.faults);
     }
@@ -44,10 +44,10 @@ places-preserved c =
 pub returns : goal.returns
 returns c =
     let sites = sites_at c.args.everywhere (step_shown c.args.step) in
-    let missed : slice_get sites c.places.place ≡ None = sym c.site_at.ensures.value ∙ found_none c.site_at.result c.in_default.not-Some in
-    let old = map fault_placed c.places.faults.items in
+    let missed : slice_get sites c.positions.position ≡ None = sym c.site_at.ensures.value ∙ found_none c.site_at.result c.in_default.not-Some in
+    let old = map fault_placed c.positions.faults.items in
     record {
       faults = sym (append-nil old)
-          ∙ ap (λ xs. old ++ flat_map (faults_on c.args.number) xs) (sym (drop-missed sites c.places.place missed))
-          ∙ sym c.places.invariant.faults;
+          ∙ ap (λ xs. old ++ flat_map (faults_on c.args.number) xs) (sym (drop-missed sites c.positions.position missed))
+          ∙ sym c.positions.invariant.faults;
     }

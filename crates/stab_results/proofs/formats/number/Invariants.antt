@@ -2,5 +2,5 @@ use Rattle.std.proofs.Common.{◌≡◌, drop}
 use Rattle.stab_results.specs.Formats.{number}
 use Rattle.stab_results.proofs.formats.number.Given as goal
 
-abbrev pub invariant-loop-place : goal.invariant-loop-place
-invariant-loop-place l = l.value ≡ number (drop l.place l.bits)
+abbrev pub invariant-loop-position : goal.invariant-loop-position
+invariant-loop-position l = l.value ≡ number (drop l.position l.bits)

@@ -8,5 +8,5 @@ use Rattle.stab_results.proofs.shot.send_entries.Goals as goal
 pub returns : goal.returns
 returns g c =
     let puts = rw c.new-byte_buffer.ensures.empty at c.in_ok-put_entries.ensures.puts in record {
-      puts = emptied c.send.result (ends {left = []} c.send.result (goes_on (begins (g.O.Output.seen c.args.out.now) [] (flat_map (entry c.args.kinds) c.args.places.now)) puts (sym (append-nil _))) c.send.ensures.puts refl) c.send.ensures.empty;
+      puts = emptied c.send.result (ends {left = []} c.send.result (goes_on (begins (g.O.Output.seen c.args.out.now) [] (flat_map (entry c.args.kinds) c.args.positions.now)) puts (sym (append-nil _))) c.send.ensures.puts refl) c.send.ensures.empty;
     }

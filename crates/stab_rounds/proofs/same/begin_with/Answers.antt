@@ -8,7 +8,7 @@ returns-in-Detectors-Detectors c =
     let others = lookbacks_of c.in-Detectors-Detectors.more in
     record {
       same = OnTrue_from c.detectors_begin_with.result _
-          (λ t. subst (λ ss. take (length (steps_shown c.args.others)) (drop c.args.place (steps_shown ss)) ≡ steps_shown c.args.others) (sym c.in-Detectors-Detectors.is-0)
-          (subst (λ ss. take (length (steps_shown ss)) (drop c.args.place (map detector own)) ≡ steps_shown ss) (sym c.in-Detectors-Detectors.is-1)
-          (mapped_part {X = List ℕ} {Y = Step} detector c.args.place own others (OnTrue_at t c.detectors_begin_with.ensures.same))));
+          (λ t. subst (λ ss. take (length (steps_shown c.args.others)) (drop c.args.position (steps_shown ss)) ≡ steps_shown c.args.others) (sym c.in-Detectors-Detectors.is-0)
+          (subst (λ ss. take (length (steps_shown ss)) (drop c.args.position (map detector own)) ≡ steps_shown ss) (sym c.in-Detectors-Detectors.is-1)
+          (mapped_part {X = List ℕ} {Y = Step} detector c.args.position own others (OnTrue_at t c.detectors_begin_with.ensures.same))));
     }

@@ -7,7 +7,7 @@ loop-number-preserved c =
     let own = lookbacks_of c.args.detectors in
     let others = lookbacks_of c.args.others in
     let i = c.loop-number.number in
-    let place = c.args.place in
+    let position = c.args.position in
     let lt : i < length others = omega (arith, c.loop-number-test.true, c.len-number-end.ensures.value) in
-    take_more_same (drop place own) others i [] (omega (arith, lt, length-drop place own, c.requires.within)) lt c.loop-number.invariant
-    (get_or-drop place own i [] ∙ sym c.get.ensures.value ∙ same_list _ c.get.result.now c.get-in-loop-number.result.now determines_qubits (sym c.eq-same.ensures ∙ c.if-not-same.false) ∙ c.get-in-loop-number.ensures.value)
+    take_more_same (drop position own) others i [] (omega (arith, lt, length-drop position own, c.requires.within)) lt c.loop-number.invariant
+    (get_or-drop position own i [] ∙ sym c.get.ensures.value ∙ same_list _ c.get.result.now c.get-in-loop-number.result.now determines_qubits (sym c.eq-same.ensures ∙ c.if-not-same.false) ∙ c.get-in-loop-number.ensures.value)

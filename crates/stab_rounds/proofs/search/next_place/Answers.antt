@@ -2,16 +2,16 @@ use Rattle.stab_rounds.proofs.Names.{◌≡◌, ◌+◌, ◌++◌, ◌∙◌, sy
 use Rattle.stab_rounds.proofs.AlikeLemmas.{goes-following}
 use Rattle.stab_rounds.proofs.search.next_place.Goals as goal
 
-pub overflow_add-place : goal.overflow_add-place
-overflow_add-place c =
+pub overflow_add-position : goal.overflow_add-position
+overflow_add-position c =
     let ys = unroll (circuit_items c.args.circuit.now) in
     let e = sym c.going.invariant.left ∙ c.in-Some.ensures.some in
     omega (
       arith,
       c.going.invariant.within,
-      c.len-place.ensures.value,
+      c.len-position.ensures.value,
       ap length e,
-      length-drop c.going.place ys,
+      length-drop c.going.position ys,
       length-append (steps_shown c.in-Some.steps) c.next_steps.new.self.left,
       few_steps (circuit_items c.args.circuit.now) c.requires.checked,
     )
@@ -20,10 +20,10 @@ pub going-preserved : goal.going-preserved
 going-preserved c =
     let ys = unroll (circuit_items c.args.circuit.now) in
     let part = steps_shown c.in-Some.steps in
-    let i = c.going.place in
+    let i = c.going.position in
     let e : drop i ys ≡ part ++ c.next_steps.new.self.left = sym c.going.invariant.left ∙ c.in-Some.ensures.some in
     record {
       order = omega (arith, c.going.invariant.order);
-      within = omega (arith, c.going.invariant.within, c.len-place.ensures.value, ap length e, length-drop i ys, length-append part c.next_steps.new.self.left);
-      left = goes-following i ys part c.next_steps.new.self.left e ∙ ap (λ n. drop (i + n) ys) (sym c.len-place.ensures.value);
+      within = omega (arith, c.going.invariant.within, c.len-position.ensures.value, ap length e, length-drop i ys, length-append part c.next_steps.new.self.left);
+      left = goes-following i ys part c.next_steps.new.self.left e ∙ ap (λ n. drop (i + n) ys) (sym c.len-position.ensures.value);
     }

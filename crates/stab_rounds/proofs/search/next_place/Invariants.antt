@@ -3,9 +3,9 @@ use Rattle.stab_rounds.proofs.search.next_place.Given as goal
 
 abbrev pub invariant-going : goal.invariant-going
 invariant-going l = record {
-  order : l.first ≤ l.place;
-  within : l.place ≤ length (unroll (circuit_items l.circuit));
-  left : l.cursor.left ≡ drop l.place (unroll (circuit_items l.circuit));
+  order : l.first ≤ l.position;
+  within : l.position ≤ length (unroll (circuit_items l.circuit));
+  left : l.cursor.left ≡ drop l.position (unroll (circuit_items l.circuit));
 }
 
 abbrev pub decreases-going : goal.decreases-going

@@ -5,6 +5,6 @@ abbrev pub invariant-loop-coin : goal.invariant-loop-coin
 invariant-loop-coin l = record {
   key : l.words.key ≡ key_of (key_bytes l.seed);
   stream : l.words.stream ≡ l.shot;
-  place : l.words.word_pos ≡ 64 * l.group + l.coin-index;
+  position : l.words.word_pos ≡ 64 * l.group + l.coin-index;
   made : (k : ℕ) → k < l.coin-index → get_or l.coin-items k false ≡ seed_coin l.seed l.shot (64 * l.group + k);
 }

@@ -11,10 +11,10 @@ loop-lane-preserved c =
     let lane = c.loop-lane.lane in
     coins-next shots c.args.group lane c.loop-lane.half c.put_lane.new.words (omega (arith, c.loop-lane-test.true)) c.loop-lane.invariant
     (λ k small blank.
-    let place : 16 * (k / 16) + k % 16 ≡ k = omega arith in
+    let position : 16 * (k / 16) + k % 16 ≡ k = omega arith in
     c.put_lane.ensures.here k small blank
     ∙ ap (λ word. word % 2 == 1) (c.words_of_shot-blocks.ensures.each (k / 16) (k % 16) (omega (arith, small)) (omega arith))
-    ∙ ap (λ t. seed_coin shots.seed ((shots.first + lane) % 2 ^ 64) (64 * c.args.group + t)) place) c.put_lane.ensures.others
+    ∙ ap (λ t. seed_coin shots.seed ((shots.first + lane) % 2 ^ 64) (64 * c.args.group + t)) position) c.put_lane.ensures.others
 
 pub returns : goal.returns
 returns c = record { each = coins-all c.args.shots c.args.group c.loop-lane.lane c.loop-lane.half (search rules) c.loop-lane.invariant }

@@ -7,6 +7,6 @@ returns-then-bit-clause-value g c = λ l lt.
     let at = g.W.Word.at in
     let words = c.args.flips.now.items in
     let bit : true ≡ c.args.bit = sym c.if-bit.true in
-    flips-at at l words c.args.place c.index.result.now c.xor.result c.requires.in_range c.index.ensures
+    flips-at at l words c.args.position c.index.result.now c.xor.result c.requires.in_range c.index.ensures
     (c.xor.ensures.value l lt ∙ ap (λ b. at c.index.result.now l ⊕ b) (c.all.ensures.value l lt))
-    ∙ ap (λ b. set (lane_bits at l words) c.args.place (get_or (lane_bits at l words) c.args.place false ⊕ b)) bit
+    ∙ ap (λ b. set (lane_bits at l words) c.args.position (get_or (lane_bits at l words) c.args.position false ⊕ b)) bit

@@ -1,25 +1,14 @@
-use Rattle.stab_script.proofs.Names.{◌<◌, ◌∙◌, refl, sym, ap, subst, inr, flat_map, map, unroll, circuit_items}
-use Rattle.std.proofs.Common.{All}
+use Rattle.stab_script.proofs.Names.{◌∙◌, refl, ap, subst, inr, flat_map, map, unroll, circuit_items}
 use Rattle.stab_io.specs.Refusals.{whole}
 use Rattle.stab_circuit.specs.Steps.{qubits_of}
-use Rattle.stab_regions.specs.Faults.{FaultPlace}
-use Rattle.stab_regions.proofs.InsertedLemmas.{faults-within}
 use Rattle.stab_run.proofs.FitLemmas.{check-fits}
 use Rattle.stab_report.specs.Endings.{Sends}
 use Rattle.stab_report.specs.PlacedFaults.{fault_placed}
 use Rattle.stab_report.proofs.MemoryLaws.{checked_on_own_qubits}
 use Rattle.stab_report.proofs.WritingLaws.{took_some_none}
 use Rattle.stab_script.specs.EachTexts.{error_line, errors_text}
-use Rattle.stab_script.proofs.EachLemmas.{all_placed, are_lines, lines_placed}
+use Rattle.stab_script.proofs.EachLemmas.{are_lines, lines_placed}
 use Rattle.stab_script.proofs.each.send_each.Goals as goal
-
-pub send_all-requires-clause-qubits : goal.send_all-requires-clause-qubits
-send_all-requires-clause-qubits g c =
-    let items = circuit_items c.args.circuit.now in
-    let fits = check-fits (qubits_of items) items (unroll items) (checked_on_own_qubits items c.requires.checked) refl c.items.ensures.distinct in
-    all_placed (qubits_of items) c.as_slice.result.now
-    (subst (All (λ (f : FaultPlace). f.qubit < qubits_of items)) (sym (ap (map fault_placed) c.as_slice.ensures.value ∙ c.in-Ok.ensures.value))
-    (faults-within (qubits_of items) c.args.everywhere 0 (unroll items) fits))
 
 pub returns-in-Ok : goal.returns-in-Ok
 returns-in-Ok g c =
@@ -29,7 +18,7 @@ returns-in-Ok g c =
         errors_text c.args.everywhere items,
         are_lines c.args.everywhere items c.strings_flip_runs.ensures.law fits,
         subst (λ bytes. Sends bytes (g.O.Output.seen c.args.out.now) (g.O.Output.seen c.send_all.new.out) c.send_all.result)
-            (lines_placed items c.as_slice.result.now ∙ ap (flat_map (error_line items)) (ap (map fault_placed) c.as_slice.ensures.value ∙ c.in-Ok.ensures.value)) c.send_all.ensures.sends,
+            (lines_placed items c.as_slice.result.now ∙ ap (flat_map (error_line items)) (ap (map fault_placed) c.as_slice.ensures.value ∙ c.in-Ok.ensures.faults)) c.send_all.ensures.sends,
       );
     }
 

@@ -5,4 +5,4 @@ use Rattle.stab_script.proofs.each.send_errors.Given as goal
 abbrev pub invariant-faults : goal.invariant-faults
 invariant-faults g l =
     let line = line_of (circuit_items l.circuit) in
-    WroteUpTo (g.O.Output.seen l.initial.out) (g.O.Output.seen l.out) (flat_map line l.faults) (flat_map line (drop l.fault-index l.faults))
+    WroteUpTo (g.O.Output.seen l.initial.out) (g.O.Output.seen l.out) (flat_map line l.faults) (flat_map line (drop l.k l.faults))

@@ -1,8 +1,8 @@
 use Rattle.stab_search.proofs.Names.{◌≡◌, [], length, take, Covers}
 use Rattle.stab_search.proofs.candidates.count.Given as goal
 
-abbrev pub invariant-loop-place : goal.invariant-loop-place
-invariant-loop-place l = record {
-  covers : Covers l.errors.table.rows l.errors.pairs l.first [] (take l.place l.detectors) l.cover;
+abbrev pub invariant-loop-position : goal.invariant-loop-position
+invariant-loop-position l = record {
+  covers : Covers l.errors.table.rows l.errors.pairs l.first [] (take l.position l.detectors) l.cover;
   length : length l.cover ≡ length l.errors.table.rows;
 }

@@ -29,9 +29,9 @@ try_each-tries-preserved t c =
 
 pub try_each-returns-clause-zero : goal.try_each-returns-clause-zero
 try_each-returns-clause-zero t c = λ e there.
-    let place = has-at e c.args.tried.now there in
-    let lt = place.1.0 in
-    subst (λ j. slice_index c.tries.weights j ≡ 0) place.1.1 (c.tries.invariant.zero place.0 (omega (arith, lt, c.tries-test.false)))
+    let position = has-at e c.args.tried.now there in
+    let lt = position.1.0 in
+    subst (λ j. slice_index c.tries.weights j ≡ 0) position.1.1 (c.tries.invariant.zero position.0 (omega (arith, lt, c.tries-test.false)))
 
 pub try_error-returns-then-weight-eq0-clause-count : goal.try_error-returns-then-weight-eq0-clause-count
 try_error-returns-then-weight-eq0-clause-count t c = nothing-weighs _ _ c.if-weight-eq0.true

@@ -1,9 +1,13 @@
-use Rattle.stab_search.proofs.Names.{arith}
-use Rattle.stab_search.proofs.ShortestLemmas.{decided}
+use Rattle.stab_search.proofs.Names.{arith, refl}
+use Rattle.stab_search.specs.SearchParts.{Searched}
+use Rattle.stab_search.proofs.SearchPartLemmas.{decided, own-search, whole-none}
 use Rattle.stab_search.proofs.existence.by_search.Goals as goal
 
 pub returns : goal.returns
-returns c = record {
-  decides = decided c.args.errors.now.table c.len.result c.in_ok-found.found c.is_some.result c.is_some.ensures (omega (arith, c.len.ensures.value)) c.in_ok-found.ensures.some
-      c.in_ok-found.ensures.none;
-}
+returns c =
+    let s : Searched = record { table = c.args.errors.now.table; firsts = c.args.errors.now.firsts } in
+    let r = c.in_ok-found.ensures.reported in
+    record {
+      decides = decided s.table c.whole-whole.result s refl c.len.result r.last c.in_ok-found.found c.is_some.result c.is_some.ensures (omega (arith, c.len.ensures.value))
+          (whole-none s.table c.whole-whole.result c.whole-whole.ensures.value s (own-search s.table s.firsts r.begun) r.last r.none) r.found;
+    }

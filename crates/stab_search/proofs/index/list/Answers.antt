@@ -8,10 +8,10 @@ grow-preserved c = λ e.
 
 pub returns-clause-here : goal.returns-clause-here
 returns-clause-here c =
-    let lt : c.args.place < length c.grow.index.items = omega (arith, c.grow-test.false) in
-    listed-set_here c.grow.index.items c.args.place c.push-2.new.self lt
+    let lt : c.args.position < length c.grow.index.items = omega (arith, c.grow-test.false) in
+    listed-set_here c.grow.index.items c.args.position c.push-2.new.self lt
     ∙ c.in_ok-push-2.ensures.items
-    ∙ ap (λ (xs : List ℕ). xs ++ c.args.r ∷ []) (listed-at c.grow.index.items c.args.place c.index_mut.result.now lt c.index_mut.ensures.value ∙ c.grow.invariant c.args.place)
+    ∙ ap (λ (xs : List ℕ). xs ++ c.args.r ∷ []) (listed-at c.grow.index.items c.args.position c.index_mut.result.now lt c.index_mut.ensures.value ∙ c.grow.invariant c.args.position)
 
 pub returns-clause-elsewhere : goal.returns-clause-elsewhere
-returns-clause-elsewhere c = λ e other. listed-set_other c.grow.index.items c.args.place e c.push-2.new.self other ∙ c.grow.invariant e
+returns-clause-elsewhere c = λ e other. listed-set_other c.grow.index.items c.args.position e c.push-2.new.self other ∙ c.grow.invariant e

@@ -5,4 +5,4 @@ abbrev pub invariant-grow : goal.invariant-grow
 invariant-grow l = (e : ℕ) → listed l.index.items e ≡ listed l.fn.index.items e
 
 abbrev pub decreases-grow : goal.decreases-grow
-decreases-grow l = l.place + 1 - length l.index.items
+decreases-grow l = l.position + 1 - length l.index.items

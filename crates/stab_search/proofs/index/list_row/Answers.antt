@@ -5,19 +5,19 @@ use Rattle.stab_search.proofs.index.list_row.Goals as goal
 
 pub each-preserved : goal.each-preserved
 each-preserved c =
-    let d = get_or c.args.places.now c.each.d-index 0 in
+    let d = get_or c.args.positions.now c.each.d-index 0 in
     let old = c.each.index.items in
     let new = c.list.new.index.items in
     record {
       others = λ e q h. kept-has old new d c.args.r c.in_ok-list.ensures.here c.in_ok-list.ensures.elsewhere e q (c.each.invariant.others e q h);
       added = below_more _ _
-          (λ k lt. kept-has old new d c.args.r c.in_ok-list.ensures.here c.in_ok-list.ensures.elsewhere (get_or c.args.places.now k 0) c.args.r (c.each.invariant.added k lt))
+          (λ k lt. kept-has old new d c.args.r c.in_ok-list.ensures.here c.in_ok-list.ensures.elsewhere (get_or c.args.positions.now k 0) c.args.r (c.each.invariant.added k lt))
           (added-has old new d c.args.r c.in_ok-list.ensures.here c.in_ok-list.ensures.elsewhere);
       inside = λ n e lt a. kept-inside old new d c.args.r c.in_ok-list.ensures.here c.in_ok-list.ensures.elsewhere n e lt (c.each.invariant.inside n e lt a);
     }
 
 pub returns-clause-each : goal.returns-clause-each
 returns-clause-each c = λ d h.
-    let place = has-at d c.args.places.now h in
-    let lt = place.1.0 in
-    subst (λ e. has c.args.r (listed c.each.index.items e) ≡ true) place.1.1 (c.each.invariant.added place.0 (omega (arith, lt, c.each-test.false)))
+    let position = has-at d c.args.positions.now h in
+    let lt = position.1.0 in
+    subst (λ e. has c.args.r (listed c.each.index.items e) ≡ true) position.1.1 (c.each.invariant.added position.0 (omega (arith, lt, c.each-test.false)))

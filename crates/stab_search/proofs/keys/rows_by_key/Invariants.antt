@@ -3,6 +3,6 @@ use Rattle.stab_search.proofs.keys.rows_by_key.Given as goal
 
 abbrev pub invariant-keys : goal.invariant-keys
 invariant-keys l = record {
-  inside : (place : ℕ) → Each (λ r. r < length l.keys) (listed l.index.items place);
+  inside : (position : ℕ) → Each (λ r. r < length l.keys) (listed l.index.items position);
   complete : (q : ℕ) → q < l.r → has q (listed l.index.items (bit_and (get_or l.keys q 0) l.mask)) ≡ true;
 }

@@ -1,4 +1,4 @@
-use Rattle.stab_search.proofs.Names.{◌≡◌, ◌∙◌, sym, ap, ℕ, List, Bool, ◌<◌, length, take, get_or, odd, row, flips, ◌⊕◌, arith}
+use Rattle.stab_search.proofs.Names.{◌≡◌, ◌∙◌, sym, ap, ℕ, List, Bool, ◌<◌, length, take, get_or, odd, row, flipped_by_rows, ◌⊕◌, arith}
 use Rattle.stab_search.proofs.IndexLemmas.{row-in}
 use Rattle.stab_search.proofs.ScanLemmas.{each-passed, flips-passed}
 use Rattle.stab_search.proofs.logical.flipped_by.Goals as goal
@@ -13,6 +13,6 @@ each-preserved c =
       flipped = λ i.
           c.in_ok-merge_into.ensures.odd i
           ∙ ap (λ (b : Bool). b ⊕ odd i c.numbers.result.now) (ap (odd i) c.as_slice.ensures.value ∙ c.each.invariant.flipped i)
-          ∙ ap (λ (xs : List ℕ). flips rows (take c.each.r-index c.args.errors.now) i ⊕ odd i xs) read
+          ∙ ap (λ (xs : List ℕ). flipped_by_rows rows (take c.each.r-index c.args.errors.now) i ⊕ odd i xs) read
           ∙ sym (flips-passed rows c.args.errors.now c.each.r-index i c.each-test.true);
     }

@@ -1,5 +1,5 @@
 use Rattle.stab_search.proofs.Names.{ArePairs}
 use Rattle.stab_search.proofs.pairs.pairs_of.Given as goal
 
-abbrev pub invariant-loop-place : goal.invariant-loop-place
-invariant-loop-place l = ArePairs l.rows l.firsts l.pairs.items
+abbrev pub invariant-loop-position : goal.invariant-loop-position
+invariant-loop-position l = ArePairs l.rows l.firsts l.pairs.items

@@ -1,16 +1,15 @@
-use Rattle.stab_session.proofs.Names.{length, arith, sym, ap, ◌∙◌, ◌++◌, take, drop, take-append-drop, take_all, flipped, flipped_additions, flipped-empty}
+use Rattle.stab_session.proofs.Names.{sym, ap, ◌∙◌, ◌++◌, take, drop, take-append-drop, flipped, flipped_additions, flipped-empty}
 use Rattle.stab_session.proofs.flips.flip_outputs.Goals as goal
 
 pub returns : goal.returns
 returns c =
     let old = c.args.outputs.now in
     let from = c.args.from in
-    let bits = c.args.propagation.now.flips.records in
-    let since = c.between-since.ensures.value ∙ (λ i. drop c.args.compared (take (length (c.records-records.ensures.value i)) (c.records-records.ensures.value i)))
-    ∙ ap (drop c.args.compared) (take_all (length bits) bits (omega arith)) in
     record {
       value = λ i. record {
-        records = (c.flip_from.ensures.value ∙ ap (λ flips. take from.records old.records.items ++ flipped (drop from.records old.records.items) flips) since) i;
+        records =
+            (c.flip_from.ensures.value
+            ∙ ap (λ flips. take from.records old.records.items ++ flipped (drop from.records old.records.items) flips) c.records.ensures.value) i;
         free = (sym (take-append-drop from.free old.free.items) ∙ ap (λ bits. take from.free old.free.items ++ bits) (sym (flipped-empty (drop from.free old.free.items)))) i;
         outcomes =
             (c.flip_from-2.ensures.value

@@ -12,13 +12,13 @@ loop-group-preserved c =
     record {
       size = made.size ∙ inv.size;
       done = λ q near lt.
-          groups-done c.args.place first c.args.multiplier.now c.args.table.now c.loop-group.table c.collapse_group-mask.new.table inv.rest made.others inv.done
+          groups-done c.args.position first c.args.multiplier.now c.args.table.now c.loop-group.table c.collapse_group-mask.new.table inv.rest made.others inv.done
           (λ j le lj lt. made.rows j le lj (omega (arith, inv.size))) q (omega arith) lt;
-      rest = λ q le. groups-rest c.args.place first c.args.multiplier.now c.args.table.now c.loop-group.table c.collapse_group-mask.new.table inv.rest made.others q (omega arith);
+      rest = λ q le. groups-rest c.args.position first c.args.multiplier.now c.args.table.now c.loop-group.table c.collapse_group-mask.new.table inv.rest made.others q (omega arith);
       pivot_size = put.size ∙ inv.pivot_size;
       sign = put.sign ∙ inv.sign;
       written = λ q near lt.
-          column-group c.args.place first c.collapse_group-mask.result c.args.table.now c.loop-group.table c.loop-group.pivot.letters c.put_letters.new.out.letters
+          column-group c.args.position first c.collapse_group-mask.result c.args.table.now c.loop-group.table c.loop-group.pivot.letters c.put_letters.new.out.letters
           inv.rest made.changed put.within put.others inv.written q (omega arith) lt;
       unwritten = λ q le. put.others q (inr (omega arith)) ∙ inv.unwritten q (omega arith);
     }
@@ -27,5 +27,5 @@ pub returns-clause-pivot : goal.returns-clause-pivot
 returns-clause-pivot c =
     let inv = c.loop-group.invariant in
     signed_path _ _ inv.sign
-    (column-all Z c.args.place (length c.args.table.now) c.args.table.now c.loop-group.pivot.letters inv.pivot_size (omega arith)
+    (column-all Z c.args.position (length c.args.table.now) c.args.table.now c.loop-group.pivot.letters inv.pivot_size (omega arith)
     (λ j lj. inv.written j (omega (arith, c.loop-group-test.false, c.groups_of-groups.ensures.all, c.len.ensures.value)) lj))

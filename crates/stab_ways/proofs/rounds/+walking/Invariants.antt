@@ -1,4 +1,5 @@
-use Rattle.stab_ways.proofs.Names.{◌≡◌, ◌+◌, ◌*◌, ◌<◌, ◌⊎◌, take, length, listed, depth, nested_in, unroll, parts_of, part_rounds, walked, walk_shown, IsWalk}
+use Rattle.stab_ways.proofs.Names.{◌≡◌, ◌+◌, ◌-◌, ◌*◌, ◌<◌, ◌≤◌, ◌⊎◌, take, length, listed, depth, nested_in, unroll, parts_of, part_rounds, walked, walk_shown, IsWalk}
+use Rattle.stab_ways.specs.inner.Folds.{CameFrom}
 use Rattle.stab_ways.proofs.rounds.+walking.Given as goal
 
 abbrev pub decreases-over_item : goal.decreases-over_item
@@ -19,6 +20,11 @@ invariant-over_items-items l = record {
 abbrev pub invariant-over_rounds-rounds : goal.invariant-over_rounds-rounds
 invariant-over_rounds-rounds l = record {
   walks : IsWalk (length l.string.letters) l.walk;
-  over : walk_shown l.walk ≡ walked (length l.string.letters) l.string.letters (part_rounds l.counter (parts_of (listed l.body))) (walk_shown l.initial.walk);
-  some : (l.counter ≡ 0) ⊎ (0 < length (unroll (listed l.body)));
+  within : l.done ≤ l.count;
+  over : walk_shown l.walk ≡ walked (length l.string.letters) l.string.letters (part_rounds l.done (parts_of (listed l.body))) (walk_shown l.fn.walk);
+  came : CameFrom (length l.string.letters) l.string.letters (parts_of (listed l.body)) l.checkpoint l.done (walk_shown l.walk);
+  some : (l.done ≡ 0) ⊎ (0 < length (unroll (listed l.body)));
 }
+
+abbrev pub decreases-over_rounds-rounds : goal.decreases-over_rounds-rounds
+decreases-over_rounds-rounds l = l.count - l.done

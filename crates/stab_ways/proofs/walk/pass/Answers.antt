@@ -6,25 +6,25 @@ use Rattle.stab_ways.proofs.walk.pass.Goals as goal
 
 pub returns-in_default-clause-counted : goal.returns-in_default-clause-counted
 returns-in_default-clause-counted c =
-    absurd (omega (arith, c.steps-test.true, c.requires.within.1, ap length c.in_default.ensures.none, length-drop c.steps.place (steps_of c.args.kind.now)))
+    absurd (omega (arith, c.steps-test.true, c.requires.within.1, ap length c.in_default.ensures.none, length-drop c.steps.position (steps_of c.args.kind.now)))
 
 pub returns-in_default-clause-passed : goal.returns-in_default-clause-passed
 returns-in_default-clause-passed c =
-    absurd (omega (arith, c.steps-test.true, c.requires.within.1, ap length c.in_default.ensures.none, length-drop c.steps.place (steps_of c.args.kind.now)))
+    absurd (omega (arith, c.steps-test.true, c.requires.within.1, ap length c.in_default.ensures.none, length-drop c.steps.position (steps_of c.args.kind.now)))
 
 pub at_once-front-requires-clause-fits : goal.at_once-front-requires-clause-fits
 at_once-front-requires-clause-fits c =
     let ys = steps_shown c.in-Some.steps in
     subst (λ s. All (StepFits (length s)) ys) (sym c.letters.ensures.value)
-    (fits-over (length c.args.propagation.now.letters) (length c.steps.propagation.letters) c.steps.place (steps_of c.args.kind.now) ys
-    (drop (c.steps.place + length ys) (steps_of c.args.kind.now)) c.in-Some.ensures.some c.steps.invariant.size c.requires.fits)
+    (fits-over (length c.args.propagation.now.letters) (length c.steps.propagation.letters) c.steps.position (steps_of c.args.kind.now) ys
+    (drop (c.steps.position + length ys) (steps_of c.args.kind.now)) c.in-Some.ensures.some c.steps.invariant.size c.requires.fits)
 
 pub propagate_instruction-requires-clause-fits : goal.propagate_instruction-requires-clause-fits
 propagate_instruction-requires-clause-fits c =
     let ys = steps_shown c.in-Some.steps in
     front-fits (length c.steps.propagation.letters) (steps_shown c.at_once-front.result) ys c.at_once-front.ensures.front
-    (fits-over (length c.args.propagation.now.letters) (length c.steps.propagation.letters) c.steps.place (steps_of c.args.kind.now) ys
-    (drop (c.steps.place + length ys) (steps_of c.args.kind.now)) c.in-Some.ensures.some c.steps.invariant.size c.requires.fits)
+    (fits-over (length c.args.propagation.now.letters) (length c.steps.propagation.letters) c.steps.position (steps_of c.args.kind.now) ys
+    (drop (c.steps.position + length ys) (steps_of c.args.kind.now)) c.in-Some.ensures.some c.steps.invariant.size c.requires.fits)
 
 pub propagate_instruction-requires-clause-few : goal.propagate_instruction-requires-clause-few
 propagate_instruction-requires-clause-few c =
@@ -35,7 +35,7 @@ propagate_instruction-requires-clause-few c =
       front-short (steps_shown c.at_once-front.result) (steps_shown c.in-Some.steps) c.at_once-front.ensures.front,
       c.steps.invariant.order,
       c.steps-test.true,
-      coin-bound (length c.args.propagation.now.letters) (c.steps.place - c.args.from) (drop c.args.from (steps_of c.args.kind.now)) c.args.propagation.now c.steps.propagation c.steps.invariant.passed,
+      coin-bound (length c.args.propagation.now.letters) (c.steps.position - c.args.from) (drop c.args.from (steps_of c.args.kind.now)) c.args.propagation.now c.steps.propagation c.steps.invariant.passed,
     )
 
 pub propagate_instruction-requires-clause-few_propagated : goal.propagate_instruction-requires-clause-few_propagated
@@ -55,8 +55,8 @@ leave_out_reset-requires c =
     let ys = steps_shown c.in-Some.steps in record {
       fits = subst (λ j. All (StepFits j) (steps_shown c.at_once-front.result)) (sym c.propagate_instruction.ensures.length)
           (front-fits (length c.steps.propagation.letters) (steps_shown c.at_once-front.result) ys c.at_once-front.ensures.front
-          (fits-over (length c.args.propagation.now.letters) (length c.steps.propagation.letters) c.steps.place (steps_of c.args.kind.now) ys
-          (drop (c.steps.place + length ys) (steps_of c.args.kind.now)) c.in-Some.ensures.some c.steps.invariant.size c.requires.fits));
+          (fits-over (length c.args.propagation.now.letters) (length c.steps.propagation.letters) c.steps.position (steps_of c.args.kind.now) ys
+          (drop (c.steps.position + length ys) (steps_of c.args.kind.now)) c.in-Some.ensures.some c.steps.invariant.size c.requires.fits));
     }
 
 pub steps-preserved : goal.steps-preserved
@@ -82,9 +82,9 @@ steps-preserved c =
       within = omega (arith, long, short, c.in-Some.ensures.within.1, c.steps-test.true);
       counted = omega (arith, c.propagate_instruction.ensures.counted, c.steps.invariant.counted, long, c.steps.invariant.order);
       size = c.leave_out_reset.ensures.length ∙ c.propagate_instruction.ensures.length ∙ c.steps.invariant.size;
-      passed = subst (λ k. new ≡ passed n (take ((c.steps.place + k) - c.args.from) (drop c.args.from xs)) c.args.propagation.now) (sym long)
-          (passed-next n (length old.letters) c.args.from c.steps.place c.in_ok-went.went c.args.strings.now.strings xs ys
-          (front.0 ++ drop (c.steps.place + length zs) xs) c.args.propagation.now old mid new c.steps.invariant.order
-          (front-next (drop c.steps.place xs) zs (drop (c.steps.place + length zs) xs) ys c.in-Some.ensures.some front)
+      passed = subst (λ k. new ≡ passed n (take ((c.steps.position + k) - c.args.from) (drop c.args.from xs)) c.args.propagation.now) (sym long)
+          (passed-next n (length old.letters) c.args.from c.steps.position c.in_ok-went.went c.args.strings.now.strings xs ys
+          (front.0 ++ drop (c.steps.position + length zs) xs) c.args.propagation.now old mid new c.steps.invariant.order
+          (front-next (drop c.steps.position xs) zs (drop (c.steps.position + length zs) xs) ys c.in-Some.ensures.some front)
           (omega (arith, long)) c.steps.invariant.size c.requires.placed c.steps.invariant.passed c.in_ok-went.ensures.goes together left);
     }

@@ -5,12 +5,12 @@ use Rattle.stab_ways.proofs.walk.pass.Given as goal
 
 abbrev pub invariant-steps : goal.invariant-steps
 invariant-steps l = record {
-  order : l.from ≤ l.place;
-  within : l.place ≤ l.to;
-  counted : l.by_frame ≡ l.initial.by_frame + (l.place - l.from);
+  order : l.from ≤ l.position;
+  within : l.position ≤ l.to;
+  counted : l.by_frame ≡ l.initial.by_frame + (l.position - l.from);
   size : length l.propagation.letters ≡ length l.initial.propagation.letters;
-  passed : l.propagation ≡ passed (length l.initial.propagation.letters) (take (l.place - l.from) (drop l.from (steps_of l.kind))) l.initial.propagation;
+  passed : l.propagation ≡ passed (length l.initial.propagation.letters) (take (l.position - l.from) (drop l.from (steps_of l.kind))) l.initial.propagation;
 }
 
 abbrev pub decreases-steps : goal.decreases-steps
-decreases-steps l = l.to - l.place
+decreases-steps l = l.to - l.position

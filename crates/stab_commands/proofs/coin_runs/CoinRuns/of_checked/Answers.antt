@@ -3,8 +3,8 @@ use Rattle.stab_commands.proofs.PlaceLemmas.{flags-of-run}
 use Rattle.stab_commands.proofs.RowLemmas.{coins-have-rows}
 use Rattle.stab_commands.proofs.coin_runs.CoinRuns.of_checked.Goals as goal
 
-pub places_of-requires-clause-flags : goal.places_of-requires-clause-flags
-places_of-requires-clause-flags c =
+pub positions_of-requires-clause-flags : goal.positions_of-requires-clause-flags
+positions_of-requires-clause-flags c =
     ap length (c.as_slice.ensures.value ∙ c.in_ok-zero.ensures.free) ∙ flags-of-run c.args.n (list_coin c.new-coins.result.bits) (circuit_items c.args.circuit.now)
 
 pub returns-clause-runs : goal.returns-clause-runs

@@ -1,11 +1,11 @@
 use Rattle.stab_pauli.proofs.Names.{arith, ◌<◌, get_or, sym, ◌∙◌, ap, get_or-take, I, row_letters}
-use Rattle.stab_pauli.proofs.Lemmas.{view_of, length-view, place_in_row}
+use Rattle.stab_pauli.proofs.Lemmas.{view_of, length-view, position_in_row}
 use Rattle.stab_pauli.proofs.pauli.Pauli.letter.Goals as goal
 
 pub letter-requires-clause-in_range : goal.letter-requires-clause-in_range
 letter-requires-clause-in_range c =
     let mine = view_of c.self.invariant c.self.view_is in
-    place_in_row mine c.args.qubit c.requires.in_range
+    position_in_row mine c.args.qubit c.requires.in_range
 
 pub returns : goal.returns
 returns c =

@@ -1,10 +1,10 @@
 use Rattle.stab_pauli.proofs.Names.{arith, ◌<◌, set, ◌∙◌, ap, ◌++◌, length, take, drop, row_letters, with_letter}
-use Rattle.stab_pauli.proofs.Lemmas.{view_of, lies_of, is_of, length-view, place_in_row, written_view, IsView, letter_view}
+use Rattle.stab_pauli.proofs.Lemmas.{view_of, lies_of, is_of, length-view, position_in_row, written_view, IsView, letter_view}
 use Rattle.stab_pauli.proofs.pauli.Pauli.set.Goals as goal
 use Rattle.stab_pauli.proofs.pauli.Pauli.set.Goals.{After-power_with-self-inside}
 
 pub set-requires-clause-in_range : goal.set-requires-clause-in_range
-set-requires-clause-in_range c = place_in_row (view_of c.self.invariant c.self.view_is) c.args.qubit c.requires.in_range
+set-requires-clause-in_range c = position_in_row (view_of c.self.invariant c.self.view_is) c.args.qubit c.requires.in_range
 
 -- the string after the call
 view_after : (c : After-power_with-self-inside) → IsView c.self.inside.qubits c.self.inside.blocks

@@ -1,10 +1,10 @@
 use Rattle.stab_pauli.proofs.Names.{◌+◌, ◌*◌, sym, ◌∙◌, ap, get_or, arith, I, has_x, row_letters}
-use Rattle.stab_pauli.proofs.Lemmas.{view_of, place_in_row, string-letter}
+use Rattle.stab_pauli.proofs.Lemmas.{view_of, position_in_row, string-letter}
 use Rattle.stab_pauli.proofs.pauli.Pauli.x_mask.Goals as goal
 
 pub x_mask-requires-clause-in_range : goal.x_mask-requires-clause-in_range
 x_mask-requires-clause-in_range c =
-    let within = place_in_row (view_of c.self.invariant c.self.view_is) (64 * c.args.word) c.requires.some in
+    let within = position_in_row (view_of c.self.invariant c.self.view_is) (64 * c.args.word) c.requires.some in
     omega (arith, within)
 
 pub returns : goal.returns

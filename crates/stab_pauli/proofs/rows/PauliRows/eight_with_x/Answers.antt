@@ -23,5 +23,5 @@ returns c =
     record {
       value = λ k lt. c.rows_with_x.ensures.value k lt ∙ ap has_x (letter_is k c.args.qubit lt);
       short = c.rows_with_x.ensures.short;
-      places = λ k j lt lj one. c.rows_with_x.ensures.places k j lt lj (ap has_x (letter_is k (64 * (c.args.qubit / 64) + j) lt) ∙ one);
+      positions = λ k j lt lj one. c.rows_with_x.ensures.positions k j lt lj (ap has_x (letter_is k (64 * (c.args.qubit / 64) + j) lt) ∙ one);
     }

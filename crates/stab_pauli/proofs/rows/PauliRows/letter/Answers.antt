@@ -1,5 +1,5 @@
 use Rattle.stab_pauli.proofs.Names.{arith, ◌∙◌}
-use Rattle.stab_pauli.proofs.Lemmas.{counted_seen, seen_of, place_seen, letter_seen}
+use Rattle.stab_pauli.proofs.Lemmas.{counted_seen, seen_of, position_seen, letter_seen}
 use Rattle.stab_pauli.proofs.rows.PauliRows.letter.Goals as goal
 
 pub row_of-words-requires-clause-in_range : goal.row_of-words-requires-clause-in_range
@@ -8,7 +8,7 @@ row_of-words-requires-clause-in_range c = counted_seen (seen_of c.self.invariant
 pub letter-requires-clause-in_range : goal.letter-requires-clause-in_range
 letter-requires-clause-in_range c =
     let mine = seen_of c.self.invariant c.self.view_is in
-    place_seen mine c.args.qubit c.requires.qubit_in_range
+    position_seen mine c.args.qubit c.requires.qubit_in_range
 
 pub returns : goal.returns
 returns c =

@@ -28,12 +28,12 @@ loop-a-preserved c =
       value = grown-eight (λ j. has_x (get_or (row_at c.args.self.now j).letters c.args.qubit I)) c.loop-a.a c.args.end c.loop-a.mask c.after_eight-mask.result c.eight_with_x-eight.result.0
           (omega (arith, part)) c.eight_with_x-eight.ensures.value c.after_eight-mask.ensures.first c.after_eight-mask.ensures.others inv.value;
       short = subst (λ n. c.after_eight-mask.result < 2 ^ n) longer c.after_eight-mask.ensures.short;
-      places = gathered (λ k j. has_x (get_or (row_at c.args.self.now k).letters (64 * (c.args.qubit / 64) + j) I)) 8 c.loop-a.a c.args.end c.loop-a.places c.eight_with_x-eight.result.1
-          (omega (arith, part)) c.eight_with_x-eight.ensures.places inv.places;
+      positions = gathered (λ k j. has_x (get_or (row_at c.args.self.now k).letters (64 * (c.args.qubit / 64) + j) I)) 8 c.loop-a.a c.args.end c.loop-a.positions c.eight_with_x-eight.result.1
+          (omega (arith, part)) c.eight_with_x-eight.ensures.positions inv.positions;
     }
 
-pub returns-clause-places : goal.returns-clause-places
-returns-clause-places c =
+pub returns-clause-positions : goal.returns-clause-positions
+returns-clause-positions c =
     let inv = c.loop-a.invariant in
     let all : c.loop-a.a ≡ c.args.first = omega (arith, inv.from, c.loop-a-test.false) in
-    λ k j lt lj one. inv.places k j (omega (arith, all, lt)) lj (ap (λ a. has_x (get_or (row_at c.args.self.now (a + k)).letters (64 * (c.args.qubit / 64) + j) I)) all ∙ one)
+    λ k j lt lj one. inv.positions k j (omega (arith, all, lt)) lj (ap (λ a. has_x (get_or (row_at c.args.self.now (a + k)).letters (64 * (c.args.qubit / 64) + j) I)) all ∙ one)

@@ -14,6 +14,6 @@ loop-a-preserved c =
           (c.bit_of.ensures.value ∙ x-at (λ j. has_x (get_or (row_at c.args.self.now (c.loop-a.a - 1)).letters j I)) c.x_mask-word.result c.args.qubit c.x_mask-word.ensures.value)
           c.following-mask.ensures.first c.following-mask.ensures.others inv.value;
       short = subst (λ n. c.following-mask.result < 2 ^ n) longer c.following-mask.ensures.short;
-      places = gathered-one (λ k j. has_x (get_or (row_at c.args.self.now k).letters (64 * (c.args.qubit / 64) + j) I)) c.loop-a.a c.args.end c.loop-a.places c.x_mask-word.result
-          (omega (arith, c.loop-a-test.true)) c.x_mask-word.ensures.value inv.places;
+      positions = gathered-one (λ k j. has_x (get_or (row_at c.args.self.now k).letters (64 * (c.args.qubit / 64) + j) I)) c.loop-a.a c.args.end c.loop-a.positions c.x_mask-word.result
+          (omega (arith, c.loop-a-test.true)) c.x_mask-word.ensures.value inv.positions;
     }

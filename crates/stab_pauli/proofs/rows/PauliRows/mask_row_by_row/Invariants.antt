@@ -7,7 +7,7 @@ invariant-loop-a l = record {
   in_range : l.a ≤ l.end;
   value : (k : ℕ) → l.a + k < l.end → chooses l.mask k ≡ has_x (get_or (row_at l.self (l.a + k)).letters l.qubit I);
   short : l.mask < 2 ^ (l.end - l.a);
-  places : (k j : ℕ) → l.a + k < l.end → j < 64 → has_x (get_or (row_at l.self (l.a + k)).letters (64 * (l.qubit / 64) + j) I) ≡ true → chooses l.places j ≡ true;
+  positions : (k j : ℕ) → l.a + k < l.end → j < 64 → has_x (get_or (row_at l.self (l.a + k)).letters (64 * (l.qubit / 64) + j) I) ≡ true → chooses l.positions j ≡ true;
 }
 
 abbrev pub decreases-loop-a : goal.decreases-loop-a

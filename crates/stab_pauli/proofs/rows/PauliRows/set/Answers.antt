@@ -1,5 +1,5 @@
 use Rattle.stab_pauli.proofs.Names.{arith, ◌≡◌, ◌<◌, ◌*◌, ◌∙◌, subst, set, ℕ, List, ◌++◌, length, take, drop, chunk, phase_add, phase_inverse, letter_power, row_letters, IsRewritten, row_at, with_row, with_letter}
-use Rattle.stab_pauli.proofs.Lemmas.{read_power, counted_seen, seen_of, qubits_seen, in_seen, place_seen, row_seen, put_seen, written_seen, letter_view, IsSeen}
+use Rattle.stab_pauli.proofs.Lemmas.{read_power, counted_seen, seen_of, qubits_seen, in_seen, position_seen, row_seen, put_seen, written_seen, letter_view, IsSeen}
 use Rattle.stab_pauli.proofs.rows.PauliRows.set.Goals as goal
 use Rattle.stab_pauli.proofs.rows.PauliRows.set.Goals.{After-power_with}
 
@@ -15,7 +15,7 @@ set-requires-clause-in_range c = counted_seen (seen_of c.self.invariant c.self.v
 pub set-requires-clause-qubit_in_range : goal.set-requires-clause-qubit_in_range
 set-requires-clause-qubit_in_range c =
     let mine = seen_of c.self.invariant c.self.view_is in
-    place_seen mine c.args.qubit c.requires.qubit_in_range
+    position_seen mine c.args.qubit c.requires.qubit_in_range
 
 -- the rows after the call
 seen_after : (c : After-power_with) → IsSeen c.self.inside.qubits c.self.inside.blocks

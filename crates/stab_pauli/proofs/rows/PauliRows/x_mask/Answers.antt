@@ -1,5 +1,5 @@
 use Rattle.stab_pauli.proofs.Names.{arith, ◌+◌, ◌*◌, ◌∙◌, ap, has_x}
-use Rattle.stab_pauli.proofs.Lemmas.{counted_seen, seen_of, place_seen, letter_seen}
+use Rattle.stab_pauli.proofs.Lemmas.{counted_seen, seen_of, position_seen, letter_seen}
 use Rattle.stab_pauli.proofs.rows.PauliRows.x_mask.Goals as goal
 
 pub row_of-words-requires-clause-in_range : goal.row_of-words-requires-clause-in_range
@@ -7,7 +7,7 @@ row_of-words-requires-clause-in_range c = counted_seen (seen_of c.self.invariant
 
 pub x_mask-requires-clause-in_range : goal.x_mask-requires-clause-in_range
 x_mask-requires-clause-in_range c =
-    let within = place_seen (seen_of c.self.invariant c.self.view_is) (64 * c.args.word) c.requires.some in
+    let within = position_seen (seen_of c.self.invariant c.self.view_is) (64 * c.args.word) c.requires.some in
     omega (arith, within)
 
 pub returns : goal.returns

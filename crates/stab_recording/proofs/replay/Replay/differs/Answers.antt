@@ -13,7 +13,7 @@ returns-clause-differs c = λ other.
     subst (λ m. IsSomeAnd m (HasOtherCoins c.args.plan c.args.self.now (output_of c.args.old.now))) (sym last)
     (record {
       following = omega (arith, c.if-checkpoint-plan.false);
-      place = sym c.shifted.ensures.value ∙ grind (arith, c.if-shifted-self.false);
+      position = sym c.shifted.ensures.value ∙ grind (arith, c.if-shifted-self.false);
       differs =
           inr (λ same.
           not-same c.are_same.result (grind (arith, other))

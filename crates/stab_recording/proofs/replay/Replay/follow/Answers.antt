@@ -118,7 +118,7 @@ come_again-requires-clause-on_way g c = (
   c.args.old.now.outputs.now.records.items,
   c.in-Between.later,
   own_way g ((goal.at.come_again-requires-clause-on_way g c).In_ok-save),
-  c.place-place.ensures.value,
+  c.position-position.ensures.value,
 )
 
 pub following-smaller : goal.following-smaller
@@ -150,5 +150,5 @@ following-preserved g c =
           c.args.old.now.checkpoints.now c.args.old.now.outputs.now.records.items c.in-Between.later c.come_again.new.self way.stop.replay.at_step.qubits way.stop.replay.at_step.all
           (subst (λ s. IsOnWay c.save.new.self.tableau.qubits s c.args.self.now.step c.args.plan c.save.new.self.cursor.all c.args.old.now.checkpoints.now c.args.old.now.outputs.now.records.items c.in-Between.later
           c.come_again.new.self) same_coins
-          (again.way c.args.self.now.step c.args.old.now.checkpoints.now c.args.old.now.outputs.now.records.items c.in-Between.later (own_way g at.In_ok-save) c.place-place.ensures.value));
+          (again.way c.args.self.now.step c.args.old.now.checkpoints.now c.args.old.now.outputs.now.records.items c.in-Between.later (own_way g at.In_ok-save) c.position-position.ensures.value));
     }

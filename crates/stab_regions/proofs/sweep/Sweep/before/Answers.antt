@@ -5,20 +5,20 @@ use Rattle.stab_regions.proofs.sweep.Sweep.before.Goals as goal
 
 pub keep_all-requires-clause-in_range : goal.keep_all-requires-clause-in_range
 keep_all-requires-clause-in_range c =
-    let p = c.requires.place in
+    let p = c.requires.site in
     let x = step_shown c.args.step in
     subst (λ m. All (λ q. q < m) (step_qubits x)) (sym p.swept.regions.qubits) (step-within p.n x (p.passes.fits 0 x (omega arith)))
 
 pub add_all-requires-clause-in_range : goal.add_all-requires-clause-in_range
 add_all-requires-clause-in_range c =
-    let p = c.requires.place in
+    let p = c.requires.site in
     let x = step_shown c.args.step in
     let at = c.in_ok-before.ensures.state p.n p.D p.count p.back p.swept.regions in
     subst (λ m. All (λ q. q < m) (step_qubits x)) (sym at.qubits) (step-within p.n x (p.passes.fits 0 x (omega arith)))
 
 pub add_all-requires-clause-same_length : goal.add_all-requires-clause-same_length
 add_all-requires-clause-same_length c =
-    let p = c.requires.place in
+    let p = c.requires.site in
     let at = c.in_ok-before.ensures.state p.n p.D p.count p.back p.swept.regions in
     at.sized.rows
 

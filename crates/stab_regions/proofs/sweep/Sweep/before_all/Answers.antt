@@ -7,8 +7,8 @@ before-requires c =
     let xs : List Step = map step_shown c.args.steps.now in
     let last = mapped-last step_shown c.args.steps.now c.steps.left c.index-steps-left.result (omega (arith, c.steps-test.true)) c.steps.invariant.within c.index-steps-left.is in
     record {
-      place =
-          stands-next c.args.asked xs (c.steps.left - 1) (step_shown c.index-steps-left.result) c.args.self.now c.steps.self last.0 c.requires.place
+      site =
+          stands-next c.args.asked xs (c.steps.left - 1) (step_shown c.index-steps-left.result) c.args.self.now c.steps.self last.0 c.requires.site
           (subst (λ (ys : List Step). Sweeps c.args.asked ys c.args.self.now c.steps.self) last.1 c.steps.invariant.sweeps);
     }
 

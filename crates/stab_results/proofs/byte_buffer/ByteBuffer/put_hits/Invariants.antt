@@ -4,5 +4,5 @@ use Rattle.stab_results.proofs.PutsLemmas.{Underway}
 use Rattle.stab_results.proofs.HitLemmas.{separated}
 use Rattle.stab_results.proofs.byte_buffer.ByteBuffer.put_hits.Given as goal
 
-abbrev pub invariant-loop-place : goal.invariant-loop-place
-invariant-loop-place g l = Underway (g.O.Output.seen l.fn.out) (g.O.Output.seen l.out) l.fn.self l.self (hits_bytes l.bits) (separated l.separator l.place-iterator ++ codes "\n")
+abbrev pub invariant-loop-position : goal.invariant-loop-position
+invariant-loop-position g l = Underway (g.O.Output.seen l.fn.out) (g.O.Output.seen l.out) l.fn.self l.self (hits_bytes l.bits) (separated l.separator l.position-iterator ++ codes "\n")

@@ -4,21 +4,21 @@ use Rattle.stab_results.specs.Formats.{one_places, entry}
 use Rattle.stab_results.proofs.PutsLemmas.{begins, goes_on, breaks_off, ended}
 use Rattle.stab_results.proofs.byte_buffer.ByteBuffer.put_ones.Goals as goal
 
-pub loop-place-init : goal.loop-place-init
-loop-place-init g c =
-    let all : c.into_iter-place-iterator.result ≡ one_places c.args.bits.now = cc in
+pub loop-position-init : goal.loop-position-init
+loop-position-init g c =
+    let all : c.into_iter-position-iterator.result ≡ one_places c.args.bits.now = cc in
     rw all (begins (g.O.Output.seen c.args.out.now) c.args.self.now (flat_map (entry c.args.kinds) (one_places c.args.bits.now)))
 
-pub loop-place-preserved : goal.loop-place-preserved
-loop-place-preserved g c =
-    goes_on c.loop-place.invariant c.in_ok-put_entry.ensures.puts (ap (flat_map (entry c.args.kinds)) c.in-Some.ensures.steps)
+pub loop-position-preserved : goal.loop-position-preserved
+loop-position-preserved g c =
+    goes_on c.loop-position.invariant c.in_ok-put_entry.ensures.puts (ap (flat_map (entry c.args.kinds)) c.in-Some.ensures.steps)
 
 pub returns-in_err-put_entry : goal.returns-in_err-put_entry
 returns-in_err-put_entry g c = record {
-  puts = breaks_off c.from_residual.result _ c.loop-place.invariant c.in_err-put_entry.ensures.puts (ap (flat_map (entry c.args.kinds)) c.in-Some.ensures.steps) c.from_residual.ensures.1;
+  puts = breaks_off c.from_residual.result _ c.loop-position.invariant c.in_err-put_entry.ensures.puts (ap (flat_map (entry c.args.kinds)) c.in-Some.ensures.steps) c.from_residual.ensures.1;
 }
 
 pub returns : goal.returns
 returns g c = record {
-  puts = ended c.loop-place.invariant (ap (flat_map (entry c.args.kinds)) c.in-None.ensures.steps.0);
+  puts = ended c.loop-position.invariant (ap (flat_map (entry c.args.kinds)) c.in-None.ensures.steps.0);
 }

@@ -52,8 +52,8 @@ returns c =
     let empty : kept.strings ≡ [] = ap (λ (k : PivotsState). k.strings) c.truncate.ensures.value in
     let limit : kept.most ≡ most_strings n =
     ap (λ (k : PivotsState). k.most) c.truncate.ensures.value ∙ omega (arith, sized.most, ap most_strings sized.strings) in
-    let place : c.len-determined.result ≡ length zeros = search rules in
-    let determined = c.in_ok-push_rest.ensures.value ∙ (λ i. old.free.items ++ drop (place i) (c.as_slice.ensures.value i)) in
+    let position : c.len-determined.result ≡ length zeros = search rules in
+    let determined = c.in_ok-push_rest.ensures.value ∙ (λ i. old.free.items ++ drop (position i) (c.as_slice.ensures.value i)) in
     let there : PartRecording = record { tableau = after.tableau; string = after.string; outputs = after.outputs; pivots = after.pivots; free = c.push_rest.new.flags } in
     record {
       sized = record {

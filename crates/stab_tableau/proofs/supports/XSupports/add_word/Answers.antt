@@ -1,5 +1,5 @@
-use Rattle.stab_tableau.proofs.Names.{◌≡◌, ◌<◌, ◌+◌, ◌*◌, ap, ◌∙◌, length, arith, Supports, has_place}
-use Rattle.stab_tableau.proofs.SupportLemmas.{places-added, places-kept}
+use Rattle.stab_tableau.proofs.Names.{◌≡◌, ◌<◌, ◌+◌, ◌*◌, ap, ◌∙◌, length, arith, Supports, has_position}
+use Rattle.stab_tableau.proofs.SupportLemmas.{positions-added, positions-kept}
 use Rattle.stab_tableau.proofs.supports.XSupports.add_word.Goals as goal
 use Rattle.stab_tableau.proofs.supports.XSupports.add_word.Goals.{After-index}
 
@@ -9,10 +9,10 @@ in-range c =
     omega (arith, e, c.self.invariant.size, c.requires.in_range, c.requires.word_in_range)
 
 pub returns-clause-kept : goal.returns-clause-kept
-returns-clause-kept c = λ g w place one.
-    places-kept c.self.inside.words.items (16 * c.args.group + c.args.word) c.index.result.now c.args.places (in-range (goal.at.returns-clause-kept c).After-index) c.index.ensures
-    (16 * g + w) place (ap (λ (s : Supports). has_place s g w place) c.self.view_is ∙ one)
+returns-clause-kept c = λ g w position one.
+    positions-kept c.self.inside.words.items (16 * c.args.group + c.args.word) c.index.result.now c.args.positions (in-range (goal.at.returns-clause-kept c).After-index) c.index.ensures
+    (16 * g + w) position (ap (λ (s : Supports). has_position s g w position) c.self.view_is ∙ one)
 
 pub returns-clause-added : goal.returns-clause-added
-returns-clause-added c = λ place one.
-    places-added c.self.inside.words.items (16 * c.args.group + c.args.word) c.index.result.now c.args.places (in-range (goal.at.returns-clause-added c).After-index) c.index.ensures place one
+returns-clause-added c = λ position one.
+    positions-added c.self.inside.words.items (16 * c.args.group + c.args.word) c.index.result.now c.args.positions (in-range (goal.at.returns-clause-added c).After-index) c.index.ensures position one

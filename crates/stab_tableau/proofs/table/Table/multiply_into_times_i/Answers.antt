@@ -1,25 +1,25 @@
 use Rattle.stab_tableau.proofs.Names.{◌∙◌, ap, anticommute, product_times_i}
-use Rattle.stab_tableau.proofs.PairedRowsLemmas.{seen-few, seen-place, seen-length, seen-read}
+use Rattle.stab_tableau.proofs.PairedRowsLemmas.{seen-few, seen-position, seen-length, seen-read}
 use Rattle.stab_tableau.proofs.table.Table.multiply_into_times_i.Goals as goal
 
-pub place-requires : goal.place-requires
-place-requires c = record { few = seen-few c.self.inside.rows c.self.invariant.0 c.args.self.now c.self.view_is c.args.qubit c.requires.in_range }
+pub position-requires : goal.position-requires
+position-requires c = record { few = seen-few c.self.inside.rows c.self.invariant.0 c.args.self.now c.self.view_is c.args.qubit c.requires.in_range }
 
 pub multiply_into_times_i-requires-clause-in_range : goal.multiply_into_times_i-requires-clause-in_range
 multiply_into_times_i-requires-clause-in_range c =
-    seen-place c.self.inside.rows c.self.invariant.0 c.args.self.now c.self.view_is c.args.row c.args.qubit c.place.result c.requires.in_range c.place.ensures.value
+    seen-position c.self.inside.rows c.self.invariant.0 c.args.self.now c.self.view_is c.args.row c.args.qubit c.position.result c.requires.in_range c.position.ensures.value
 
 pub multiply_into_times_i-requires-clause-same_length : goal.multiply_into_times_i-requires-clause-same_length
 multiply_into_times_i-requires-clause-same_length c = c.requires.same_length ∙ seen-length c.self.inside.rows c.self.invariant.0 c.args.self.now c.self.view_is
 
 pub multiply_into_times_i-requires-clause-anticommuting : goal.multiply_into_times_i-requires-clause-anticommuting
 multiply_into_times_i-requires-clause-anticommuting c =
-    ap (anticommute c.args.out.now) (seen-read c.self.inside.rows c.self.invariant.0 c.args.self.now c.self.view_is c.args.row c.args.qubit c.place.result c.requires.in_range c.place.ensures.value)
+    ap (anticommute c.args.out.now) (seen-read c.self.inside.rows c.self.invariant.0 c.args.self.now c.self.view_is c.args.row c.args.qubit c.position.result c.requires.in_range c.position.ensures.value)
     ∙ c.requires.anticommuting
 
 pub returns : goal.returns
 returns c =
     record {
       value = c.multiply_into_times_i.ensures.value
-          ∙ ap (product_times_i c.args.out.now) (seen-read c.self.inside.rows c.self.invariant.0 c.args.self.now c.self.view_is c.args.row c.args.qubit c.place.result c.requires.in_range c.place.ensures.value);
+          ∙ ap (product_times_i c.args.out.now) (seen-read c.self.inside.rows c.self.invariant.0 c.args.self.now c.self.view_is c.args.row c.args.qubit c.position.result c.requires.in_range c.position.ensures.value);
     }

@@ -40,8 +40,8 @@ widen-requires-clause-few c =
 pub invariant_of-self : goal.invariant_of-self
 invariant_of-self c =
     let change = λ (b : Bool) (p : Signed). product_times_i_if b p c.args.other.now in
-    let place : 2 * c.args.first ≡ 64 * (c.args.first / 32) = let e = c.requires.group in omega arith in (
+    let position : 2 * c.args.first ≡ 64 * (c.args.first / 32) = let e = c.requires.group in omega arith in (
       seen-chosen-paired c.self.inside.rows c.self.invariant.0 c.args.self.now c.self.view_is c.args.first c.args.mask c.requires.in_range change (λ p. refl) c.multiply_rows_by_times_i.new.self c.multiply_rows_by_times_i.ensures.value,
       c.widen.ensures.covers c.self.inside.rows c.multiply_rows_by_times_i.new.self c.self.invariant.1
-          (subst (λ n. AreChosen n c.args.mask change c.self.inside.rows c.multiply_rows_by_times_i.new.self) place c.multiply_rows_by_times_i.ensures.value),
+          (subst (λ n. AreChosen n c.args.mask change c.self.inside.rows c.multiply_rows_by_times_i.new.self) position c.multiply_rows_by_times_i.ensures.value),
     )

@@ -2,11 +2,11 @@ use Rattle.stab_pauli.proofs.Names.{◌∙◌, sym}
 use Rattle.stab_pauli.proofs.Lemmas.{eight-blank}
 use Rattle.stab_pauli.proofs.packed.sparse.SparseWords.has_block.Goals as goal
 
-pub returns-then-place-ge8 : goal.returns-then-place-ge8
-returns-then-place-ge8 c =
+pub returns-then-position-ge8 : goal.returns-then-position-ge8
+returns-then-position-ge8 c =
     let mine = c.args.self.now in
-    let place = c.args.place.now in
-    let blank = eight-blank mine.gaps.items mine.kept.items mine.following place.next place.gap c.if-place-ge8.true in
+    let position = c.args.position.now in
+    let blank = eight-blank mine.gaps.items mine.kept.items mine.following position.next position.gap c.if-position-ge8.true in
     record {
       value = ((λ h. blank.0 ∙ sym (c.is_blank.ensures.value.0 h)), (λ e. c.is_blank.ensures.value.1 (sym e ∙ blank.0)));
       following = λ h. blank.1;

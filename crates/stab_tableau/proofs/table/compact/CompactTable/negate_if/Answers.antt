@@ -1,17 +1,17 @@
 use Rattle.stab_tableau.proofs.Names.{ap, with_sign}
-use Rattle.stab_tableau.proofs.PairedRowsLemmas.{seen-few, seen-place, seen-read, seen-written}
+use Rattle.stab_tableau.proofs.PairedRowsLemmas.{seen-few, seen-position, seen-read, seen-written}
 use Rattle.stab_tableau.proofs.table.compact.CompactTable.negate_if.Goals as goal
 
-pub place-requires : goal.place-requires
-place-requires c = record { few = seen-few c.self.inside.rows c.self.invariant c.args.self.now c.self.view_is c.args.qubit c.requires.in_range }
+pub position-requires : goal.position-requires
+position-requires c = record { few = seen-few c.self.inside.rows c.self.invariant c.args.self.now c.self.view_is c.args.qubit c.requires.in_range }
 
 pub negate_if-requires : goal.negate_if-requires
 negate_if-requires c =
-    record { in_range = seen-place c.self.inside.rows c.self.invariant c.args.self.now c.self.view_is c.args.row c.args.qubit c.place.result c.requires.in_range c.place.ensures.value }
+    record { in_range = seen-position c.self.inside.rows c.self.invariant c.args.self.now c.self.view_is c.args.row c.args.qubit c.position.result c.requires.in_range c.position.ensures.value }
 
 pub returns : goal.returns
 returns c =
     record {
-      value = seen-written c.self.inside.rows c.self.invariant c.args.self.now c.self.view_is c.args.row c.args.qubit c.place.result c.requires.in_range c.place.ensures.value _ _ _ c.negate_if.ensures.value
-          (ap (with_sign c.args.bit) (seen-read c.self.inside.rows c.self.invariant c.args.self.now c.self.view_is c.args.row c.args.qubit c.place.result c.requires.in_range c.place.ensures.value));
+      value = seen-written c.self.inside.rows c.self.invariant c.args.self.now c.self.view_is c.args.row c.args.qubit c.position.result c.requires.in_range c.position.ensures.value _ _ _ c.negate_if.ensures.value
+          (ap (with_sign c.args.bit) (seen-read c.self.inside.rows c.self.invariant c.args.self.now c.self.view_is c.args.row c.args.qubit c.position.result c.requires.in_range c.position.ensures.value));
     }

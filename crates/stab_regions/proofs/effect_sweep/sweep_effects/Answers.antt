@@ -1,0 +1,81 @@
+use Rattle.stab_regions.proofs.Names.{◌≡◌, ◌-◌, ◌≤◌, refl, sym, ap, subst, ◌∙◌, ◌++◌, [], List, length, take, drop, map, arith, All, drop_all, Step, unroll, circuit_items, step_shown, StepFits, check-fits, check-whole, check-steps}
+use Rattle.stab_regions.proofs.SweepLemmas.{detectors-exact, piece}
+use Rattle.stab_regions.proofs.EffectSweepLemmas.{passes-piece, records-exact}
+use Rattle.stab_regions.specs.inner.EffectsAt.{Counts, counts_of, IsEffectSwept, MayPassCounted}
+use Rattle.stab_regions.proofs.effect_sweep.sweep_effects.Goals as goal
+use Rattle.stab_regions.proofs.effect_sweep.sweep_effects.Goals.{After-items, After-steps-end, After-as_slice}
+
+fits : (c : After-items) → All (StepFits c.args.qubits) (unroll (circuit_items c.args.circuit.now))
+fits c = check-fits c.args.qubits (circuit_items c.args.circuit.now) (unroll (circuit_items c.args.circuit.now)) c.requires.checked refl c.items.ensures.distinct
+
+counted : (c : After-steps-end) → c.steps-end.result ≡ length (unroll (circuit_items c.args.circuit.now))
+counted c =
+    let few : length (unroll (circuit_items c.args.circuit.now)) ≤ 1048576 = check-steps (circuit_items c.args.circuit.now) (check-whole c.args.qubits (circuit_items c.args.circuit.now) c.requires.checked) in
+    omega (arith, few, c.steps-end.ensures.value)
+
+pub pieces-init : goal.pieces-init
+pieces-init c =
+    let at = goal.at.pieces-init c in
+    let items = circuit_items c.args.circuit.now in
+    let xs : List Step = unroll items in
+    let checked = check-whole c.args.qubits items c.requires.checked in
+    let none : drop c.steps-end.result xs ≡ [] = drop_all c.steps-end.result xs (omega (arith, counted at.After-steps-end)) in
+    record {
+      within = omega (arith, counted at.After-steps-end);
+      swept =
+          subst (λ (ys : List Step). IsEffectSwept (counts_of c.args.qubits items) c.args.asked ys c.in_ok-sweep.sweep) (sym none)
+          (subst (λ (k : Counts). IsEffectSwept k c.args.asked [] c.in_ok-sweep.sweep)
+          (λ i. record {
+            qubits = c.args.qubits;
+            records = records-exact items c.records-records.result checked c.records-records.ensures.value i;
+            detectors = detectors-exact items c.detectors-detectors.result checked c.detectors-detectors.ensures.value i;
+            observables = c.observables-observables.ensures.value i;
+          })
+          (c.in_ok-sweep.ensures.swept c.args.asked));
+    }
+
+-- the steps of this piece
+taken : (c : After-as_slice) → map step_shown c.as_slice.result.now ≡ take (c.pieces.end - c.saturating_sub-begin.result) (drop c.saturating_sub-begin.result (unroll (circuit_items c.args.circuit.now)))
+taken c = ap (map step_shown) c.as_slice.ensures.value ∙ c.in_ok-steps.ensures.value
+
+passes : (c : After-as_slice) → All (StepFits c.args.qubits) (unroll (circuit_items c.args.circuit.now)) →
+    MayPassCounted (counts_of c.args.qubits (circuit_items c.args.circuit.now)) (map step_shown c.as_slice.result.now) (drop c.pieces.end (unroll (circuit_items c.args.circuit.now)))
+passes c all_fit =
+    let items = circuit_items c.args.circuit.now in
+    subst (λ (ys : List Step). MayPassCounted (counts_of c.args.qubits items) ys (drop c.pieces.end (unroll items))) (sym (taken c))
+    (passes-piece c.args.qubits c.saturating_sub-begin.result c.pieces.end items (omega (arith, c.saturating_sub-begin.ensures)) all_fit c.items.ensures.distinct)
+
+pub before_all-requires : goal.before_all-requires
+before_all-requires c =
+    let at = goal.at.before_all-requires c in
+    record {
+      site = record {
+        counts = counts_of c.args.qubits (circuit_items c.args.circuit.now);
+        back = drop c.pieces.end (unroll (circuit_items c.args.circuit.now));
+        swept = c.pieces.invariant.swept;
+        passes = passes at.After-as_slice (fits at.After-items);
+      };
+    }
+
+pub pieces-preserved : goal.pieces-preserved
+pieces-preserved c =
+    let at = goal.at.pieces-preserved c in
+    let items = circuit_items c.args.circuit.now in
+    let xs : List Step = unroll items in
+    let order : c.saturating_sub-begin.result ≤ c.pieces.end = omega (arith, c.saturating_sub-begin.ensures) in
+    record {
+      within = omega (arith, order, c.pieces.invariant.within);
+      swept =
+          subst (λ (ys : List Step). IsEffectSwept (counts_of c.args.qubits items) c.args.asked ys c.before_all.new.self)
+          (ap (λ (ys : List Step). ys ++ drop c.pieces.end xs) (taken at.After-as_slice) ∙ piece c.saturating_sub-begin.result c.pieces.end xs order)
+          (c.in_ok-before_all.ensures.sweeps (counts_of c.args.qubits items) (drop c.pieces.end xs) (passes at.After-as_slice (fits at.After-items)) c.pieces.invariant.swept);
+    }
+
+pub returns-clause-swept : goal.returns-clause-swept
+returns-clause-swept c =
+    let items = circuit_items c.args.circuit.now in
+    let none : c.pieces.end ≡ 0 = omega (arith, c.pieces-test.false) in
+    subst (λ k. IsEffectSwept (counts_of c.args.qubits items) c.args.asked (drop k (unroll items)) c.pieces.sweep) none c.pieces.invariant.swept
+
+pub returns-clause-fits : goal.returns-clause-fits
+returns-clause-fits c = let at = goal.at.returns-clause-fits c in fits at.After-items

@@ -1,0 +1,62 @@
+-- Folds: rounds of a block since a checkpoint, and as many again.
+use Rattle.stab_ways.proofs.Names.{◌≡◌, ℕ, ◌+◌, ◌-◌, ◌*◌, ◌≤◌, sym, ◌∙◌, ap, subst, false, List, length, arith, Letter, Items, unroll, rounds, Part, parts_of, part_rounds, WalkState, walked}
+use Rattle.stab_items.specs.Steps.{looks_too_far}
+use Rattle.stab_run.proofs.RoundLemmas.{rounds-within}
+use Rattle.stab_ways.specs.declared.folds.Checkpoint.{Checkpoint}
+use Rattle.stab_ways.specs.inner.Folds.{CameFrom, IsSince, IsAgain, again}
+use Rattle.stab_ways.proofs.WalkedLemmas.{steps_in}
+use Rattle.stab_ways.proofs.ItemLemmas.{steps-unrolled, steps-rounds, walked-rounds, walked-steps, long-rounds}
+use Rattle.stab_ways.proofs.AlikeWayLemmas.{since-again, walked-again}
+
+-- from a checkpoint over further rounds
+
+pub came-further : (n : ℕ) (string : List Letter) (parts : List Part) (c : Checkpoint) (done k whole : ℕ) (w v : WalkState) → done + k ≡ whole
+    → CameFrom n string parts c done w → v ≡ walked n string (part_rounds k parts) w → CameFrom n string parts c whole v
+came-further n string parts c done k whole w v sum came is =
+    let since : (done - c.done) + k ≡ whole - c.done = omega (arith, sum, came.earlier) in
+    record {
+      earlier = omega (arith, sum, came.earlier);
+      state = came.state;
+      kept = came.kept;
+      over = walked-rounds n (done - c.done) k (whole - c.done) string parts came.state w v since came.over is;
+    }
+
+-- how many steps there are
+
+pub steps-since : (n : ℕ) (string : List Letter) (body : Items) (c : Checkpoint) (done : ℕ) (w : WalkState) → CameFrom n string (parts_of body) c done w
+    → w.steps ≡ c.steps + (done - c.done) * length (unroll body)
+steps-since n string body c done w came =
+    ap (λ (v : WalkState). v.steps) came.over
+    ∙ walked-steps n string (part_rounds (done - c.done) (parts_of body)) came.state
+    ∙ (λ i. sym came.kept.steps i + long-rounds (done - c.done) body i)
+
+pub two-parts : (j k l : ℕ) → (j + k) * l ≡ j * l + k * l
+two-parts j k l = omega arith
+
+pub parts-of-rounds : (done now count l : ℕ) → done ≤ now → now ≤ count → (count - done) * l ≡ (now - done) * l + (count - now) * l
+parts-of-rounds done now count l le more =
+    let whole : count - done ≡ (now - done) + (count - now) = omega (arith, le, more) in
+    ap (λ k. k * l) whole ∙ two-parts (now - done) (count - now) l
+
+pub fewer-steps : (j k l : ℕ) → j ≤ k → j * l ≤ k * l
+fewer-steps j k l le =
+    let whole : j + (k - j) ≡ k = omega (arith, le) in
+    omega (arith, two-parts j (k - j) l, ap (λ m. m * l) whole)
+
+-- a walk that is as it was at a checkpoint
+
+module _ (n window : ℕ) (string : List Letter) (body : Items) (c : Checkpoint) (done : ℕ) (w : WalkState) (near : looks_too_far window (unroll body) ≡ false)
+    (came : CameFrom n string (parts_of body) c done w) (is : IsAgain window c w) where
+  abbrev parts : List Part
+  parts = part_rounds (done - c.done) (parts_of body)
+
+  near-rounds : looks_too_far window (steps_in parts) ≡ false
+  near-rounds =
+      subst (λ xs. looks_too_far window xs ≡ false) (sym (steps-rounds (done - c.done) (parts_of body) ∙ ap (rounds (done - c.done)) (steps-unrolled body)))
+      (rounds-within window (done - c.done) (unroll body) near)
+
+  pub came-since : IsSince c w
+  came-since = since-again n string parts window c came.state w near-rounds came.kept came.over is
+
+  pub came-again : (v : WalkState) → v ≡ again c w → v ≡ walked n string parts w
+  came-again v same = same ∙ walked-again n string parts window c came.state w near-rounds came.kept came.over is
