@@ -8,7 +8,10 @@ import numpy as np
 import pytest
 import stabsim
 from stabsim import codes
-from stabsim.diagrams import elements, matchgraph, places, regions, ticks
+from stabsim.circuit import ticks
+from stabsim.circuit.detecting import regions_at
+from stabsim.diagrams import elements, matchgraph, places
+from stabsim.diagrams.layers import layers_of
 from stabsim.diagrams.shapes import palettes, table
 from stabsim.diagrams.slices import most_frequent
 
@@ -71,7 +74,7 @@ def test_a_tick_has_what_the_written_out_circuit_has_there(circuit):
 @pytest.mark.parametrize("circuit", [REPETITION, NESTED], ids=["repetition", "nested"])
 def test_a_mark_stands_at_its_tick_alone(circuit):
     for tick in range(circuit.num_ticks + 1):
-        lines = by_ticks(stabsim.Circuit("\n".join(ticks.cut_at(circuit.items, tick, "I 0 1"))))
+        lines = by_ticks(stabsim.Circuit("\n".join([*["I 0 1"] * (tick == 0), *ticks.marked_at(circuit.items, {tick}, "I 0 1")])))
         # The idle gates of the circuit are left out, and the mark ends the tick before, or begins the circuit.
         expected = [[line for line in its if not line.startswith("I ")] for its in by_ticks(circuit)]
         if tick:
@@ -102,22 +105,20 @@ def region_by_errors(circuit, tick):
                          ids=["repetition", "teleportation", "surface", "colour"])
 def test_regions_are_what_errors_at_a_tick_flip(circuit):
     for tick in range(circuit.num_ticks + 1):
-        marked = stabsim.Circuit(regions.marked_text(circuit.items, tick, circuit.num_qubits))
-        assert regions.regions_of(marked.faults(sure_only=True)) == region_by_errors(circuit, tick)
+        assert regions_at(circuit, [tick]).get(tick, {}) == region_by_errors(circuit, tick)
 
 
 def test_regions_of_the_repetition_code_by_hand():
     # In front of the first measurement of qubits 1 and 3 both of their neighbours are in the parity: the check is on qubit 1 alone, and
     # the next round's on what it will be made of.
-    marked = stabsim.Circuit(regions.marked_text(REPETITION.items, 3, 5))
-    found = regions.regions_of(marked.faults())
+    found = regions_at(REPETITION, [3])[3]
     assert found[0] == {1: "Z"} and found[1] == {3: "Z"}
     assert found[2] == {0: "Z", 1: "Z", 2: "Z"}
 
 
 def test_products_of_one_instruction_share_a_layer_and_others_do_not():
     def sizes(text):
-        return [len(layer) for layer in ticks.layers_of(ticks.placed(stabsim.Circuit(text).items, range(1)))]
+        return [len(layer) for layer in layers_of(ticks.placed(stabsim.Circuit(text).items, range(1)))]
 
     assert sizes("MPP X0*X1 X1*X2") == [2]
     assert sizes("MPP X0*X1\nMPP X1*X2") == [1, 1]

@@ -8,12 +8,13 @@ import subprocess
 
 import pytest
 import stabsim
+from stabsim.circuit.ticks import placed
 from stabsim.diagrams import marks, shapes
 from stabsim.diagrams.elements import Glyph, Path
 from stabsim.diagrams.places import Places
+from stabsim.diagrams.layers import layers_of
 from stabsim.diagrams.shapes import GATES, table
 from stabsim.diagrams.slices import layer_elements
-from stabsim.diagrams.ticks import layers_of, placed
 from stabsim.text import names
 
 NODE = shutil.which("node")

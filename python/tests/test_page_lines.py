@@ -72,6 +72,17 @@ def test_a_text_that_is_written_anew_is_made_by_edits_of_what_differs(seed):
     board.close()
 
 
+def test_given_lines_are_indented_as_deep_as_they_are_now():
+    text = "R 0\nM 0  # the first\n  M 1\nREPEAT 2 {\n  X 0\n}\n"
+    board = Board(Opened(text))
+    board.edit_lines(repeated(board.text(), "1", 2, 3))
+    assert board.written() == "R 0\nREPEAT 3 {\n    M 0  # the first\n    M 1\n}\nREPEAT 2 {\n  X 0\n}\n"
+    board.edit_lines(taken_out(board.text(), "1"))
+    board.go(0)
+    assert board.written() == text
+    board.close()
+
+
 def test_of_a_text_only_what_differs_is_edited():
     code = normal(codes.surface_code(3, 3))
     line = random.Random(1).choice([it for it in code.split("\n") if it.startswith("    CX")])

@@ -113,6 +113,23 @@ def test_many_edits_at_once_are_judged_with_their_noise_and_others_beside_noise_
     assert board.text() == before
 
 
+def test_many_edits_at_once_keep_noise_comments_and_tags_as_they_are():
+    text = "R 0 1  # both\n# of the round\nREPEAT 2 {\n    X_ERROR(0.125) 0\n    M(0.25) 0 1\n    DETECTOR rec[-1]\n}\n# the end\n"
+    board = Board(opened(text))
+    board.edit([Edit("insert", place, "X[~a] 0") for place in ("0", "2/1", "2/3", "3")], keep=True)
+    there = "X[~a] 0\nR 0 1\nREPEAT 2 {\n    X_ERROR(0.125) 0\n    X[~a] 0\n    M(0.25) 0 1\n    X[~a] 0\n    DETECTOR rec[-1]\n}\nX[~a] 0\n"
+    assert board.text() == there
+    # The next ones find what rides in tags, and leave it.
+    board.edit([Edit("replace", "2/2", "M(0.25) 0 1 2")] + [Edit("insert", "2/3", "H 0")] * 2 + [Edit("delete", "0")], keep=True)
+    board.edit([Edit("insert", "0", "M 1")] + [Edit("insert", "0", "H 0")] * 3, keep=True)
+    inside = "    X[~a] 0\n    M(0.25) 0 1 2\n    H 0\n    H 0\n    X[~a] 0\n    DETECTOR rec[-2]\n"
+    assert board.text() == there.replace("    X[~a] 0\n    M(0.25) 0 1\n    X[~a] 0\n    DETECTOR rec[-1]\n", inside).replace("X[~a] 0\nR", "H 0\nH 0\nH 0\nM 1\nR")
+    assert "R 0 1  # both\n# of the round\n" in board.written() and board.written().endswith("# the end\n")
+    board.go(0)
+    assert board.written() == text
+    board.close()
+
+
 def test_noise_is_seen_and_taken_out_of_a_text():
     text = "R 0\nx_error(0.1) 0\nM[a](0.1) 0\nREPEAT 2 {\n    E(0.1) X0\n    M 0\n}\nDETECTOR(1) rec[-1]\n"
     assert has_noise(text) and quiet(text) == "R 0\nM[a] 0\nREPEAT 2 {\n    M 0\n}\nDETECTOR(1) rec[-1]\n"

@@ -8,7 +8,7 @@ import subprocess
 
 import pytest
 from stabsim import codes
-from stabsim.page import moments
+from stabsim.circuit import moments
 from test_regions import CUTS
 
 NODE = shutil.which("node")

@@ -28,6 +28,8 @@ def chances(text, **options):
     # Three rounds: an error of the first is seen three times, of the second twice, and of the third once.
     ("R 0\nREPEAT 3 {\n    X_ERROR(0.125) 0\n    OBSERVABLE_INCLUDE(0) Z0\n}", {("L0",): 0.125 * 0.875 * 2}),
     ("R 0 1\nX_ERROR(0.25) 1\nM 1\nDETECTOR rec[-1]\nOBSERVABLE_INCLUDE(2) Z1 Z0", {("D0", "L2"): 0.25}),
+    # A known record takes a qubit of its own, which is not that which controls the Paulis.
+    ("R 0\nX_ERROR(0.25) 0\nMPAD 1\nOBSERVABLE_INCLUDE(0) Z0\nMPAD 0", {("L0",): 0.25}),
 ])
 def test_models_are_those_worked_by_hand(text, wanted):
     assert chances(text) == wanted

@@ -3,9 +3,9 @@
 import pytest
 import stabsim
 from stabsim import codes
+from stabsim.circuit.moments import marked
 from stabsim.page import table_process
 from stabsim.page.moment_faults import MomentFaults
-from stabsim.page.moments import marked
 
 # The teleportation that docs/use/faults.md works out by hand, a step in each moment: two records control gates on qubit 2.
 TELEPORTATION = """RY 0
@@ -45,6 +45,13 @@ def test_a_region_leads_over_products():
     # From the first Z1*Z2 on, and through the H, as the second product.
     faults = MomentFaults.of_circuit("RX 0 1 2\nTICK\nMPP X0*X1 Z1*Z2\nTICK\nH 2\nTICK\nMPP Z1*X2\nDETECTOR rec[-1] rec[-2]\n")
     assert {moment: words(letters) for moment, letters in faults.region("D0").items()} == {1: "Z1 Z2", 2: "Z1 X2"}
+
+
+def test_paulis_of_observables_have_regions_and_detectors_keep_theirs():
+    faults = MomentFaults.of_circuit("R 0\nTICK\nH 0\nTICK\nOBSERVABLE_INCLUDE(0) X0\nH 0\nM 0\nDETECTOR rec[-1]\n")
+    assert {moment: words(letters) for moment, letters in faults.region("L0").items()} == {0: "Z0", 1: "X0"}
+    assert {moment: words(letters) for moment, letters in faults.region("D0").items()} == {0: "Z0", 1: "X0", 2: "Z0"}
+    assert faults.flips(1, 0) == {"X": [], "Y": ["D0", "L0"], "Z": ["D0", "L0"]}
 
 
 def regions_of(code):

@@ -289,12 +289,13 @@ class Circuit(Described):
         """
         if kind == "matchgraph" and tick is None and detectors is None and self.noise:
             return model_diagram(self.known_model, ticks_of_detectors(self.circuit))
-        return diagram_of(self.circuit, kind, tick, detectors, self.noisy_items() if self.noise else None)
+        return diagram_of(self, kind, tick, detectors)
 
     def detecting_regions(self, *, ticks: int | Iterable[int] | None = None,
                           detectors: Iterable[int | str] | None = None) -> dict[str, dict[int, str]]:
         """The Pauli that each detector and observable, by its name, is at each tick, as `X0*Z3`: just the errors that anticommute with it
-        flip the detector. A tick or detector without one is left out, and so is a detector that coins decide.
+        flip the detector. A tick or detector without one is left out, and so is a detector that coins decide. Paulis of an observable count
+        as if they were measured where they stand.
 
         ticks, detectors: some alone. Tick k is the k-th TICK, and 0 the beginning, which Stim leaves out: its tick k is tick k + 1.
 
@@ -303,7 +304,7 @@ class Circuit(Described):
         >>> c.detecting_regions()
         {'D0': {1: 'Z0*Z1', 2: 'Z1'}}
         """
-        return regions_by_name(self.circuit, ticks, detectors)
+        return regions_by_name(self, ticks, detectors)
 
     def edit(self, *, qubits: int | None = None, seed: int = 0, stride: int | None = None) -> Session:
         """An editing session that begins with this circuit, noise and comments too; use it as a context manager, or close it.
@@ -345,7 +346,7 @@ def from_stim(text: str) -> Circuit:
 
     Instructions that the program does not read become those that it reads. Raises stabsim.Refused, with the user's line, if
     something can't be: over 1,024 qubits, or what Stim refuses too. Sweep bits are 0: `with_sweep_bits` gives others. Pauli targets of
-    observables count in error models, in distances of noise, and in what `detect` draws of it.
+    observables count in error models, regions, distances of noise, and in what `detect` draws of it.
 
     >>> import stabsim
     >>> print(stabsim.from_stim("ISWAP 3 5").circuit)

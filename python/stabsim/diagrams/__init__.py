@@ -8,15 +8,15 @@ from os import PathLike
 from typing import TYPE_CHECKING, Literal, get_args
 
 from stabsim import checking
+from stabsim.circuit.detecting import names_of, regions_at
+from stabsim.circuit.ticks import Placed, numbers_of, placed
 from stabsim.diagrams.elements import Element
+from stabsim.diagrams.layers import layers_of
 from stabsim.diagrams.matchgraph import Graph, drawn_graph, graph_of, rows_of_faults
 from stabsim.diagrams.places import places_of
-from stabsim.diagrams.regions import marked_text, regions_of
 from stabsim.diagrams.slices import Panel, faces_elements, layer_elements, regions_elements, side_by_side
 from stabsim.diagrams.svg import Theme, svg_of
-from stabsim.diagrams.ticks import Placed, layers_of, numbers_of, placed
 from stabsim.diagrams.timeline import drawn_timeline, qubits_of
-from stabsim.text.reading import Item
 
 if TYPE_CHECKING:
     from stabsim.circuit.circuit import Circuit
@@ -75,30 +75,29 @@ class Diagram:
         return f"<stabsim.Diagram: {self.kind}, {self.width:.0f} by {self.height:.0f} pixels>"
 
 
-def diagram_of(circuit: "Circuit", kind: Kind, tick: Ticks | None, detectors: Iterable[int | str] | None,
-               noisy: tuple[Item, ...] | None = None) -> Diagram:
-    """A picture of a circuit, which the program judges first; noisy: its items with noise, which a timeline shows."""
+def diagram_of(circuit: "Circuit", kind: Kind, tick: Ticks | None, detectors: Iterable[int | str] | None) -> Diagram:
+    """A picture of a circuit, which the program judges first. A timeline shows its noise, and what acts at a tick is without noise."""
     checking.one_of("kind", kind, get_args(Kind))
-    some = None if detectors is None else checking.several("detectors", detectors, "[3, 'D4', 'L0']")
     circuit.numbers()
+    quiet = circuit.circuit
     if kind in OF_TICKS and tick is None:
         raise ValueError(f"a {kind} is of a tick: tick=3")
     if kind not in OF_TICKS and tick is not None or not kind.startswith("detslice") and detectors is not None:
         raise ValueError(f"a {kind} is of the whole circuit" if tick is not None else f"a {kind} is not of some detectors")
     if kind == "timeline":
-        return made(kind, drawn_timeline(circuit.items if noisy is None else noisy))
+        return made(kind, drawn_timeline(circuit.noisy_items() if circuit.noise else quiet.items))
     if kind == "matchgraph":
-        return made(kind, drawn_graph(faults_graph(circuit), circuit.detector_coordinates(), ticks_of_detectors(circuit)))
-    ticks = numbers_of(0 if tick is None else tick, circuit.num_ticks)
+        return made(kind, drawn_graph(faults_graph(quiet), quiet.detector_coordinates(), ticks_of_detectors(quiet)))
+    ticks = numbers_of(0 if tick is None else tick, quiet.num_ticks)
     if kind == "timeslice":
-        panels = time_panels(circuit, ticks)
+        panels = time_panels(quiet, ticks)
     elif kind == "detslice":
-        panels = region_panels(circuit, ticks, some, regions_elements)
+        panels = region_panels(circuit, ticks, detectors, regions_elements)
     else:
         # What acts at a tick is drawn over the regions there, layer by layer.
-        faces = region_panels(circuit, ticks, some, faces_elements)
-        panels = [over(it, layer) for tick, it in zip(ticks, faces) for layer in time_panels(circuit, [tick])]
-    places = places_of(circuit.qubit_coordinates(), qubits_of(circuit.items))
+        faces = region_panels(circuit, ticks, detectors, faces_elements)
+        panels = [over(it, layer) for tick, it in zip(ticks, faces) for layer in time_panels(quiet, [tick])]
+    places = places_of(quiet.qubit_coordinates(), qubits_of(quiet.items))
     return made(kind, side_by_side(panels, places))
 
 
@@ -119,31 +118,16 @@ def time_panels(circuit: "Circuit", ticks: list[int]) -> list[Panel]:
 
 
 def region_panels(circuit: "Circuit", ticks: list[int], detectors: Iterable[int | str] | None, draw: Callable[..., list[Element]]) -> list[Panel]:
-    """The regions of detectors, all or some, at some ticks; draw: what draws them by their names where qubits are."""
-    numbers = circuit.numbers()
-    every = range(numbers.detectors)
-    wanted = set(every) if detectors is None else {bit_of(it, numbers.detectors, numbers.observables) for it in detectors}
-    panels = []
-    for tick in ticks:
-        table = type(circuit)(marked_text(circuit.items, tick, numbers.qubits)).faults(sure_only=True)
-        names = {bit: f"D{bit}" if bit in every else f"L{bit - numbers.detectors}" for bit in wanted}
-        shown = {names[bit]: letters for bit, letters in regions_of(table).items() if bit in names}
-        panels.append(Panel(f"at tick {tick}", functools.partial(draw, shown)))
-    return panels
+    """The regions of all detectors, or of some and observables, at some ticks; draw: what draws them by their names where qubits are."""
+    names = names_of(circuit, range(circuit.numbers().detectors) if detectors is None else detectors)
+    regions = regions_at(circuit, ticks)
+    shown = [{names[bit]: letters for bit, letters in sorted(regions.get(tick, {}).items()) if bit in names} for tick in ticks]
+    return [Panel(f"at tick {tick}", functools.partial(draw, its)) for tick, its in zip(ticks, shown)]
 
 
 def over(regions: Panel, layer: Panel) -> Panel:
     """One panel over another, with the upper one's title."""
     return Panel(layer.title, lambda places: [*regions.draw(places), *layer.draw(places)])
-
-
-def bit_of(name: int | str, detectors: int, observables: int) -> int:
-    """The place of a detector, as 3 or `D3`, or of an observable, as `L0`, among both."""
-    text = f"D{name}" if isinstance(name, int) else name
-    kind, number = text[:1], int(text[1:]) if text[1:].isdigit() else -1
-    if kind not in ("D", "L") or not 0 <= number < (detectors if kind == "D" else observables):
-        raise ValueError(f"{name} is no detector, as 3 or D3, and no observable, as L0, of {detectors} and {observables}")
-    return number if kind == "D" else detectors + number
 
 
 def faults_graph(circuit: "Circuit") -> Graph:

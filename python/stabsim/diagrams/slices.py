@@ -4,20 +4,18 @@ from collections.abc import Callable, Mapping, Sequence
 from dataclasses import dataclass
 
 from stabsim.diagrams.elements import Element, Path, Point, Words, middle_of, outline
+from stabsim.diagrams.layers import Done
 from stabsim.diagrams.marks import Drawn, Values, marks_of
 from stabsim.diagrams.places import Places
 from stabsim.diagrams.shapes import GATES, table
 from stabsim.diagrams.targets import Action
-from stabsim.diagrams.ticks import Done
+from stabsim.noise.flipped import Letters
 
 # From which distance of neighbours names of detectors are written.
 NAMES_FROM = 30.0
 TITLE_HEIGHT = 26.0
 MOST_WIDTH = 1600.0
 PATTERN_FROM = 18.0
-
-# Letters on qubits: of a region or a product.
-Letters = dict[int, str]
 
 
 @dataclass(frozen=True)

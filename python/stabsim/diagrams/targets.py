@@ -3,11 +3,11 @@
 from collections.abc import Iterator, Sequence
 from dataclasses import dataclass
 
+from stabsim.circuit.moments import PAULIS
 from stabsim.text import names
 from stabsim.text.reading import Instruction
 from stabsim.text.targets import FACTOR
 
-PAULIS = ("X", "Y", "Z")
 ON_PAIRS = frozenset((*names.TWO_QUBITS, "DEPOLARIZE2", "PAULI_CHANNEL_2"))
 ON_ONE = frozenset((*names.ONE_QUBIT, *names.RESETS, *names.MEASUREMENTS, *names.CHANNELS)) - {"MPP"} - ON_PAIRS
 

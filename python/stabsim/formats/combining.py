@@ -7,6 +7,8 @@ from numpy.typing import NDArray
 
 Numbers = NDArray[np.int64]
 Chances = NDArray[np.float64]
+# How many rows a run of rows that follow each other has at least, on average, for runs to be taken one by one.
+ROWS_OF_RUN = 64
 
 
 class Joined(NamedTuple):
@@ -29,9 +31,13 @@ def rows_of(rows: Numbers, indptr: Numbers, indices: Numbers) -> tuple[Numbers, 
 
 def columns_of(rows: Numbers, indptr: Numbers, indices: Numbers) -> Numbers:
     """The columns of the entries of some rows of a CSR matrix."""
+    if not len(rows):
+        return indices[:0]
     # Rows that follow each other there are taken together.
-    begins, ends = np.flatnonzero(np.diff(rows, prepend=-2) != 1), np.flatnonzero(np.diff(rows, append=-2) != 1)
-    firsts, lasts = indptr[rows[begins]], indptr[rows[ends] + 1]
+    cuts = np.flatnonzero(np.diff(rows) != 1) + 1
+    firsts, lasts = indptr[rows[np.append(0, cuts)]], indptr[rows[np.append(cuts, len(rows)) - 1] + 1]
+    if len(cuts) < len(rows) // ROWS_OF_RUN:
+        return np.concatenate([indices[first:last] for first, last in zip(firsts.tolist(), lasts.tolist())])
     starts = starts_of(lasts - firsts)
     columns: Numbers = indices[np.arange(starts[-1]) + np.repeat(firsts - starts[:-1], lasts - firsts)]
     return columns

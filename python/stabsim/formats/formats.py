@@ -223,12 +223,6 @@ def ones_in(data: Bytes, starts: NDArray[np.int64], ends: NDArray[np.int64], lin
     return found
 
 
-def rows_of_dets(written: bytes, kinds: Kinds) -> tuple[NDArray[np.int64], NDArray[np.int64]]:
-    """The ones of shots in the format dets as the rows of a CSR matrix: int64 (shots + 1,) and int64 (ones,)."""
-    count, lines, places = ones_of_dets(np.frombuffer(written, dtype=np.uint8), kinds)
-    return starts_of(np.bincount(lines, minlength=count)), places
-
-
 def write_dets(shots: Bits, kinds: Kinds) -> bytes:
     names = [f" {letter}{number}" for letter, count in kinds.items() for number in range(count)]
     return "".join("shot" + "".join(names[place] for place in np.flatnonzero(shot).tolist()) + "\n" for shot in shots).encode()

@@ -8,9 +8,11 @@ from numpy.typing import NDArray
 
 from stabsim import program
 from stabsim.formats.combining import Numbers
-from stabsim.formats.formats import rows_of_dets
+from stabsim.formats.words import LINE_END, SPACE
 
 Bits = NDArray[np.bool_]
+# The letter on each qubit: of a region or a product.
+Letters = dict[int, str]
 
 
 @dataclass(frozen=True)
@@ -26,7 +28,7 @@ class Flipped:
     def of(cls, lines: Sequence[str], detectors: int, observables: int, sure_only: bool = False) -> "Flipped":
         """Asks the program; sure_only: leaves out what coins decide, which else is refused."""
         written = program.run(["faults", "--out_format", "dets", *["--deterministic_only"] * sure_only], "\n".join([*lines, ""]))
-        return cls(*rows_of_dets(written, {"D": detectors, "L": observables}), detectors, observables)
+        return cls(*rows_of_lines(written, detectors), detectors, observables)
 
     def pairs(self, first: int, count: int) -> tuple[Numbers, Numbers]:
         """Of this many marks from one on, pairs, ascending, of a line and what it flips."""
@@ -38,3 +40,25 @@ class Flipped:
         found = np.zeros(len(self.indptr) - 1, dtype=np.bool_)
         found[np.searchsorted(self.indptr, np.flatnonzero(is_meant[self.indices]), side="right") - 1] = True
         return np.logical_or(found[::2], found[1::2])
+
+    def regions(self, qubits: int, entries: Numbers) -> dict[int, dict[int, Letters]]:
+        """The letters of regions by the place in time of a mark on all of this many qubits, and by what has the region. Just the Paulis that
+        anticommute with the letters flip it. entries: by which of the indices."""
+        found: dict[int, dict[int, Letters]] = {}
+        rows = np.searchsorted(self.indptr, entries, side="right") - 1
+        for row, bit in zip(rows.tolist(), self.indices[entries].tolist()):
+            place, fault = divmod(row, 2 * qubits)
+            letters = found.setdefault(place, {}).setdefault(bit, {})
+            # X, which comes first of its qubit, meets a letter Z or Y, and Z a letter X or Y.
+            letters[fault // 2] = "Y" if fault // 2 in letters else "ZX"[fault % 2]
+        return found
+
+
+def rows_of_lines(written: bytes, detectors: int) -> tuple[Numbers, Numbers]:
+    """Lines of the program's, as `shot D3 L0`, as the rows of a CSR matrix, of this many detectors and then observables."""
+    text = np.frombuffer(written, dtype=np.uint8)
+    # In front of each bit is a space.
+    spaces = np.flatnonzero(text == SPACE)
+    numbers = np.fromstring(written.translate(None, b"shotDL\n"), dtype=np.int64, sep=" ")
+    indptr = np.append(0, np.searchsorted(spaces, np.flatnonzero(text == LINE_END)))
+    return indptr, numbers + detectors * (text[spaces + 1] == ord("L"))

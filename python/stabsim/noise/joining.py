@@ -11,7 +11,7 @@ from numpy.typing import NDArray
 
 from stabsim.formats.combining import Joined, Numbers, columns_of, odd_chances, places_in_order, rows_of, starts_of
 from stabsim.noise.marking import Source
-from stabsim.noise.sourced import Rows, by_source, rows_of_errors
+from stabsim.noise.sourced import Rows, by_source, marks_of, rows_of_errors
 
 Keys = NDArray[np.uint64]
 
@@ -57,7 +57,6 @@ def keys_of(sources: Sequence[Source], table: Rows, stream: int) -> Keys:
     of_x, of_z = of_lines[::2], of_lines[1::2]
     of_letters = {"I": np.zeros(len(of_x), dtype=np.uint64), "X": of_x, "Z": of_z, "Y": of_x ^ of_z}
     found = [np.zeros(0, dtype=np.uint64)]
-    for source in sources:
-        marks = source.all_marks()
+    for source, marks in zip(sources, marks_of(sources)):
         found.append(np.bitwise_xor.reduce([of_letters[letter][marks[:, place]] for place, letter in enumerate(source.letters)], axis=0))
     return np.concatenate(found)

@@ -1,5 +1,6 @@
 """What the program says of a circuit with marks in the place of its noise, with refusals that speak of the user's lines."""
 
+from collections.abc import Sequence
 from typing import TYPE_CHECKING
 
 from stabsim import checking
@@ -7,11 +8,10 @@ from stabsim.errors import Refused
 from stabsim.noise.flipped import Flipped
 from stabsim.noise.gauges import Basis, gauges_of, table_with_gauges
 from stabsim.noise.marking import Marked, marked
-from stabsim.noise.pauli_observables import column_of, lines_without, pauli_observables, with_columns
+from stabsim.noise.pauli_observables import flipped_with_paulis, lines_without, pauli_observables
 from stabsim.questions.asked import Asked, numbers_of
 from stabsim.text.judging import in_users_words, judged
-from stabsim.text.profile import Profile, spare_qubit
-from stabsim.text.reading import items_of
+from stabsim.text.profile import Profile
 
 if TYPE_CHECKING:
     from stabsim.circuit.circuit import Circuit
@@ -31,20 +31,20 @@ def faults_of(profile: Profile, approximate: bool, sure_only: bool = False, has_
     """The circuit of a text with noise, with marks; what X and Z of each mark flip; and a basis of gauges, if these are asked for."""
     circuit = marked(profile.noisy.items(), approximate)
     observables = pauli_observables(circuit.text)
-    items = items_of(circuit.text) if observables else ()
-    lines = lines_without(items, observables) if observables else [circuit.text]
     basis = gauges_of("\n".join(lines_without(profile.circuit.items(), observables))) if has_gauges else {}
     has = numbers_of(profile.counts)
-    try:
-        table = (table_with_gauges(lines, basis, has.detectors, has.observables) if basis
-                 else Flipped.of(lines, has.detectors, has.observables, sure_only))
-    except Refused as refused:
-        # Its places are those of the text with marks.
-        if refused.name == "NotDeterministic" and not observables:
-            raise undetermined(profile) from None
-        raise Refused(refused.number, refused.name, None, MARKS_COUNT if refused.name == "TooManySteps" else "") from None
-    columns = [column_of(items, observable, spare_qubit(profile.text), sure_only) for observable in observables]
-    return circuit, with_columns(table, observables, columns) if observables else table, basis
+
+    def ask(lines: Sequence[str]) -> Flipped:
+        try:
+            return (table_with_gauges(lines, basis, has.detectors, has.observables) if basis
+                    else Flipped.of(lines, has.detectors, has.observables, sure_only))
+        except Refused as refused:
+            # Its places are those of the text with marks.
+            if refused.name == "NotDeterministic" and not observables:
+                raise undetermined(profile) from None
+            raise Refused(refused.number, refused.name, None, MARKS_COUNT if refused.name == "TooManySteps" else "") from None
+
+    return circuit, flipped_with_paulis(circuit.text, sure_only, ask), basis
 
 
 def undetermined(profile: Profile) -> Refused:

@@ -13,8 +13,8 @@ import numpy as np
 from stabsim.errors import Refused
 from stabsim.formats.combining import Numbers, starts_of
 from stabsim.noise.flipped import Flipped
-from stabsim.text.profile import OBSERVABLE
-from stabsim.text.reading import Block, Instruction, Item, headed, instruction_of, lines_like
+from stabsim.text.profile import OBSERVABLE, spare_qubit
+from stabsim.text.reading import Block, Instruction, Item, headed, instruction_of, items_of, lines_like
 from stabsim.text.sizes import observable_of
 from stabsim.text.targets import PAULI
 
@@ -78,6 +78,16 @@ def column_of(items: Sequence[Item], observable: int, qubit: int, sure_only: boo
     if sure_only:
         return np.zeros(0, dtype=np.int64)
     raise Refused(18, "NotDeterministic", None, f"observable {observable}, with its Paulis, is not the same for all coins")
+
+
+def flipped_with_paulis(text: str, sure_only: bool, ask: Callable[[Sequence[str]], Flipped]) -> Flipped:
+    """What X and Z of each mark of a text flip, by Pauli targets of observables too; ask: the same of lines without such observables."""
+    observables = pauli_observables(text)
+    if not observables:
+        return ask([text])
+    items, qubit = items_of(text), spare_qubit(text)
+    table = ask(lines_without(items, observables))
+    return with_columns(table, observables, [column_of(items, observable, qubit, sure_only) for observable in observables])
 
 
 def with_columns(table: Flipped, observables: Sequence[int], columns: Sequence[Numbers]) -> Flipped:

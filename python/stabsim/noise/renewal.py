@@ -70,7 +70,9 @@ class Renewal:
         chances[mechanisms[errors[begins]]] = odd_chances(causes.chances_of(errors), begins)
         # New rows go where they are in the order of what is flipped; mechanisms that no error makes any more go.
         order = np.insert(np.arange(len(model)), self.places, np.arange(len(model), count))
-        order = order[chances[order] >= 0]
+        is_made = chances >= 0
+        if not is_made.all():
+            order = order[is_made[order]]
         if len(order) == len(model) == count:
             return replace(model, chances=chances, causes=causes)
         rank = np.full(count + 1, -1, dtype=np.int32)
@@ -78,7 +80,7 @@ class Renewal:
         indptr = np.append(model.indptr, model.indptr[-1] + self.indptr)
         indices = columns_of(order, indptr, np.append(model.indices, self.indices))
         return replace(model, chances=chances[order], causes=replace(causes, mechanisms=rank[mechanisms]),
-                       indptr=starts_of(indptr[order + 1] - indptr[order]), indices=indices)
+                       indptr=starts_of(np.diff(indptr)[order]), indices=indices)
 
 
 def renumbered(model: "ErrorModel", mechanisms: Numbers, columns: Numbers, detectors: int) -> tuple["ErrorModel", Numbers]:
@@ -101,6 +103,8 @@ def renumbered(model: "ErrorModel", mechanisms: Numbers, columns: Numbers, detec
 
 def mechanisms_with(model: "ErrorModel", is_meant: Bits) -> Numbers:
     """The mechanisms that flip something that is meant, each as often as it does."""
+    if not is_meant.any():
+        return NONE
     return np.searchsorted(model.indptr, np.flatnonzero(is_meant[model.indices]), side="right") - 1
 
 

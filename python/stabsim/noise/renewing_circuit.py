@@ -226,11 +226,13 @@ class Renewing:
 
     def errors_that_differ(self, asked: Asked, start: int, others: Bits) -> Numbers:
         """The errors between the cut and the edit that flip, or flipped, something of others, counted from the cut on."""
-        now = errors_at(asked.between, asked.new.marks_that_flip(others))
+        firsts = (self.firsts[start : self.begin] - self.firsts[start]).tolist()
+        now = [first + its for first, its in zip(firsts, errors_at(asked.between, asked.new.marks_that_flip(others)))]
         columns = self.edit.columns(np.arange(self.edit.detectors + self.edit.observables))
         before = self.flip((columns < 0) | others[columns])
         mechanisms = self.causes.mechanisms[self.firsts[start] : self.firsts[self.begin]]
-        return np.flatnonzero(now | np.append(before, False)[mechanisms])
+        found: Numbers = np.unique(np.concatenate([*now, np.flatnonzero(np.append(before, False)[mechanisms])]))
+        return found
 
     def renewed(self, asked: Asked, errors: Numbers, rows: tuple[Numbers, Numbers], text: str) -> "ErrorModel | None":
         """The model in which these errors and the new ones flip these rows."""

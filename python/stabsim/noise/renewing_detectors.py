@@ -28,7 +28,7 @@ from stabsim.noise.changed_lines import (
 from stabsim.noise.flipped import Flipped
 from stabsim.noise.marking import Marker, Source
 from stabsim.noise.renewal import NONE, Renewal, mechanisms_with, renumbered
-from stabsim.noise.sourced import by_source, errors_at, flips_of
+from stabsim.noise.sourced import errors_at, flips_of
 from stabsim.text.coordinates import detector_coordinates
 
 if TYPE_CHECKING:
@@ -107,8 +107,10 @@ class Declared:
 
     def few_rounds(self) -> int:
         """How many of these rounds it takes until new detectors name no record in front of the block; all, if records control gates."""
+        if self.rounds <= FEWEST_ROUNDS:
+            return self.rounds
         block = [line for line in self.change.after[self.begin + 1 : self.end - 1] if not line.lstrip().startswith(QUIET)]
-        if self.rounds <= FEWEST_ROUNDS or is_fed_back("\n".join(block)):
+        if is_fed_back("\n".join(block)):
             return self.rounds
         records = counts_of(quiet_lines(block)).records
         return min(self.rounds, max(FEWEST_ROUNDS, 1 - -self.reach // max(records, 1)))
@@ -144,7 +146,7 @@ class Declared:
 
 def shifts(lines: Sequence[str]) -> list[str]:
     """Lines that shift coordinates, and those that begin and end blocks."""
-    return [line for line in lines if line.endswith(("{", "}")) or line.lstrip().startswith("SHIFT_COORDS")]
+    return [line for line in lines if "SHIFT_COORDS" in line or line.endswith(("{", "}"))]
 
 
 def others(lines: Sequence[str]) -> list[str]:
@@ -217,13 +219,11 @@ class Flips:
         known = causes.sources[start : start + len(sources)]
         if [(its.letters, its.times()) for its in known] != [(its.letters, part.times_in_all(its, edit)) for its in sources]:
             return None
-        own = starts_of(np.array([source.times() for source in sources], dtype=np.int64))
-        is_flipping = table.marks_that_flip(np.ones(table.num_detectors, dtype=np.bool_))
-        errors = np.flatnonzero(errors_at(sources, is_flipping))
-        places, columns = flips_of(by_source(sources, errors, own), table)
-        number = np.searchsorted(own, errors[places], side="right") - 1
+        several = errors_at(sources, table.marks_that_flip(np.ones(table.num_detectors, dtype=np.bool_)))
+        places, columns = flips_of(list(zip(sources, several)), table)
+        number = np.repeat(np.arange(len(sources)), [len(its) for its in several])[places]
         each = np.array([source.times() // part.rounds for source in sources], dtype=np.int64)[number]
-        found = errors[places] - own[number] + causes.firsts[start + number]
+        found = np.concatenate([NONE, *several])[places] + causes.firsts[start + number]
         # What later rounds do, of the last one's.
         last, later = np.flatnonzero(columns >= last_round), np.arange(1, edit.rounds - part.rounds + 1)[:, None]
         found = np.concatenate([found, (found[last] + later * each[last]).ravel()])
@@ -231,9 +231,9 @@ class Flips:
 
     def rows(self, model: "ErrorModel", mechanisms: NDArray[np.int32], columns: Numbers, detectors: int) -> tuple[Numbers, tuple[Numbers, Numbers]]:
         """Which errors flip something else, and the rows of what they flip as a CSR matrix. model, mechanisms: from before the edit."""
-        is_other = np.zeros(len(model) + 1, dtype=np.bool_)
-        is_other[mechanisms_with(model, columns < 0)] = True
-        errors = np.union1d(np.flatnonzero(is_other[mechanisms]), self.errors)
+        lost, is_other = mechanisms_with(model, columns < 0), np.zeros(len(model) + 1, dtype=np.bool_)
+        is_other[lost] = True
+        errors = np.union1d(np.flatnonzero(is_other[mechanisms]) if len(lost) else NONE, self.errors)
         some = np.flatnonzero(mechanisms[errors] >= 0)
         of_row, before = rows_of(mechanisms[errors[some]].astype(np.int64), model.indptr, model.indices)
         stays = columns[before] >= 0

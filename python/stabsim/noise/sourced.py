@@ -1,5 +1,6 @@
 """What the errors of a circuit's noise flip, by the table of faults of the circuit with marks."""
 
+import functools
 from collections.abc import Iterable, Iterator, Sequence
 from typing import Protocol
 
@@ -44,14 +45,36 @@ def rows_of_errors(several: Sequence[tuple[Source, Numbers]], table: Rows) -> tu
 def flips_of(several: Sequence[tuple[Source, Numbers]], table: Rows) -> tuple[Numbers, Numbers]:
     """Pairs, ascending, of an error and what it flips, of some of the errors of sources, counted one after another."""
     lines, errors, first = [np.zeros(0, dtype=np.int64)], [np.zeros(0, dtype=np.int64)], 0
-    for (source, some), marks in zip(several, marks_of(source for source, _ in several)):
-        chosen = marks[some]
-        # X of a mark is an even line of the table, and Z the odd one after it; Y is both.
-        lines += [2 * chosen[:, place] + second for place, letter in enumerate(source.letters) for second in SECOND[letter]]
-        errors += [np.arange(first, first + len(some))] * sum(len(SECOND[letter]) for letter in source.letters)
-        first += len(some)
+    for marks, some, letters in by_channel(several):
+        number, place, second = lines_of_letters(letters)
+        lines.append((2 * marks[some].T[place] + second).ravel())
+        errors.append((np.arange(first, first + len(some)) + len(some) * number).ravel())
+        first += len(some) * len(letters)
     of_row, columns = rows_of(np.concatenate(lines), table.indptr, table.indices)
     return odd(np.concatenate(errors)[of_row], columns, table.num_detectors + table.num_observables)
+
+
+def by_channel(several: Iterable[tuple[Source, Numbers]]) -> Iterator[tuple[Marks, Numbers, tuple[str, ...]]]:
+    """The marks of channels in all rounds, with which errors are meant, and the letters of sources of the same channel of which the same are."""
+    run: list[str] = []
+    source, some = None, np.zeros(0, dtype=np.int64)
+    for its, errors in several:
+        if source is None or its.marks is not source.marks or its.blocks != source.blocks or errors is not some:
+            if source is not None:
+                yield source.all_marks(), some, tuple(run)
+            source, some, run = its, errors, []
+        run.append(its.letters)
+    if source is not None:
+        yield source.all_marks(), some, tuple(run)
+
+
+@functools.lru_cache(maxsize=1024)
+def lines_of_letters(letters: tuple[str, ...]) -> tuple[Numbers, Numbers, Numbers]:
+    """The lines of a mark's X and Z that letters are made of: columns with the number of the letters, and with 0 of X, which is an even line of
+    a table, and 1 of Z, which is the odd one after it; between them the place of each among the marks."""
+    found = [(number, place, second) for number, its in enumerate(letters) for place, letter in enumerate(its) for second in SECOND[letter]]
+    number, place, second = np.array(found, dtype=np.int64).reshape(-1, 3).T
+    return number[:, None], place, second[:, None]
 
 
 def marks_of(sources: Iterable[Source]) -> Iterator[Marks]:
@@ -63,9 +86,14 @@ def marks_of(sources: Iterable[Source]) -> Iterator[Marks]:
         yield marks
 
 
-def errors_at(sources: Sequence[Source], is_meant: NDArray[np.bool_]) -> NDArray[np.bool_]:
-    """Whether each error of sources is at a mark that is meant, bool (errors,)."""
-    return np.concatenate([np.zeros(0, dtype=np.bool_), *(is_meant[marks].any(axis=1) for marks in marks_of(sources))])
+def errors_at(sources: Sequence[Source], is_meant: NDArray[np.bool_]) -> list[Numbers]:
+    """Which errors of each source are at a mark that is meant, the same array for sources of one channel."""
+    found: list[Numbers] = []
+    last = None
+    for marks in marks_of(sources):
+        found.append(found[-1] if marks is last else np.flatnonzero(is_meant[marks.T].any(axis=0)))
+        last = marks
+    return found
 
 
 def by_source(sources: Sequence[Source], errors: Numbers, firsts: Numbers) -> list[tuple[Source, Numbers]]:

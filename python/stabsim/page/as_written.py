@@ -9,11 +9,13 @@ from dataclasses import dataclass
 
 from stabsim.text import names
 from stabsim.text.profile import Copy, profile_of
-from stabsim.text.reading import Instruction, Line, content_of, lines_of, parts_of
+from stabsim.text.reading import SPACING, Instruction, Line, content_of, lines_of, parts_of
 
 # A line as a session writes it, which most are: a name in capitals, tag, arguments and targets, or what opens or closes a block.
 PLAIN = re.compile(r"[A-Z][A-Z0-9_]*(?:\[[^\]]*\])?(?:\([^(), ]+(?:, [^(), ]+)*\))?(?: [^ \ta-z]+| rec\[-\d+\])*(?: \{)?|\}")
 NAME = re.compile(r"\w*")
+# By how much a session indents what is in a block.
+INDENT = 4
 
 
 @dataclass(frozen=True)
@@ -71,6 +73,22 @@ class Given:
         """A given line."""
         return self.lines[origin - 1].text
 
+    @functools.cached_property
+    def depths(self) -> dict[int, int]:
+        """In how many blocks each given line is that says something."""
+        found: dict[int, int] = {}
+        depth = 0
+        for key, origin, _ in self.said:
+            depth -= key == "}"
+            found.setdefault(origin, depth)
+            depth += key.endswith("{")
+        return found
+
+    def line_in_place(self, origin: int, now: str) -> str:
+        """A given line in the place of a session's: indented as that is, if it is in more or fewer blocks than it was."""
+        indentation = now[:len(now) - len(now.lstrip(SPACING))]
+        return self.line(origin) if len(indentation) == INDENT * self.depths[origin] else indentation + self.line(origin).strip(SPACING)
+
     def is_loose(self, origin: int) -> bool:
         """Whether a given line is a comment, is blank, or does nothing."""
         return origin not in self.runs
@@ -112,7 +130,7 @@ class Given:
         done = 0
         for piece in pieces:
             found += self.loose(done, piece.near)
-            found.append(self.line(piece.origin) if piece.origin else now[piece.first])
+            found.append(self.line_in_place(piece.origin, now[piece.first]) if piece.origin else now[piece.first])
             done = max(done, piece.near)
         found += self.loose(done, len(self.lines) + 1)
         return "".join(f"{line}\n" for line in found)

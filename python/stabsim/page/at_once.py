@@ -1,6 +1,6 @@
 """Many edits of a circuit's text at once: a session is opened on what they make sooner than it makes them one by one."""
 
-from collections.abc import Iterable, Sequence
+from collections.abc import Iterable, Iterator, Sequence
 from dataclasses import dataclass
 
 import numpy as np
@@ -8,9 +8,10 @@ from numpy.typing import NDArray
 
 from stabsim.page.edits import Edit, undoing
 from stabsim.page.explaining import refuse_unread
+from stabsim.page.nearby import lines_and_begins, moved, touched
 from stabsim.session.rounds import parts_of_block
 from stabsim.session.script import edit_lines
-from stabsim.text.reading import indented
+from stabsim.text.carrying import written_back
 
 
 @dataclass
@@ -25,19 +26,23 @@ class Opened:
 Node = str | Opened
 
 
-def made_at_once(text: str, edits: Iterable[Edit]) -> tuple[str, list[list[Edit]]]:
-    """The text that edits make of a circuit's, as a session writes it, and for each what takes it back. Refused, ValueError or IndexError if one
-    can't be made; whether the program takes what they make all in all is not looked at."""
-    nodes = nodes_of(text)
-    undone = [undoing(edit, apply(nodes, edit)) for edit in edits]
-    return text_of(nodes), undone
+def made_at_once(text: str, edits: Sequence[Edit], is_printed: bool) -> tuple[str, list[list[Edit]]]:
+    """The text that edits make of a circuit's, as a session writes it, or with noise in tags as the program prints it, and for each what takes it
+    back. Refused, ValueError or IndexError if one can't be made; whether the program takes what they make all in all is not looked at."""
+    lines, begins = lines_and_begins(text)
+    first, end = touched(edits, len(begins) - 1)
+    nodes = nodes_of(lines[begins[first]:begins[end]])
+    taken = [apply(nodes, edit, first) for edit in edits]
+    undone = [undoing(edit, written_back(old, comments=False) if is_printed else old) for edit, old in zip(edits, taken, strict=True)]
+    return "\n".join([*lines[:begins[first]], *lines_in(nodes), *lines[begins[end]:], ""]), undone
 
 
-def apply(nodes: list[Node], edit: Edit) -> str:
-    """Makes one edit; answers the text of the item that was at its place, if it is no new one."""
+def apply(nodes: list[Node], edit: Edit, first: int) -> str:
+    """Makes one edit of items, of which the outermost list's first has this number; answers the text of the item that was at its place, if it is
+    no new one."""
     if edit.kind == "open":
         raise ValueError("another circuit is opened by itself")
-    *outer, place = map(int, edit.place.split("/"))
+    *outer, place = map(int, moved(edit.place, -first).split("/"))
     for number in outer:
         block = nodes[number]
         if not isinstance(block, Opened):
@@ -48,7 +53,7 @@ def apply(nodes: list[Node], edit: Edit) -> str:
             raise IndexError(f"there is no place {edit.place}")
         nodes.insert(place, node_of(edit.item))
         return ""
-    old = text_of([nodes[place]])
+    old = "\n".join(lines_in([nodes[place]]))
     if edit.kind == "split":
         nodes[place:place + 1] = [node_of(part.text) for part in parts_of_block(old, int(edit.item))]
     else:
@@ -59,17 +64,16 @@ def apply(nodes: list[Node], edit: Edit) -> str:
 def node_of(item: str) -> Node:
     """The node of one item's text; Refused or ValueError if it is not one line or one whole block, or if the page shows no such item."""
     refuse_unread(item)
-    edit_lines("insert 0", item)
-    [node] = nodes_of(item)
+    if "{" in item or "\n" in item:
+        edit_lines("insert 0", item)
+    [node] = nodes_of(item.split("\n"))
     return node
 
 
-def nodes_of(text: str) -> list[Node]:
-    """The nodes of a text whose blocks are whole."""
-    if "{" not in text:
-        return list(filter(None, map(str.strip, text.split("\n"))))
+def nodes_of(lines: Iterable[str]) -> list[Node]:
+    """The nodes of lines whose blocks are whole."""
     open_lists: list[list[Node]] = [[]]
-    for line in map(str.strip, text.split("\n")):
+    for line in map(str.strip, lines):
         if line == "}":
             open_lists.pop()
         elif line.endswith("{"):
@@ -81,10 +85,16 @@ def nodes_of(text: str) -> list[Node]:
     return open_lists[0]
 
 
-def text_of(nodes: Sequence[Node]) -> str:
-    if Opened not in set(map(type, nodes)):
-        return "\n".join([*nodes, ""])  # type: ignore[list-item] # they are lines
-    return "".join(f"{node}\n" if isinstance(node, str) else f"{node.head}\n{indented(text_of(node.nodes))}}}\n" for node in nodes)
+def lines_in(nodes: Iterable[Node], depth: int = 0) -> Iterator[str]:
+    """The lines of nodes, indented as deep as they are."""
+    margin = "    " * depth
+    for node in nodes:
+        if isinstance(node, str):
+            yield margin + node
+        else:
+            yield margin + node.head
+            yield from lines_in(node.nodes, depth + 1)
+            yield margin + "}"
 
 
 def differing(before: Sequence[NDArray[np.bool_]], now: Sequence[NDArray[np.bool_]]) -> list[str]:

@@ -17,6 +17,7 @@ from stabsim.page.room import may_name, qubits_named, room_for
 from stabsim.page.saving import write_whole
 from stabsim.page.telling import line_of, lists_of, names_of, place_of
 from stabsim.session.history import Change
+from stabsim.text.carrying import MARKED, written_back
 from stabsim.text.coordinates import coordinates_of, detector_rows, qubit_rows
 
 Message = dict[str, Any]
@@ -74,8 +75,8 @@ class Board:
         self.deterministic: str | None = None
         # The circuit with its bits and coordinates, until the next edit: tabs ask for them when they open.
         self.kept: Message | None = None
-        # The circuit as the session writes it, from when it is first asked for to the next edit.
-        self.text_now: str | None = None
+        # The circuit as the program prints it, and as the session writes it, from when it is first asked for to the next edit.
+        self.texts_now: tuple[str, str] | None = None
 
     def close(self) -> None:
         self.session.close()
@@ -169,9 +170,14 @@ class Board:
 
     def text(self) -> str:
         """The circuit as it is now, in the program's words."""
-        if self.text_now is None:
-            self.text_now = self.session.circuit()
-        return self.text_now
+        return self.texts()[1]
+
+    def texts(self) -> tuple[str, str]:
+        """The circuit as it is now, as the program prints it, with noise in tags, and in the program's words."""
+        if self.texts_now is None:
+            printed = self.session.printed()
+            self.texts_now = printed, written_back(printed, comments=False)
+        return self.texts_now
 
     def written(self) -> str:
         """The circuit as it is now, with comments, and the lines that were given where their items are as they were."""
@@ -251,7 +257,7 @@ class Board:
             return self._carry_out("", edits)
         self.lost, self.split_off = (), ()
         self.session.mark()
-        self.text_now = None
+        self.texts_now = None
         step, step_back = (self.session.redo, self.session.undo) if forward else (self.session.undo, self.session.redo)
         made = 0
         try:
@@ -275,10 +281,15 @@ class Board:
         refused, it is found by making them one by one."""
         bits = self.session.detectors(), self.session.observables()
         try:
-            text, undone = made_at_once(self.text(), edits)
-            judge = any(has_noise(edit.item) for edit in edits)
+            printed, text = self.texts()
             qubits = self.session.numbers().qubits
-            session = stabsim.Circuit(text).edit(seed=self.seed, qubits=qubits) if judge else session_of(text, self.seed, qubits)
+            if any(has_noise(edit.item) or MARKED in edit.item for edit in edits):
+                text, undone = made_at_once(text, edits, False)
+                session = stabsim.Circuit(text).edit(seed=self.seed, qubits=qubits)
+            else:
+                # Without looking at what the program has read before.
+                text, undone = made_at_once(printed, edits, True)
+                session = stabsim.Session(text, seed=self.seed, qubits=qubits, is_printed=True)
         except (stabsim.Refused, ValueError, IndexError):
             return False
         self._take(session)
@@ -302,13 +313,13 @@ class Board:
             if edit.kind in ("insert", "replace") and may_name(edit.item, room):
                 room = room_for(qubits_named(edit.item), room)
         if room > now:
-            self._take(session_of(self.text(), self.seed, room))
+            self._take(stabsim.Session(self.texts()[0], seed=self.seed, qubits=room, is_printed=True))
 
     def _take(self, session: stabsim.Session) -> None:
         """Takes another session in the place of the one there is."""
         self.session.close()
         self.session = session
-        self.kept = self.text_now = None
+        self.kept = self.texts_now = None
 
     def _make(self, edit: Edit) -> list[Edit]:
         """Makes one edit, and answers with those that take it back."""
@@ -324,7 +335,7 @@ class Board:
         return undoing(edit, old)
 
     def _apply(self, edit: Edit) -> None:
-        self.text_now = None
+        self.texts_now = None
         if edit.kind in ("insert", "replace"):
             refuse_unread(edit.item)
         if edit.kind == "insert":

@@ -6,7 +6,9 @@ from dataclasses import dataclass
 import stabsim
 from stabsim.page.edits import Edit, Kind
 from stabsim.page.nearby import Nearby, nearby
-from stabsim.session.retargeting import of_items
+from stabsim.session.record_trees import level_of
+from stabsim.session.retargeting import followed as records_followed
+from stabsim.session.retargeting_order import edits_to
 from stabsim.text import names
 from stabsim.text.reading import items_of, walk
 
@@ -37,13 +39,15 @@ def followed(circuit: str, edits: Sequence[Edit]) -> Followed:
     """The same of edits that bring, take or move records."""
     try:
         near = nearby(circuit, edits)
-        made = of_items(items_of(near.text), [(edit.kind, near.inwards(edit.place), edit.item) for edit in edits])
+        root = level_of(items_of(near.text))
+        written, lost = records_followed(root, [(edit.kind, near.inwards(edit.place), edit.item) for edit in edits])
     except (ValueError, IndexError):
         # What is wrong is said of the whole circuit.
         near = Nearby(circuit, 1, 0)
-        made = of_items(items_of(circuit), [(edit.kind, edit.place, edit.item) for edit in edits])
-    found = [Edit(SESSIONS[kind], near.outwards(place), words[0] if words else "") for kind, place, *words in made.edits]
-    return Followed(found, tuple(map(near.bit, made.lost)), tuple(edit.place for edit in found if edit.kind == "split"))
+        root = level_of(items_of(circuit))
+        written, lost = records_followed(root, [(edit.kind, edit.place, edit.item) for edit in edits])
+    found = [Edit(SESSIONS[kind], near.outwards(place), words[0] if words else "") for kind, place, *words in edits_to(root, written)]
+    return Followed(found, tuple(map(near.bit, lost)), tuple(edit.place for edit in found if edit.kind == "split"))
 
 
 def changes_records(session: stabsim.Session, edit: Edit, is_moved: bool) -> bool:

@@ -4,10 +4,10 @@ past them. In front of it stands one measurement with as many records as are loo
 import bisect
 import functools
 import itertools
-from collections.abc import Iterator, Sequence
+from collections.abc import Sequence
 from dataclasses import dataclass
 
-from stabsim.noise.changed_lines import counts_of, reach_of
+from stabsim.noise.changed_lines import counts_of, counts_of_line, reach_of
 from stabsim.page.edits import Edit
 from stabsim.page.noise import quiet_lines
 
@@ -41,9 +41,7 @@ def nearby(circuit: str, edits: Sequence[Edit]) -> Nearby:
     """The part of a circuit that edits may touch. IndexError if they are past its end."""
     outline = outline_of(circuit)
     lines, begins = outline.lines, outline.begins
-    touched = [int(edit.place.split("/")[0]) for edit in edits]
-    # After those that are deleted each place is one of a later item.
-    first, end = min(touched), min(max(touched) + len(edits), len(begins) - 1)
+    first, end = touched(edits, len(begins) - 1)
     reach = max([outline.reaches[first], *(reach_of(edit.item) for edit in edits)])
     # One item more for each that is past the edits, until no lookback reaches back to them.
     end = min(max(end, bisect.bisect_left(outline.records, outline.records[end] + reach)), len(begins) - 1)
@@ -69,19 +67,28 @@ class Outline:
 @functools.lru_cache(maxsize=1)
 def outline_of(circuit: str) -> Outline:
     """The outline of a circuit, kept until that of another is asked for."""
-    lines = circuit.removesuffix("\n").split("\n")
-    begins = [*item_begins(lines), len(lines)]
+    lines, begins = lines_and_begins(circuit)
     items = [lines[first:end] for first, end in itertools.pairwise(begins)]
     reaches = [reach_of("\n".join(item)) for item in reversed(items)]
-    counts = [counts_of(list(quiet_lines(item))) for item in items]
+    counts = [counts_of(list(quiet_lines(item))) if len(item) > 1 else counts_of_line(item[0]) for item in items]
     return Outline(lines, begins, list(itertools.accumulate(reaches, max, initial=0))[::-1],
                    list(itertools.accumulate((it.records for it in counts), initial=0)),
                    list(itertools.accumulate((it.detectors for it in counts), initial=0)))
 
 
-def item_begins(lines: Sequence[str]) -> Iterator[int]:
-    """The line at which each item of the outermost list begins: lines in blocks are indented."""
-    return (place for place, line in enumerate(lines) if line and line[0] not in " }")
+@functools.lru_cache(maxsize=2)
+def lines_and_begins(circuit: str) -> tuple[list[str], list[int]]:
+    """The lines of a circuit, as a session writes it, and at which of them each item of its outermost list begins, and the end: lines in blocks
+    are indented."""
+    lines = circuit.removesuffix("\n").split("\n") if circuit else []
+    return lines, [*(place for place, line in enumerate(lines) if line and line[0] not in " }"), len(lines)]
+
+
+def touched(edits: Sequence[Edit], count: int) -> tuple[int, int]:
+    """The first and the end of those items of an outermost list of `count` that edits may touch."""
+    places = [int(edit.place.split("/")[0]) for edit in edits]
+    # After those that are deleted each place is one of a later item.
+    return min(places), min(max(places) + len(edits), count)
 
 
 def moved(path: str, by: int) -> str:

@@ -6,6 +6,7 @@ from collections.abc import Callable, Iterable, Iterator
 import stabsim
 from stabsim.text import names
 from stabsim.text.profile import Profile
+from stabsim.text.reading import content_of
 
 # The models of the literature, each by its name.
 MODELS: dict[str, Callable[[float], stabsim.NoiseModel]] = {
@@ -26,11 +27,10 @@ def has_noise(text: str) -> bool:
     return NOISY.search(text) is not None
 
 
-def session_of(text: str, seed: int, qubits: int | None = None) -> stabsim.Session:
-    """A session of a text whose noise was judged; that of others is judged by `Circuit.edit`, which takes far longer."""
-    if has_noise(text):
-        return stabsim.Session(text, qubits=qubits, seed=seed, profile=Profile(text))
-    return stabsim.Circuit(text).edit(qubits=qubits, seed=seed)
+def session_of(text: str, seed: int) -> stabsim.Session:
+    """A session of a text whose noise was judged, without its comments; that of others is judged by `Circuit.edit`, which takes far longer."""
+    bare = "\n".join(filter(None, map(content_of, text.split("\n"))))
+    return stabsim.Session(bare, seed=seed, profile=Profile(bare)) if has_noise(bare) else stabsim.Circuit(bare).edit(seed=seed)
 
 
 def model_of(name: str, chance: float) -> stabsim.NoiseModel:

@@ -9,7 +9,7 @@ import numpy as np
 from numpy.typing import NDArray
 
 import stabsim
-from stabsim.page import moments
+from stabsim.circuit import moments
 from stabsim.page.at_once import Node, Opened, nodes_of
 from stabsim.page.noise import CHANNEL
 from stabsim.text.reading import Instruction, items_of
@@ -57,7 +57,7 @@ class Ways:
     why: str = ""
 
 
-class Body:
+class MomentEnds:
     """A list of items and of the ends of moments, with how many steps and ends come before each item."""
 
     def __init__(self, nodes: Sequence[Node]) -> None:
@@ -65,7 +65,7 @@ class Body:
         self.ends_before: list[int] = []
         # Whether a moment ends in front of an item. What is put in there is in that moment.
         self.ends_there: set[int] = set()
-        self.inside: dict[int, Body] = {}
+        self.inside: dict[int, MomentEnds] = {}
         self.steps: int
         steps, ends = 0, [np.zeros(0, dtype=np.int64)]
         count, there = 0, False
@@ -96,7 +96,7 @@ class Body:
         if there:
             self.ends_there.add(place)
         if isinstance(node, Opened):
-            self.inside[place] = Body(node.nodes)
+            self.inside[place] = MomentEnds(node.nodes)
 
     def before(self, path: Sequence[int], rounds: Sequence[int]) -> tuple[int, int]:
         """How many steps and ends of moments are before what is put in front of the item at a path in a round."""
@@ -122,7 +122,7 @@ def bits_of(pauli: str) -> dict[int, int]:
     return {} if pauli == "1" else {int(factor[1:]): BITS[factor[0]] for factor in pauli.split("*")}
 
 
-def spans(body: Body, mark: Mark, way: stabsim.Way) -> Iterator[tuple[int, int, dict[int, int]]]:
+def spans(body: MomentEnds, mark: Mark, way: stabsim.Way) -> Iterator[tuple[int, int, dict[int, int]]]:
     """From which moment's end up to which the string of a mark is which one."""
     steps, first = body.before(mark.path, mark.rounds)
     strings = [(steps, {mark.qubit: BITS[mark.letter]}), *((turn.steps, bits_of(turn.pauli)) for turn in way.turns)]
@@ -133,7 +133,7 @@ def spans(body: Body, mark: Mark, way: stabsim.Way) -> Iterator[tuple[int, int, 
 
 def ways_of(text: str, layers: Sequence[Sequence[Mark]]) -> list[Ways]:
     """The ways of the marks of some layers, each by itself, in a circuit as a session writes it."""
-    body = Body(nodes_of(moments.marked(text, PLACE)))
+    body = MomentEnds(nodes_of(moments.marked(text, PLACE).split("\n")))
     marked = max((mark.qubit for marks in layers for mark in marks), default=-1)
     circuit = stabsim.Circuit(text)
     if marked >= circuit.numbers().qubits:
@@ -142,7 +142,7 @@ def ways_of(text: str, layers: Sequence[Sequence[Mark]]) -> list[Ways]:
     return [way_of_marks(body, circuit, marks) for marks in layers]
 
 
-def way_of_marks(body: Body, circuit: stabsim.Circuit, marks: Sequence[Mark]) -> Ways:
+def way_of_marks(body: MomentEnds, circuit: stabsim.Circuit, marks: Sequence[Mark]) -> Ways:
     """What marks come to together: Paulis are multiplied, and records are flipped by an odd number of them."""
     there: dict[int, dict[int, int]] = {}
     records: set[int] = set()

@@ -19,12 +19,12 @@ RECORDING = frozenset((*MEASURING, *HERALDED))
 @dataclass(eq=False, slots=True)
 class Node:
     """An item, as it was, or None if it was put in, and as it is after the edits, if it is still there. Of a block the items are in
-    `inside`. follows: whether its lookbacks name the records that they named, and not those that its new text names."""
+    `inside`. following: its lookbacks, if they name the records that they named, and not those that its new text names."""
 
     was: Item | None
     now: Item
     inside: "Level | None" = None
-    follows: bool = False
+    following: Sequence[int] = ()
 
     @property
     def had(self) -> int:
@@ -78,7 +78,7 @@ class Level:
         self.has_before = list(accumulate((it.has for it in self.new), initial=0))
         self.place_was = {id(node): place for place, node in enumerate(self.old)}
         self.place = {id(node): place for place, node in enumerate(self.new)}
-        self.follows = any(it.inside.follows if it.inside else it.follows for it in self.new)
+        self.follows = any(it.inside.follows if it.inside else bool(it.following) for it in self.new)
         self.went = records_in_list(self)
         self.runs = list(runs_of(self))
 
@@ -123,7 +123,7 @@ class Level:
 def tree_of(items: Iterable[Item], is_new: bool = False) -> list[Node]:
     """Nodes of items, which are as they were, or put in."""
     return [
-        Node(None if is_new else it, it, level_of(it.items, is_new) if isinstance(it, Block) else None, not is_new and bool(lookbacks_of(it)))
+        Node(None if is_new else it, it, level_of(it.items, is_new) if isinstance(it, Block) else None, () if is_new else lookbacks_of(it))
         for it in items
     ]
 
@@ -153,7 +153,7 @@ def pair_moved(level: Level) -> None:
 def as_it_was(node: Node) -> Node:
     """A node, whatever was done to it before it was taken out."""
     assert node.was, "it was there"
-    node.now, node.follows = node.was, bool(lookbacks_of(node.was))
+    node.now, node.following = node.was, lookbacks_of(node.was)
     if node.inside:
         node.inside.new = list(map(as_it_was, node.inside.old))
     return node
@@ -241,7 +241,7 @@ def replaced(node: Node, item: Item) -> Node:
         differing(node.inside, item.items)
         node.now = item
     else:
-        before = node.now
+        if node.now.name != item.name or lookbacks_of(node.now) != lookbacks_of(item):
+            node.following = ()
         node.now = item
-        node.follows = node.follows and before is not None and before.name == item.name and lookbacks_of(before) == lookbacks_of(item)
     return node

@@ -7,7 +7,7 @@ from typing import TYPE_CHECKING
 import numpy as np
 from numpy.typing import NDArray
 
-from stabsim.session.record_trees import Level, Node, level_of, lookbacks_of, replaced, tree_of
+from stabsim.session.record_trees import Level, Node, level_of, replaced, tree_of
 from stabsim.session.retargeting_order import RecordEdit, Written, edits_to
 from stabsim.session.script import path_text
 from stabsim.text import names
@@ -79,12 +79,18 @@ def retargeted(circuit: "Circuit", edits: Iterable[Sequence[object]]) -> Retarge
 def of_items(items: Iterable[Item], edits: Iterable[Sequence[object]], put: Put = lambda old, new: new) -> Retargeted:
     """The same of a circuit's items. put: what comes in the place of one item for another."""
     root = level_of(items)
+    written, lost = followed(root, edits, put)
+    text = "".join(f"{it}\n" for it in written)
+    return Retargeted(text, records_of(root), lost, tuple(edits_to(root, written)))
+
+
+def followed(root: Level, edits: Iterable[Sequence[object]], put: Put = lambda old, new: new) -> tuple[list[Written], tuple[str, ...]]:
+    """Makes edits of a tree; answers its items after them, and what lost a record."""
     for edit in edits:
         apply(root, edit, put)
     root.settle()
-    written, lost = Follower(root).all_of_it()
-    text = "".join(f"{it}\n" for it in written)
-    return Retargeted(text, records_of(root), tuple(dict.fromkeys(lost)), tuple(edits_to(root, written)))
+    written = Follower().items([Frame(root)])
+    return written, tuple(dict.fromkeys(lost_of(written, [0])))
 
 
 def apply(root: Level, edit: Sequence[object], put: Put) -> None:
@@ -129,13 +135,9 @@ def at_path(root: Level, path: str, is_end_too: bool) -> tuple[Level, int]:
 class Follower:
     """Writes the items of a tree after the edits."""
 
-    def __init__(self, root: Level) -> None:
-        self.root = root
-
-    def all_of_it(self) -> tuple[list[Written], list[str]]:
-        """All items, and which detectors and observables lost a record."""
-        written = self.items([Frame(self.root)])
-        return written, list(lost_of(written, [0]))
+    def __init__(self) -> None:
+        # What instructions become whose lookbacks stay in the block: the same in each round.
+        self.staying: dict[int, Written | None] = {}
 
     def items(self, frames: list[Frame]) -> list[Written]:
         """The items of the last frame's list, in its round."""
@@ -143,7 +145,7 @@ class Follower:
         for place, node in enumerate(frames[-1].level.new):
             if node.inside is not None:
                 found += self.block(node, place, frames)
-            elif node.follows:
+            elif node.following:
                 written = self.followed(node, place, frames)
                 found += [written] if written else []
             else:
@@ -169,9 +171,18 @@ class Follower:
 
     def followed(self, node: Node, place: int, frames: list[Frame]) -> Written | None:
         """An instruction with its records where they are now; None if it acts by records alone, and all of them are gone."""
-        was_at = frames[-1].level.place_was[id(node)]
-        if frames[-1].level.is_steady(was_at, place, max(lookbacks_of(node.was), default=0)):
+        level, back = frames[-1].level, max(node.following)
+        was_at = level.place_was[id(node)]
+        if level.is_steady(was_at, place, back):
             return Written(node, str(node.now))
+        if back > level.had_before[was_at] + frames[-1].round_number * level.had:
+            return self.moved(node, was_at, place, frames)
+        if id(node) not in self.staying:
+            self.staying[id(node)] = self.moved(node, was_at, place, frames)
+        return self.staying[id(node)]
+
+    def moved(self, node: Node, was_at: int, place: int, frames: list[Frame]) -> Written | None:
+        """The same of an instruction that was, and is, at a place of the last frame's list."""
         targets: list[str] = []
         is_pair, has_lost = node.now.name in names.FED_BACK, False
         for number, target in enumerate(node.now.targets):

@@ -71,8 +71,9 @@ class Session(PlainSession):
     none of all errors
     """
 
-    def __init__(self, text: str, *, qubits: int | None = None, seed: int = 0, stride: int | None = None, profile: Profile | None = None) -> None:
-        """The session of a circuit's text, which is judged if no profile of it is given."""
+    def __init__(self, text: str, *, qubits: int | None = None, seed: int = 0, stride: int | None = None, profile: Profile | None = None,
+                 is_printed: bool = False) -> None:
+        """The session of a circuit's text, which is judged if no profile of it is given; is_printed: whether it is as another session printed it."""
         # The models of the circuit as it is, and the last ones of what it was.
         self.models: dict[Options, ErrorModel] = {}
         self.models_before: dict[Options, ErrorModel] = {}
@@ -80,11 +81,11 @@ class Session(PlainSession):
         self.spares: set[int] = set()
         if profile is None:
             try:
-                super().__init__(with_comments(text), qubits=qubits, seed=seed, stride=stride)
+                super().__init__(text if is_printed else with_comments(text), qubits=qubits, seed=seed, stride=stride)
                 return
             except Refused:
-                profile = judged(text)
-                if profile.said is not None:
+                profile = None if is_printed else judged(text)
+                if profile is None or profile.said is not None:
                     raise
         text = carried(text) if profile.said is None else with_comments(text)
         super().__init__(text, qubits=qubits, seed=seed, stride=stride)

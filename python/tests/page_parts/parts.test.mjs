@@ -74,6 +74,15 @@ test("the letter that a mark has come to lies over the ring of the mark", () => 
   assert.ok(plates.length === 2 && plates[1] > elements.findLastIndex(({ stroke, dash }) => stroke === "ink" && dash));
 });
 
+test("no ring or diamond is drawn over the number of a qubit", () => {
+  const elements = drawn("M 0\nCX 1 2\n", {
+    set: [{ qubit: 0, letter: "X", isHere: false }], marks: [{ qubit: 1, letter: "Z", layer: 1, isHere: true }], coins: new Map([[2, true]]),
+  });
+  const numbers = elements.flatMap(({ words }, i) => (["0", "1", "2"].includes(words) && elements[i].halo ? [i] : []));
+  const rims = elements.flatMap(({ path, stroke, width }, i) => (path && stroke === "ink" && width === 1.75 ? [i] : []));
+  assert.ok(numbers.length >= 3 && rims.length === 3 && Math.max(...rims) < Math.min(...numbers));
+});
+
 test("a glyph loses its words and then its shape as it gets smaller", () => {
   const at = (side) => elementsOf({ glyph: "gate", x: 0, y: 0, side, role: "op", label: "S†" }).filter(({ words }) => words).map(({ words }) => words);
   assert.deepEqual([30, 14, 8, 3].map(at), [["S†"], ["S"], [], []]);

@@ -9,7 +9,7 @@ import { PITCH, circle, gates, table } from "./glyphs.js";
 import { groundElements, gutterElements } from "./ground_drawing.js";
 import { PAULIS, actionsOf, isControlled, qubitsOf } from "./instructions.js";
 import { marksOf } from "./marks.js";
-import { coinElements, errorElements, faceElements, letterElements, markElements, neighbourElements, regionElements, wayElements } from "./region_drawing.js";
+import { coinElements, errorElements, faceElements, letterElements, markElements, neighbourElements, regionElements, ringElements, wayElements } from "./region_drawing.js";
 
 // How far out of sight, in sides of a glyph, something is still drawn, since its wire may be seen.
 const MARGIN = 2;
@@ -64,6 +64,7 @@ export function layersOf(scene, view, kept) {
     regionElements(sheet),
     operations.under,
     idleElements(sheet, operations.busy),
+    ringElements(sheet),
     numberElements(sheet, operations.busy),
     operations.over,
     choiceElements(sheet, operations.busy),

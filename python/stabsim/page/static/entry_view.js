@@ -99,7 +99,7 @@ export class EntryView {
 
   #say() {
     const place = this.#path === null ? "" : this.#path.join("/");
-    const said = { replace: this.#item ? `item ${place}` : "after the last item", insert: `before item ${place}`, behind: `after item ${place}` };
+    const said = { replace: this.#item ? `item ${place}` : "the end", insert: `before item ${place}`, behind: `after item ${place}` };
     this.#find("#entry-label").textContent = this.#path === null ? "no item" : said[this.#kind];
     this.#form.classList.remove("bad");
     this.#find("#refusal").textContent = "";

@@ -52,6 +52,8 @@ function numbers(from, length, scale, step) {
   return Array.from({ length: Math.max(0, last - first + 1) }, (_, i) => [String((first + i) * step), from + (first + i) * step * scale]);
 }
 
+// Beside the gutter, as large as it has room there.
 function hint({ width, height }) {
-  return HINT.map((words, i) => ({ words, x: width / 2, y: height / 2 + (i - 0.5) * 22, size: 14, fill: "quiet", halo: "sheet" }));
+  const size = Math.min(14, ((width - LEFT) / Math.max(...HINT.map((words) => words.length))) * 1.9);
+  return HINT.map((words, i) => ({ words, x: (LEFT + width) / 2, y: height / 2 + (i - 0.5) * 22, size, fill: "quiet", halo: "sheet" }));
 }

@@ -12,7 +12,7 @@ import { DistanceView } from "./distance_view.js";
 import { Editor } from "./editor.js";
 import { pathOfRound } from "./editing.js";
 import { EntryView } from "./entry_view.js";
-import { circuitOfAddress, forgetLink, saidOfSize, shared, takeFiles } from "./files.js";
+import { forgetLink, shared, takeFiles } from "./files.js";
 import { HistoryView } from "./history_view.js";
 import { Inspector } from "./inspector.js";
 import { afterSplits } from "./keeping.js";
@@ -27,6 +27,7 @@ import { Menu } from "./menu.js";
 import { momentsOf } from "./moments.js";
 import { hasNoise, kindsOfErrors } from "./noise.js";
 import { exportsOf } from "./exports.js";
+import { Opening } from "./opening.js";
 import { PageFaults } from "./page_faults.js";
 import { Palette } from "./palette.js";
 import { Panes } from "./panes.js";
@@ -40,15 +41,12 @@ import { State } from "./state.js";
 import { TextView } from "./text_view.js";
 import { TimelineView } from "./timeline_view.js";
 import { saidOfBit, saidOfFlips, showWords } from "./tips.js";
-import { Unsaved } from "./unsaved.js";
 import { WiresView } from "./wires_view.js";
 
 // The most notes on lines that became others that are listed.
 const MOST_NOTES = 200;
 // With how many items of its outermost list a circuit is given out as it was written, since lines are compared for that.
 const MOST_ITEMS = 200_000;
-// The greatest text that is read, in bytes.
-const MOST_BYTES = 2 ** 25;
 const STRANGE = "The address lacks the token that the server printed: open that address.";
 const GONE = "The server is gone: Save, Export and Link still work in this tab. Start it again, and open the address that it prints.";
 
@@ -100,10 +98,10 @@ const menu = new Menu(by("choice"));
 const asking = new Asking(by("asking"));
 const banner = new Banner(by("banner"));
 const link = new Link(hear, (reason) => banner.say("server", reason || (shown.state ? GONE : STRANGE)));
-const unsaved = new Unsaved(link.token, () => say("the circuit is too long to be kept in the browser until it is saved", true));
 const faults = new PageFaults({ say: (words) => banner.say("fault", words), drawAnew: () => ask({ ask: "all" }) });
 const knowledge = new Knowledge((question) => link.ask(question));
 const shown = new Shown(views, knowledge);
+const opening = new Opening({ shown, ask, say, text: writtenText, banner }, link.token);
 const panes = new Panes(document.querySelector("main"), by("tabs"));
 const editor = new Editor(shown, {
   send, say, menu: (qubit, offers) => menu.open(by("picture"), placeOf(qubit), offers), isAlone: (isError) => views.rounds.isAlone(isError),
@@ -134,7 +132,7 @@ function hear(event) {
     return;
   }
   shown.take(event.event);
-  sayWhetherSaved();
+  opening.sayWhetherSaved();
   if (event.event === "edited") {
     faults.settle();
     by("told").textContent = saidOfFlips(event.flipped);
@@ -154,8 +152,6 @@ function redraw() {
   showLegend(by("legend"));
 }
 
-let isFirst = true;
-
 function open(event) {
   shown.state = new State(event);
   by("save").title = event.saves ? "write the circuit to its file (Ctrl-S)" : "have the browser save the circuit (Ctrl-S)";
@@ -165,48 +161,7 @@ function open(event) {
   by("left-out").onclick = () => menu.open(by("left-out"), by("left-out").getBoundingClientRect(), event.notes.slice(0, MOST_NOTES).map((note) => [note, () => {}]));
   by("name").textContent = event.name;
   views.rate.take(null);
-  if (isFirst) openAddress();
-  else forgetLink();
-  isFirst = false;
-}
-
-async function openAddress() {
-  const text = await circuitOfAddress().catch(() => say("the address holds no circuit", true));
-  if (text) await openFile({ name: "linked.stim", size: text.length, text: async () => text });
-  await offerUnsaved();
-}
-
-// Opens a file {name, size, text()}, and answers whether it could; `more` is what the server is told beside it.
-async function openFile(file, more = {}) {
-  const { name, size } = file;
-  if (size > MOST_BYTES) return void say(`${name} has ${saidOfSize(size)}, and no more than ${saidOfSize(MOST_BYTES)} are read`, true);
-  say(`${name}: ${saidOfSize(size)} are being read …`);
-  document.body.classList.add("reading");
-  const given = await file.text().catch((fault) => void say(`${name}: ${fault.message}`, true));
-  const isOpened = given !== undefined && !(await ask({ ask: "open", text: given, name, ...more })).refused;
-  document.body.classList.remove("reading");
-  if (isOpened) say(`${name} is opened; Undo brings the circuit before it back`);
-  return isOpened;
-}
-
-// The title has a dot for work that is not saved, and the browser keeps it.
-function sayWhetherSaved() {
-  const { state } = shown;
-  document.title = `${state.isUnsaved ? "● " : ""}${state.name} · stabsim`;
-  unsaved.keep(async () => (shown.state.isUnsaved ? { name: shown.state.name, text: await writtenText() } : null));
-}
-
-async function offerUnsaved() {
-  const work = await unsaved.found();
-  if (!work) return;
-  const { key, name, time, text } = work;
-  const settle = () => {
-    unsaved.drop(key);
-    offerUnsaved();
-  };
-  banner.say("unsaved", `${name} of ${new Date(time).toLocaleString()} was not saved.`, [
-    ["Open it", () => openFile({ name, size: text.length, text: async () => text }, { unsaved: true }).then((isOpened) => isOpened && settle())], ["Drop it", settle],
-  ]);
+  opening.heard();
 }
 
 // Says words, or parts of which some are marked.
@@ -379,7 +334,7 @@ const clicks = {
 };
 for (const [id, act] of Object.entries(clicks)) by(id).addEventListener("click", act);
 by("since").addEventListener("change", () => shown.showSince(fieldBy("since").value));
-takeFiles(by("file"), openFile, (text) => isCopied(text) && Boolean((isInText() ? lines : editor).paste(linesOf(text))));
+takeFiles(by("file"), (file) => opening.file(file), (text) => isCopied(text) && Boolean((isInText() ? lines : editor).paste(linesOf(text))));
 takeCopies({ shown, editor, lines, isInText, say });
 showLegend(by("legend"));
 

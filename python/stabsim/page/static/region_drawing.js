@@ -94,8 +94,23 @@ export function letterElements({ at, side, scene: { region } }, busy) {
   });
 }
 
-// Errors: a ring round each of their qubits, with the letter above on the right. Of a set that flips an observable unseen all are drawn,
-// with a broken ring if they are at other moments.
+// A ring round each qubit of a set of errors and of marks, and a diamond round what is measured whose coin decides the chosen bit: broken if that is
+// at another moment. They come under the numbers of qubits, so that they cross none.
+export function ringElements({ at, side, scene: { set = [], marks = [], coins } }) {
+  const reach = Math.max(9, side * 0.98);
+  const ring = ([x, y]) => circle(x, y, Math.max(7, side * 0.86));
+  const diamond = ([x, y]) => [["M", x - reach, y], ["L", x, y - reach], ["L", x + reach, y], ["L", x, y + reach], ["Z"]];
+  const rims = [
+    ...[...(coins ?? [])].map(([qubit, isHere]) => ({ qubit, isHere, draw: diamond })),
+    ...[...set, ...marks].sort((a, b) => a.isHere - b.isHere).map(({ qubit, isHere }) => ({ qubit, isHere, draw: ring })),
+  ];
+  return rims.filter(({ qubit }) => at(qubit)).flatMap(({ qubit, isHere, draw }) => {
+    const path = draw(at(qubit));
+    return [{ path, stroke: "sheet", width: 4 }, { path, stroke: "ink", width: 1.75, dash: isHere ? undefined : [3, 4] }];
+  });
+}
+
+// Errors: the letter above on the right of each of their qubits. Of a set that flips an observable unseen all are drawn.
 export function errorElements({ at, side, scene: { set = [] } }) {
   return set.filter(({ qubit }) => at(qubit)).flatMap(({ qubit, letter, isHere }) => errorAt(letter, at(qubit), side, isHere));
 }
@@ -126,26 +141,17 @@ export function wayElements({ at, side, scene: { ways = [] } }) {
 }
 
 function errorAt(letter, [x, y], side, isHere) {
-  const path = circle(x, y, Math.max(7, side * 0.86));
-  const size = plateSize(side, isHere ? 0.8 : 0.6, 9, 26);
   const away = side >= 12 ? side * 0.6 : 0;
-  const rim = [{ path, stroke: "sheet", width: 4 }, { path, stroke: "ink", width: 1.75, dash: isHere ? undefined : [3, 4] }];
-  return [...rim, ...plateAt(letter, x + away, y - away, size)];
+  return plateAt(letter, x + away, y - away, plateSize(side, isHere ? 0.8 : 0.6, 9, 26));
 }
 
-// The coins that decide the chosen bit: a diamond round what is measured, with the mark of such a bit below on the left; it is broken
-// if the coin is thrown at another moment.
+// The coins that decide the chosen bit: the mark of such a bit below on the left of what is measured.
 export function coinElements({ at, side, scene: { coins } }) {
-  const reach = Math.max(9, side * 0.98);
   const away = side >= 12 ? side * 0.6 : 0;
   const size = Math.max(9, Math.min(22, side * 0.66));
-  return [...(coins ?? [])].filter(([qubit]) => at(qubit)).flatMap(([qubit, isHere]) => {
-    const [x, y] = at(qubit);
-    const path = [["M", x - reach, y], ["L", x, y - reach], ["L", x + reach, y], ["L", x, y + reach], ["Z"]];
-    return [
-      { path, stroke: "sheet", width: 4 }, { path, stroke: "ink", width: 1.75, dash: isHere ? undefined : [3, 4] },
-      { path: circle(x - away, y + away, size * 0.62), fill: "sheet" }, { glyph: "random", x: x - away, y: y + away, side: size, role: "quiet" },
-    ];
+  return [...(coins ?? [])].filter(([qubit]) => at(qubit)).flatMap(([qubit]) => {
+    const [x, y] = [at(qubit)[0] - away, at(qubit)[1] + away];
+    return [{ path: circle(x, y, size * 0.62), fill: "sheet" }, { glyph: "random", x, y, side: size, role: "quiet" }];
   });
 }
 

@@ -82,8 +82,10 @@ export class SourceView {
     const lines = fieldBy("source-text").value.split("\n");
     const begin = lines.slice(0, Number(number[1]) - 1).reduce((sum, it) => sum + it.length + 1, 0);
     const from = begin + carets.indexOf("^") - number[0].length;
-    fieldBy("source-text").focus();
     fieldBy("source-text").setSelectionRange(from, from + carets.lastIndexOf("^") + 1 - carets.indexOf("^"));
+    // A field scrolls to what is chosen in it when it gets the focus, and not when that is chosen.
+    fieldBy("source-text").blur();
+    fieldBy("source-text").focus();
   }
 
   #wrap() {

@@ -1,8 +1,7 @@
 """Where a circuit is cut into moments: at each TICK, and in front of an item that acts on a qubit on which the moment has acted before.
 
-`static/cuts.js` cuts by the same rules, so that both count moments alike. A Pauli may come after one other item on its qubit, as an
-error does that is put on a gate. If a block would meet what is before it, it is cut in front; if its rounds would meet each
-other, each is cut in front of its first item that acts.
+The page's `static/cuts.js` cuts by the same rules, so that both count moments alike, and pictures of a tick have layers by them. If a block
+would meet what is before it, it is cut in front; if its rounds would meet each other, each is cut in front of its first item that acts.
 """
 
 import functools
@@ -17,15 +16,27 @@ PAULIS = ("X", "Y", "Z")
 QUBIT = re.compile(r"\d+")
 
 
-@dataclass
-class Body:
-    """What a list of items comes to: the lines in front of which it is cut, the qubits of its first moment, those of its last with
-    whether a Pauli acts there after something else, whether there is more than one moment, and the line of its first item that
-    acts, if it has one and is not cut in front of it."""
+class Acted(dict[int, bool]):
+    """The qubits on which a moment has acted, and whether a Pauli has after something else."""
 
-    cuts: list[int] = field(default_factory=list)
+    def meets(self, qubits: Iterable[int], is_pauli: bool) -> bool:
+        """Whether what acts on qubits begins another moment. A Pauli may come after one other thing on its qubit, as an error does that is
+        put on a gate."""
+        return any(qubit in self and (self[qubit] or not is_pauli) for qubit in qubits)
+
+    def act(self, qubits: Iterable[int], is_pauli: bool) -> None:
+        """Acts on qubits."""
+        self.update({qubit: is_pauli and qubit in self for qubit in qubits})
+
+
+@dataclass
+class Cuts:
+    """What a list of items comes to: the lines in front of which it is cut, the qubits of its first moment, those on which its last has
+    acted, whether there is more than one moment, and the line of its first item that acts, if it has one and is not cut in front of it."""
+
+    lines: list[int] = field(default_factory=list)
     first: set[int] = field(default_factory=set)
-    last: dict[int, bool] = field(default_factory=dict)
+    last: Acted = field(default_factory=Acted)
     has_several: bool = False
     begins: int | None = None
 
@@ -34,7 +45,7 @@ class Body:
         if not self.has_several:
             self.first = set(self.last)
         self.has_several = True
-        self.last = {}
+        self.last = Acted()
 
     def add(self, item: Item) -> None:
         if isinstance(item, Block):
@@ -45,41 +56,40 @@ class Body:
             self.add_acting(item.line, qubits, item.name in PAULIS)
 
     def add_acting(self, line: int, qubits: list[int], is_pauli: bool) -> None:
-        if any(qubit in self.last and (self.last[qubit] or not is_pauli) for qubit in qubits):
-            self.cuts.append(line)
+        if self.last.meets(qubits, is_pauli):
+            self.lines.append(line)
             self.cut()
         elif self.begins is None and not self.has_several:
             self.begins = line
-        over = {qubit: is_pauli and qubit in self.last for qubit in qubits}
-        self.last.update(over)
+        self.last.act(qubits, is_pauli)
 
     def add_block(self, block: Block) -> None:
-        body = body_of(block.items)
-        first = body.first if body.has_several else set(body.last)
-        meets_itself = block.repeat > 1 and any(qubit in body.last for qubit in first)
-        if body.begins is not None and meets_itself:
-            self.cuts.append(body.begins)
+        its = cuts_of(block.items)
+        first = its.first if its.has_several else set(its.last)
+        meets_itself = block.repeat > 1 and any(qubit in its.last for qubit in first)
+        if its.begins is not None and meets_itself:
+            self.lines.append(its.begins)
             self.cut()
         elif any(qubit in self.last for qubit in first):
-            self.cuts.append(block.line)
+            self.lines.append(block.line)
             self.cut()
         elif self.begins is None and not self.has_several:
-            self.begins = body.begins
-        self.cuts += body.cuts
-        if body.has_several:
+            self.begins = its.begins
+        self.lines += its.lines
+        if its.has_several:
             self.last.update(dict.fromkeys(first, False))
             self.cut()
-        self.last.update(body.last)
+        self.last.update(its.last)
 
 
-def body_of(items: Iterable[Item]) -> Body:
+def cuts_of(items: Iterable[Item]) -> Cuts:
     """What items come to, from the beginning of a moment on."""
-    body = Body()
+    found = Cuts()
     for item in items:
-        body.add(item)
-    if not body.has_several:
-        body.first = set(body.last)
-    return body
+        found.add(item)
+    if not found.has_several:
+        found.first = set(found.last)
+    return found
 
 
 def qubits_of(item: Instruction) -> list[int]:
@@ -97,7 +107,7 @@ def qubits_in(targets: tuple[str, ...]) -> list[int]:
 def cut_items(text: str) -> tuple[tuple[Item, ...], frozenset[int]]:
     """The items of a text that act or are TICKs, with their blocks, and the lines in front of which they are cut."""
     items = items_of(text, ("TICK", *names.spellings(names.ACTING)))
-    return items, frozenset(body_of(items).cuts)
+    return items, frozenset(cuts_of(items).lines)
 
 
 def marked(text: str, mark: str) -> str:
