@@ -1,8 +1,9 @@
 """Measures in Chromium how long the page takes from a key on a qubit until what it flips is drawn, for docs/build/benchmarks.md.
 
-On a surface code, written out and in a block, it puts a Pauli on a qubit in the middle, at moments that lie evenly over all, and takes it
-back each time; in a block its round is split off first. A line has the milliseconds of a step of the way, by the browser's clock: the middle
-one of the edits, the best and the worst; the last is the processor time of the page's main thread meanwhile. It needs what the page's tests do: Chromium, its driver, selenium, aiohttp and pytest."""
+On a surface code, written out and in a block, it puts a Pauli or a measurement on a qubit in the middle, at moments that lie evenly over all,
+and takes it back each time; in a block the Pauli's round is split off first, and the measurement comes into all. A line has the milliseconds
+of a step of the way, by the browser's clock: the middle one of the edits, the best and the worst; the last is the processor time of the
+page's main thread meanwhile. It needs what the page's tests do: Chromium, its driver, selenium, aiohttp and pytest."""
 
 import contextlib
 import os
@@ -29,7 +30,7 @@ import("/static/main.js").then(({ page }) => {
 # Types a letter on the chosen qubit, or takes back what was typed, and answers with the milliseconds of each of STEPS but the last: a message
 # is taken up after the frame.
 TYPE = """
-const [isBack, done] = arguments;
+const [letter, done] = arguments;
 import("/static/main.js").then(({ page }) => {
   requestAnimationFrame(() => setTimeout(() => {
     const { position } = page.shown.state;
@@ -45,8 +46,8 @@ import("/static/main.js").then(({ page }) => {
       port2.postMessage("");
     });
     painted.observe(document.body, { attributeFilter: ["data-shown"] });
-    if (isBack) document.getElementById("undo").click();
-    else document.getElementById("picture").dispatchEvent(new KeyboardEvent("keydown", { key: "x", bubbles: true }));
+    if (letter) document.getElementById("picture").dispatchEvent(new KeyboardEvent("keydown", { key: letter, bubbles: true }));
+    else document.getElementById("undo").click();
   }, 30));
 });
 """
@@ -78,6 +79,8 @@ const step = (now) => {
 requestAnimationFrame(step);
 """
 
+# A Pauli, and a measurement, at which the records are others.
+KEYS = ("x", "m")
 STEPS = ("program and server", "layout", "painted", "in all", "main thread")
 # Surface codes by distance and rounds, and how many edits and frames there are.
 SIZES = ((13, 13), (21, 100))
@@ -100,15 +103,15 @@ def thread_time(driver: Any) -> float:
     return next(1000.0 * float(it["value"]) for it in metrics if it["name"] == "TaskDuration")
 
 
-def measure_edit(driver: Any, qubit: int, moment: int) -> list[float]:
-    """The milliseconds of STEPS of an edit, which is taken back."""
+def measure_edit(driver: Any, letter: str, qubit: int, moment: int) -> list[float]:
+    """The milliseconds of STEPS of the edit that a key makes, which is taken back."""
     driver.execute_async_script(CHOOSE, qubit, moment)
     time.sleep(1)
     before = thread_time(driver)
-    found: list[float] = driver.execute_async_script(TYPE, False)
+    found: list[float] = driver.execute_async_script(TYPE, letter)
     found.append(thread_time(driver) - before)
     time.sleep(1)
-    driver.execute_async_script(TYPE, True)
+    driver.execute_async_script(TYPE, "")
     time.sleep(1)
     return found
 
@@ -124,12 +127,14 @@ def measure_size(driver: Any, file: Path, distance: int, rounds: int, written_ou
         last = page.ask("page.moments() - 1")
         # The data qubit in the middle of the code: its coordinates are the distance, which is odd as those of all data qubits.
         qubit = stabsim.Circuit.from_file(file).qubit_coordinates().tolist().index([distance, distance])
-        times = [measure_edit(driver, qubit, (number + 1) * last // (EDITS + 1)) for number in range(EDITS)]
-        found: dict[str, Any] = dict(zip(STEPS, zip(*times)))
+        found: dict[str, Any] = {}
+        for letter in KEYS:
+            times = [measure_edit(driver, letter, qubit, (number + 1) * last // (EDITS + 1)) for number in range(EDITS)]
+            found |= zip((f"{letter}: {step}" for step in STEPS), zip(*times))
         found["a region"] = [driver.execute_async_script(REGION, f"D{number}") for number in range(distance, distance + EDITS)]
         found["a frame"] = driver.execute_async_script(FRAMES, COUNT_OF_FRAMES)
         for name, its in found.items():
-            print(f"    {name:18} {statistics.median(its):6.1f} ms  ({min(its):.1f} to {max(its):.1f})")
+            print(f"    {name:21} {statistics.median(its):6.1f} ms  ({min(its):.1f} to {max(its):.1f})")
 
 
 def measure(file: Path) -> None:

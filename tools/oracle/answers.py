@@ -160,7 +160,9 @@ def propagated(items: Items, case: Case) -> Ended:
 
 
 def propagated_each(items: Items, case: Case) -> Ended:
-    return 0, ways.each_text(items, case.setting("everywhere", False)), b""
+    everywhere = case.setting("everywhere", False)
+    lines = ways.each_text(items, everywhere)
+    return 0, lines, b"" if lines or everywhere else NO_MARKS
 
 
 ANSWERS: dict[str, Callable[[Items, Case], Ended]] = {

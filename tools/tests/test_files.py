@@ -110,7 +110,7 @@ def test_a_closed_stream_fails_where_it_is_needed_and_changes_nothing_else(tmp_p
 @pytest.mark.parametrize("command", [command for command in COMMANDS if command != "edit"])
 def test_no_command_but_edit_reads_a_script(circuit: pathlib.Path, command: str) -> None:
     words = [command, "--in", circuit]
-    assert run(words, closed=(0,)) == (0, run(words)[1], NO_MARKS if command in ("faults", "distance") else "")
+    assert run(words, closed=(0,)) == (0, run(words)[1], NO_MARKS if command in ("faults", "distance", "propagate_each") else "")
 
 
 ZERO, MARKED_ZERO = "R 0\nM 0\nDETECTOR rec[-1]\n", "R 0\nI 0\nM 0\n"
@@ -131,6 +131,8 @@ NO_PROBLEM = "p wcnf 1 2 1\n1 1 0\n1 -1 0\n"
     ("faults --everywhere", ZERO, "1 0 X0 D0\n1 0 Z0\n1 1 X0 D0\n1 1 Z0\n2 1 X0\n2 1 Z0\n", ""),
     ("faults", MARKED_ZERO, "1 1 X0\n1 1 Z0\n", ""),
     ("faults --out_format b8", MARKED_ZERO, "", ""),
+    ("propagate_each", ZERO, "", NO_MARKS),
+    ("propagate_each --everywhere", "R 0\n", "1 0 X0 left X0\n1 0 Z0 left Z0\n", ""),
     ("distance", UNMARKED, "none\n", NO_MARKS),
     # A mark of Y alone has no letter left.
     ("distance --letters XZ", MARKED, "none\n", NO_LETTERS),

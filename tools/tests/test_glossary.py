@@ -1,5 +1,6 @@
 """No name, comment or text of the crates, and no page, has a word that docs/build/glossary.md says not to use, and its files are there."""
 
+import functools
 import re
 from collections.abc import Iterator
 
@@ -7,11 +8,20 @@ from pages import DOCS, PAGES, files_of_git, name_of, prose, quoted, rows_below,
 from program import TOP
 
 GLOSSARY = DOCS / "build" / "glossary.md"
-NOT_USED = [word for cells in rows_below(text_of(GLOSSARY), "| Not | But |") for word in quoted(cells[0])]
+NOT_USED = tuple(word for cells in rows_below(text_of(GLOSSARY), "| Not | But |") for word in quoted(cells[0]))
+# Those that some crates don't use, each with such a crate.
+NOT_USED_IN = {(word, crate) for words, _, crates in rows_below(text_of(GLOSSARY), "| Not | But | In |") for word in quoted(words) for crate in quoted(crates)}
 FILES = [name for name in files_of_git("-co", "--exclude-standard", "crates") if re.match(r"crates/\w+/(?:src|specs|proofs)/.*\.(?:rt|antt)$", name)]
 PART = re.compile(r"[A-Z]?[a-z]+|[A-Z]+(?![a-z])")
+NAME = re.compile(r"[A-Za-z_]\w*")
 # Names of the standard library.
 OF_LIBRARY = re.compile(r"\b(?:leb|eqb)_tells\b")
+# What is said of things that don't move, and the line of a script that makes a bookmark.
+OF_OTHER_MEANING = re.compile(r"\bin place\b|\"mark\"|`mark`")
+# Names that still have a word that their crate does not use: none is added here.
+NAMES_LEFT = {
+    "FaultPlace", "Place", "PlaceLemmas", "Places", "each_after_place", "first_place", "next_place", "one_places", "place_before", "place_of",
+}
 # Words that are still where they are not to be used: no line is added here.
 STANDING = {
     # The option keeps its name.
@@ -20,7 +30,6 @@ STANDING = {
     ("framed", "crates/stab_jobs/"),
     ("framed", "crates/tests_program/src/"),
     ("framed", "crates/stab_frames/specs/PropagatedTableaus.antt"),
-    ("apart", "crates/stab_items/src/walk.rt"),
     ("apart", "crates/stab_ways/proofs/FrontLemmas.antt"),
     ("turned", "crates/stab_items/proofs/StepPathLemmas.antt"),
     ("copies of the state", "crates/stab_circuit/specs/Limits.antt"),
@@ -30,17 +39,19 @@ STANDING = {
 }
 
 
-# What a text with such a word has somewhere, in names too.
-MAYBE = re.compile("|".join(word.replace(" ", "[^a-z]") for word in NOT_USED), re.IGNORECASE)
+@functools.cache
+def maybe(words: tuple[str, ...]) -> re.Pattern[str]:
+    """What a text with one of some words has somewhere, in names too."""
+    return re.compile("|".join(word.replace(" ", "[^a-z]") for word in words), re.IGNORECASE)
 
 
-def used_in(text: str) -> dict[str, int]:
-    """The words of a text that are not to be used, of names in parts, each with the number of a line that has it."""
+def used_in(text: str, words: tuple[str, ...] = NOT_USED) -> dict[str, int]:
+    """Those of some words that a text has, of names in parts, each with the number of a line that has it."""
     found: dict[str, int] = {}
     for number, line in enumerate(text.split("\n"), 1):
-        if MAYBE.search(line):
+        if maybe(words).search(line):
             around = f" {' '.join(PART.findall(line)).lower()} "
-            found |= {word: number for word in NOT_USED if f" {word} " in around}
+            found |= {word: number for word in words if f" {word} " in around}
     return found
 
 
@@ -48,6 +59,16 @@ def in_crates() -> Iterator[tuple[str, str, int]]:
     for name in FILES:
         text = OF_LIBRARY.sub("", text_of(TOP / name))
         yield from ((name, word, line) for word, line in used_in(text).items())
+
+
+def in_their_crates() -> Iterator[tuple[str, str, int]]:
+    """The words that a crate does not use, in names that are not left and in comments."""
+    for name in FILES:
+        words = tuple(sorted(word for word, crate in NOT_USED_IN if crate == name.split("/")[1]))
+        if words and maybe(words).search(text_of(TOP / name)):
+            text = OF_OTHER_MEANING.sub("", text_of(TOP / name))
+            kept = NAME.sub(lambda it: "" if it[0] in NAMES_LEFT else it[0], text)
+            yield from ((name, word, line) for word, line in used_in(kept, words).items())
 
 
 def is_standing(name: str, word: str) -> bool:
@@ -64,6 +85,18 @@ def test_no_name_or_comment_of_the_crates_has_a_word_that_is_not_used() -> None:
     assert not found, "\n".join(found)
 
 
+def test_no_name_or_comment_of_a_crate_has_a_word_that_it_does_not_use() -> None:
+    assert {("place", "stab_run"), ("mark", "stab_script")} <= NOT_USED_IN
+    found = [f"{name}:{line}: {word}" for name, word, line in in_their_crates()]
+    assert not found, "\n".join(found)
+
+
+def test_each_name_that_is_left_is_there() -> None:
+    crates = {crate for _, crate in NOT_USED_IN}
+    names = {name for file in FILES if file.split("/")[1] in crates for name in NAME.findall(text_of(TOP / file))}
+    assert NAMES_LEFT - names == set()
+
+
 def test_each_word_that_still_stands_is_there() -> None:
     found = [(name, word) for name, word, _ in in_crates()]
     gone = [it for it in STANDING if not any(word == it[0] and name.startswith(it[1]) for name, word in found)]
@@ -77,6 +110,6 @@ def test_no_page_has_a_word_that_is_not_used() -> None:
 
 
 def test_files_of_the_glossary_are_there() -> None:
-    files = [it for it in quoted(text_of(GLOSSARY)) if it.startswith("stab_")]
+    files = [it for it in quoted(text_of(GLOSSARY)) if re.match(r"stab_\w+/", it)]
     assert len(files) > 30
     assert [it for it in files if not (TOP / "crates" / it).is_file()] == []
