@@ -8,12 +8,12 @@ import numpy as np
 import pytest
 import stabsim
 from stabsim import codes
-from stabsim.circuit import ticks
-from stabsim.circuit.detecting import regions_at
 from stabsim.diagrams import elements, matchgraph, places
 from stabsim.diagrams.layers import layers_of
 from stabsim.diagrams.shapes import palettes, table
 from stabsim.diagrams.slices import most_frequent
+from stabsim.noise.detecting import regions_at
+from stabsim.text import ticks
 
 PICTURES = pathlib.Path(__file__).resolve().parent / "pictures"
 EXAMPLES = pathlib.Path(__file__).resolve().parents[2] / "examples"

@@ -8,14 +8,14 @@ import subprocess
 
 import pytest
 import stabsim
-from stabsim.circuit.ticks import placed
 from stabsim.diagrams import marks, shapes
 from stabsim.diagrams.elements import Glyph, Path
-from stabsim.diagrams.places import Places
 from stabsim.diagrams.layers import layers_of
+from stabsim.diagrams.places import Places
 from stabsim.diagrams.shapes import GATES, table
 from stabsim.diagrams.slices import layer_elements
 from stabsim.text import names
+from stabsim.text.ticks import placed
 
 NODE = shutil.which("node")
 needs_node = pytest.mark.skipif(NODE is None, reason="node is missing")

@@ -7,14 +7,14 @@ import shutil
 import subprocess
 
 import pytest
-from stabsim import codes
-from stabsim.circuit import moments
+from stabsim import codes, page
+from stabsim.text import moments
 from test_regions import CUTS
 
 NODE = shutil.which("node")
 COMPILER = shutil.which("tsc")
 FOLDER = pathlib.Path(__file__).parent / "page_parts"
-STATIC = pathlib.Path(moments.__file__).parent / "static"
+STATIC = pathlib.Path(page.__file__).parent / "static"
 # How the compiler reads the page's modules: their types are in comments, and nothing is written.
 ASKED = {
     "compilerOptions": {"allowJs": True, "checkJs": True, "noEmit": True, "target": "es2022", "module": "es2022", "moduleResolution": "node",

@@ -3,9 +3,9 @@
 import pytest
 import stabsim
 from stabsim import codes
-from stabsim.circuit.moments import marked
 from stabsim.page import table_process
 from stabsim.page.moment_faults import MomentFaults
+from stabsim.text.moments import marked
 
 # The teleportation that docs/use/faults.md works out by hand, a step in each moment: two records control gates on qubit 2.
 TELEPORTATION = """RY 0

@@ -13,10 +13,10 @@ from numpy.typing import NDArray
 
 from stabsim import checking, program
 from stabsim.circuit.described import Described
-from stabsim.circuit.detecting import regions_by_name
 from stabsim.diagrams import Diagram, Kind, Ticks, diagram_of, model_diagram, ticks_of_detectors
 from stabsim.errors import Refused, UnsupportedNoise
 from stabsim.formats import bits
+from stabsim.noise.detecting import regions_by_name
 from stabsim.noise.models import ErrorModel, error_model
 from stabsim.noise.noisy_records import RecordNoise, record_noise_of
 from stabsim.noise.pauli_observables import pauli_observables

@@ -8,8 +8,6 @@ from os import PathLike
 from typing import TYPE_CHECKING, Literal, get_args
 
 from stabsim import checking
-from stabsim.circuit.detecting import names_of, regions_at
-from stabsim.circuit.ticks import Placed, numbers_of, placed
 from stabsim.diagrams.elements import Element
 from stabsim.diagrams.layers import layers_of
 from stabsim.diagrams.matchgraph import Graph, drawn_graph, graph_of, rows_of_faults
@@ -17,6 +15,8 @@ from stabsim.diagrams.places import places_of
 from stabsim.diagrams.slices import Panel, faces_elements, layer_elements, regions_elements, side_by_side
 from stabsim.diagrams.svg import Theme, svg_of
 from stabsim.diagrams.timeline import drawn_timeline, qubits_of
+from stabsim.noise.detecting import names_of, regions_at
+from stabsim.text.ticks import Placed, numbers_of, placed
 
 if TYPE_CHECKING:
     from stabsim.circuit.circuit import Circuit

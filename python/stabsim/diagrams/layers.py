@@ -3,9 +3,9 @@
 from collections.abc import Iterable
 from dataclasses import dataclass
 
-from stabsim.circuit.moments import PAULIS, Acted
-from stabsim.circuit.ticks import Placed
 from stabsim.diagrams.targets import Action, actions_of
+from stabsim.text.moments import PAULIS, Acted
+from stabsim.text.ticks import Placed
 
 # The most layers of one tick that are drawn.
 MOST_LAYERS = 64

@@ -3,8 +3,8 @@
 from collections.abc import Iterator, Sequence
 from dataclasses import dataclass
 
-from stabsim.circuit.moments import PAULIS
 from stabsim.text import names
+from stabsim.text.moments import PAULIS
 from stabsim.text.reading import Instruction
 from stabsim.text.targets import FACTOR
 

@@ -9,10 +9,10 @@ from typing import Any
 import numpy as np
 
 import stabsim
-from stabsim.circuit import moments
 from stabsim.noise.flipped import Flipped, Letters
 from stabsim.noise.pauli_observables import flipped_with_paulis
 from stabsim.page.noise import quiet
+from stabsim.text import moments
 from stabsim.text.reading import Line, lines_of
 
 # Lines, and blocks each as its head, its rounds and what is in it.

@@ -9,9 +9,9 @@ import numpy as np
 from numpy.typing import NDArray
 
 import stabsim
-from stabsim.circuit import moments
 from stabsim.page.at_once import Node, Opened, nodes_of
 from stabsim.page.noise import CHANNEL
+from stabsim.text import moments
 from stabsim.text.reading import Instruction, items_of
 from stabsim.text.sizes import steps_of
 

@@ -1,6 +1,6 @@
 // @ts-check
 // Where items are cut into moments: at each TICK, and in front of an item (its `cut`) that acts on a qubit on which the moment has
-// acted before. circuit/moments.py cuts by the same rules, so that the program's table of faults counts the same moments.
+// acted before. text/moments.py cuts by the same rules, so that the program's table of faults counts the same moments.
 
 import { ROUNDS, derived, multiply, recount } from "./counts.js";
 import { qubitsOf } from "./instructions.js";

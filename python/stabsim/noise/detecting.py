@@ -9,13 +9,13 @@ from typing import TYPE_CHECKING
 import numpy as np
 
 from stabsim import checking
-from stabsim.circuit.ticks import marked_at, numbers_of
 from stabsim.errors import Refused
 from stabsim.noise.flipped import Flipped, Letters
 from stabsim.noise.marking import marked
 from stabsim.noise.pauli_observables import flipped_with_paulis
 from stabsim.questions.flows import pauli_text
 from stabsim.text.reading import items_of
+from stabsim.text.ticks import marked_at, numbers_of
 
 if TYPE_CHECKING:
     from stabsim.circuit.circuit import Circuit
