@@ -12,7 +12,7 @@ from stabsim.page.edits import Edit
 from stabsim.page.moment_faults import MomentFaults
 from stabsim.page.noise import has_noise, quiet
 from stabsim.page.opening import opened, with_noise
-from stabsim.page.ways import Mark, ways_of
+from stabsim.page.mark_ways import Mark, ways_of
 from stabsim.text import names
 
 TEXT = """R 0 1 # all

@@ -6,7 +6,7 @@ import pytest
 import stabsim
 from browsing import needs_browser
 from stabsim import codes
-from stabsim.page.ways import MOST_NAMES, Mark, detector_of, ways_of
+from stabsim.page.mark_ways import MOST_NAMES, Mark, detector_of, ways_of
 from stabsim.text import names
 from stabsim.text.reading import items_of
 from test_page_marks import HAS_TABLE, mark, take_layer

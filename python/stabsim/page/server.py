@@ -20,12 +20,12 @@ from stabsim.page.edits import Edit
 from stabsim.page.files import file_response, guard, page_response
 from stabsim.page.known import NOT_YET, QUESTIONS, Known
 from stabsim.page.lines import repeated, reversed_, taken_out
+from stabsim.page.mark_ways import detector_of, mark_of, ways_of
 from stabsim.page.nearby import outline_of
 from stabsim.page.noise import model_of
 from stabsim.page.opening import Opened, opened, with_noise
 from stabsim.page.rates import RateCount
 from stabsim.page.tabs import Tab
-from stabsim.page.ways import detector_of, mark_of, ways_of
 
 HOST = "127.0.0.1"
 # What is asked of the circuit beside edits.
