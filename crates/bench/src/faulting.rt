@@ -3,7 +3,7 @@ use super::columns::print_row;
 use super::failure::Failure;
 use super::{clock, replaying, running};
 use stab_circuit::{Circuit, Item, Path, read_item};
-use stab_regions::faults;
+use stab_regions::single_errors;
 use stab_session::{Edit, SeedCoins, Session};
 use std::alloc::Global;
 use std::num::nearest_usize_to_f64;
@@ -105,7 +105,7 @@ fn best_table<R: CpuClock + AllocGlobal>(rt: &R, circuit: &Circuit) -> Result<Ta
 /// Makes a table of a circuit's faults, and times that without letting go of the table.
 fn timed_table<R: CpuClock + AllocGlobal>(rt: &R, circuit: &Circuit) -> Result<Table, Failure> {
     let start = clock::now(rt);
-    let table = faults(rt.alloc(), circuit, circuit.qubits(), true)?;
+    let table = single_errors(rt.alloc(), circuit, circuit.qubits(), true)?;
     made_since(rt, start, table.len())
 }
 

@@ -114,7 +114,7 @@ fn perform(tableau: &mut Tableau, work: Work, qubit: usize)
             tableau.apply_pair(PairGate::Cx, qubit, other);
         }
         Work::Measure => measure(tableau, qubit),
-        Work::FreeDistinct => {
+        Work::RandomDistinct => {
             tableau.apply(Gate::H, qubit);
             measure(tableau, qubit);
         }

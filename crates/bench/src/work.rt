@@ -6,7 +6,7 @@ pub enum Work {
     /// The measurement of Z on a qubit.
     Measure,
     /// The gate H and then the measurement of Z, which it makes random, on a qubit by itself.
-    FreeDistinct,
+    RandomDistinct,
 }
 
 /// A work, and how it is timed: in rounds that take about a millisecond or more.
@@ -37,7 +37,7 @@ pub const ALL: &'static [TimedWork] = &[
     },
     TimedWork {
         name: "H, free collapse",
-        work: Work::FreeDistinct,
+        work: Work::RandomDistinct,
         from_zeros: true,
         calls: 4096,
     },

@@ -30,7 +30,7 @@ pub struct Unread {
 
 /// What an indented line belongs to.
 #[derive(Clone, Copy, PartialEq, Eq)]
-enum Place {
+enum Section {
     /// Nothing: no row is open.
     Between,
     /// The row, none of whose texts is open.
@@ -46,7 +46,7 @@ pub fn read_rows(alloc: Global, text: &str) -> Result<Vec<WorkedRow>, Unread>
     ensures with_words { IfOk result (λ rows. All (λ row. 0 < vec_len row.words) rows.items) }
 {
     let mut rows = Vec::new(alloc);
-    let mut place = Place::Between;
+    let mut place = Section::Between;
     let mut number: usize = 0;
     for line in text.lines() {
         number = number.saturating_add(1);
@@ -78,35 +78,40 @@ fn with_words(rows: Vec<WorkedRow>) -> Result<Vec<WorkedRow>, Unread>
 fn take_line(
     alloc: Global,
     rows: &mut Vec<WorkedRow>,
-    place: Place,
+    place: Section,
     number: usize,
     line: &str,
-) -> Result<Place, Wrong> {
+) -> Result<Section, Wrong> {
     if line.is_empty() {
-        return Ok(Place::Between);
+        return Ok(Section::Between);
     }
     if line.starts_with('#') {
         return Ok(place);
     }
     if let Some(name) = line.strip_prefix("row ") {
         rows.push(WorkedRow::new(alloc, number, String::from_str(alloc, name)?))?;
-        return Ok(Place::WorkedRow);
+        return Ok(Section::WorkedRow);
     }
     match rows.last_mut() {
-        Some(row) if place != Place::Between => take_into(alloc, row, place, line),
+        Some(row) if place != Section::Between => take_into(alloc, row, place, line),
         _ => Err(Wrong("a row begins with `row` and its name")),
     }
 }
 
 /// Takes a line into a row.
-fn take_into(alloc: Global, row: &mut WorkedRow, place: Place, line: &str) -> Result<Place, Wrong> {
+fn take_into(
+    alloc: Global,
+    row: &mut WorkedRow,
+    place: Section,
+    line: &str,
+) -> Result<Section, Wrong> {
     if let Some(text) = line.strip_prefix("    ") {
         push_text(alloc, row, place, text)?;
         return Ok(place);
     }
     let (field, value) = line.split_once(' ').unwrap_or((line, ""));
     let next = take_field(alloc, row, field, value)?;
-    if next != Place::WorkedRow && !value.is_empty() {
+    if next != Section::WorkedRow && !value.is_empty() {
         push_text(alloc, row, next, value)?;
     }
     Ok(next)
@@ -118,18 +123,18 @@ fn take_field(
     row: &mut WorkedRow,
     field: &str,
     value: &str,
-) -> Result<Place, Wrong> {
+) -> Result<Section, Wrong> {
     match field {
         "circuit" => {
             row.circuits.push(Vec::new(alloc))?;
-            Ok(Place::Circuit)
+            Ok(Section::Circuit)
         }
-        "script" => Ok(Place::Script),
-        "output" => Ok(Place::Output),
-        "error" => Ok(Place::Error),
+        "script" => Ok(Section::Script),
+        "output" => Ok(Section::Output),
+        "error" => Ok(Section::Error),
         _ => {
             take_value(alloc, row, field, value)?;
-            Ok(Place::WorkedRow)
+            Ok(Section::WorkedRow)
         }
     }
 }
@@ -174,15 +179,15 @@ fn on_failing(value: &str) -> Result<bool, Wrong> {
 }
 
 /// Puts a line after the text that is open.
-fn push_text(alloc: Global, row: &mut WorkedRow, place: Place, line: &str) -> Result<(), Wrong> {
+fn push_text(alloc: Global, row: &mut WorkedRow, place: Section, line: &str) -> Result<(), Wrong> {
     match place {
-        Place::Circuit => match row.circuits.last_mut() {
+        Section::Circuit => match row.circuits.last_mut() {
             Some(circuit) => push_line(alloc, circuit, line),
             None => Err(Wrong("an indented line belongs to no text")),
         },
-        Place::Script => push_line(alloc, &mut row.script, line),
-        Place::Output => push_line(alloc, &mut row.output.bytes, line),
-        Place::Error => push_line(alloc, &mut row.error.bytes, line),
-        Place::Between | Place::WorkedRow => Err(Wrong("an indented line belongs to no text")),
+        Section::Script => push_line(alloc, &mut row.script, line),
+        Section::Output => push_line(alloc, &mut row.output.bytes, line),
+        Section::Error => push_line(alloc, &mut row.error.bytes, line),
+        Section::Between | Section::WorkedRow => Err(Wrong("an indented line belongs to no text")),
     }
 }

@@ -1,5 +1,5 @@
 -- How reading the words of a command line ends.
-use Rattle.stab_args.proofs.Names.{◌≡◌, List, Option, Some, None, option_map, IfOk, true, inl, inr, refl, sym, subst, ap, ap₂, Result, Ok, Err, IfErr, App, HasKind, Row, Text, found_of, is_simple, kind_of, rows_of, subcommand_name_of, subcommand_rows_of, fault_of, box_value, ArgMatches, out-ArgMatches, out-SubCommand, Error, OutOfMemory, KeptNames, stabsim, EndsBy, IsJob, IsReported, RefusesOptions, Takes, Usage, Memory, Job}
+use Rattle.stab_args.proofs.Names.{◌≡◌, List, Option, Some, None, option_map, IfOk, true, inl, inr, refl, sym, subst, ap, ap₂, Result, Ok, Err, IfErr, App, HasKind, Row, Text, found_of, is_simple, kind_of, rows_of, subcommand_name_of, subcommand_rows_of, fault_of, box_value, ArgMatches, out-ArgMatches, out-SubCommand, Error, OutOfMemory, KeptNames, stabsim, EndsBy, IsJob, IsReported, RefusesOptions, TakesCommand, Usage, Memory, Job}
 use Rattle.clap.specs.Faults.{is_simple_and_free}
 
 -- the reader has its own account of these commands
@@ -21,7 +21,7 @@ pub found_command : (matches : ArgMatches) (name : Text) (options : List Row) �
 found_command matches name options = found_both (λ b. ((out-SubCommand (box_value b)).name.now, rows_of (found_of (out-SubCommand (box_value b)).matches))) (out-ArgMatches matches).subcommand name options
 
 -- an end with the job of a command, or with its options refused
-pub ends_with_command : (app : App) (words : List Text) (name : Text) (options : List Row) (result : Result Job Usage) → Takes app words (name, options)
+pub ends_with_command : (app : App) (words : List Text) (name : Text) (options : List Row) (result : Result Job Usage) → TakesCommand app words (name, options)
     → IfOk result (IsJob name options) → IfErr result (RefusesOptions options) → EndsBy app words result
 ends_with_command app words name options (Ok job) takes is refused = ((name, options), takes, is)
 ends_with_command app words name options (Err usage) takes is refused = inr (inr ((name, options), takes, refused))

@@ -27,7 +27,7 @@ pub use Rattle.clap.specs.declared.parser.matches.ArgMatches.{ArgMatches}
 pub use Rattle.clap.specs.declared.parser.matches.ArgMatches.TheViews.{out-ArgMatches, out-SubCommand}
 pub use Rattle.stab_jobs.specs.Limits.{ShotRange}
 pub use Rattle.stab_jobs.specs.declared.job.Job.{Job}
-pub use Rattle.stab_args.specs.Asked.{EndsBy, IsJob, IsReported, RefusesOptions, Takes, IsWritten, beyond_fault}
+pub use Rattle.stab_args.specs.Asked.{EndsBy, IsJob, IsReported, RefusesOptions, TakesCommand, IsWritten, beyond_fault}
 pub use Rattle.stab_args.specs.Coins.{IsFileEnd, StandsForCoins, coin_character, coin_text}
 pub use Rattle.stab_args.specs.Options.{KeptNames, stabsim, most_seed, format_names, letter_names}
 pub use Rattle.stab_args.specs.declared.words.Usage.{Usage}

@@ -9,20 +9,20 @@ use Rattle.std.specs.List.{after_first, before_first}
 use Rattle.std.specs.Prelude.{◌+◌, ◌<◌, ◌^◌, decimal}
 use Rattle.clap.proofs.CutLemmas.{Lacks, after_first-at, before_first-at}
 use Rattle.stab_search.specs.PartNumbers.{PartNumbers, most_parts}
-use Rattle.stab_args.specs.Asked.{IsPart, part_word}
+use Rattle.stab_args.specs.Asked.{IsAskedPart, part_word}
 
 -- what is written of a number has no slash
 decimal_lacks : (n : ℕ) → n < 2 ^ 64 → Lacks 47 (decimal n)
 decimal_lacks n small i less e = omega (arith, digit_at (decimal n) i (decimal_is_IsNumeral n small).0.1 less, e)
 
 -- a part's word is cut at its slash
-cut_front : (p : PartNumbers) → IsPart p → before_first (λ b. b == 47) (part_word p) ≡ decimal (p.index + 1)
+cut_front : (p : PartNumbers) → IsAskedPart p → before_first (λ b. b == 47) (part_word p) ≡ decimal (p.index + 1)
 cut_front p is = before_first-at 47 (decimal (p.index + 1)) (decimal p.count) (decimal_lacks (p.index + 1) (omega (arith, is.0, is.1)))
 
-cut_back : (p : PartNumbers) → IsPart p → after_first (λ b. b == 47) (part_word p) ≡ decimal p.count
+cut_back : (p : PartNumbers) → IsAskedPart p → after_first (λ b. b == 47) (part_word p) ≡ decimal p.count
 cut_back p is = after_first-at 47 (decimal (p.index + 1)) (decimal p.count) (decimal_lacks (p.index + 1) (omega (arith, is.0, is.1)))
 
-pub cut : (word : List ℕ) (x : Bor (List ℕ) × Bor (List ℕ)) → IsSplitOnceResult 47 word (Some x) → (p : PartNumbers) → IsPart p → word ≡ part_word p
+pub cut : (word : List ℕ) (x : Bor (List ℕ) × Bor (List ℕ)) → IsSplitOnceResult 47 word (Some x) → (p : PartNumbers) → IsAskedPart p → word ≡ part_word p
     → (x.0.now ≡ decimal (p.index + 1)) × (x.1.now ≡ decimal p.count)
 cut word x split p is e =
     let parts = split_once_first 47 word (Some x) split (omega arith) in
@@ -33,7 +33,7 @@ some_left : (xs : List ℕ) → 0 < length (47 ∷ xs)
 some_left xs = omega arith
 
 -- a word that is not cut is no part's
-pub uncut : (word : List ℕ) → IsSplitOnceResult 47 word None → (p : PartNumbers) → IsPart p → word ≡ part_word p → ⊥
+pub uncut : (word : List ℕ) → IsSplitOnceResult 47 word None → (p : PartNumbers) → IsAskedPart p → word ≡ part_word p → ⊥
 uncut word split p is e =
     let whole = split_once_first 47 word None split (omega arith) in
     let all : before_first (λ b. b == 47) word ≡ word = take_all _ word (omega (arith, whole)) in
@@ -54,15 +54,15 @@ pub not_unread : {E : Type 0} (r : Result ℕ E) (n : ℕ) (error : E) → r ≡
 not_unread r n error refused read = cc
 
 -- the numbers of a part are not refused
-not_refused : (number count : ℕ) (p : PartNumbers) → IsPart p → number ≡ p.index + 1 → count ≡ p.count → (number ≡ 0) ⊎ ((count < number) ⊎ (most_parts < count)) → ⊥
+not_refused : (number count : ℕ) (p : PartNumbers) → IsAskedPart p → number ≡ p.index + 1 → count ≡ p.count → (number ≡ 0) ⊎ ((count < number) ⊎ (most_parts < count)) → ⊥
 not_refused number count p is one all (inl none) = omega (arith, one, none)
 not_refused number count p is one all (inr (inl less)) = omega (arith, one, all, less, is.0)
 not_refused number count p is one all (inr (inr many)) = omega (arith, all, many, is.1)
 
 -- two numbers that are those of no part
 pub no_part : {A : Type 0} (word first rest : List ℕ) (number count : ℕ) (r : Option A) → first ≡ decimal number → rest ≡ decimal count → number < 2 ^ 64 → count < 2 ^ 64
-    → ((p : PartNumbers) → IsPart p → word ≡ part_word p → (first ≡ decimal (p.index + 1)) × (rest ≡ decimal p.count))
-    → IfNone r ((number ≡ 0) ⊎ ((count < number) ⊎ (most_parts < count))) → IfNone r ((p : PartNumbers) → IsPart p → word ≡ part_word p → ⊥)
+    → ((p : PartNumbers) → IsAskedPart p → word ≡ part_word p → (first ≡ decimal (p.index + 1)) × (rest ≡ decimal p.count))
+    → IfNone r ((number ≡ 0) ⊎ ((count < number) ⊎ (most_parts < count))) → IfNone r ((p : PartNumbers) → IsAskedPart p → word ≡ part_word p → ⊥)
 no_part word first rest number count (Some a) is_first is_rest small few parts why = tt
 no_part word first rest number count None is_first is_rest small few parts why = λ p is e.
     let both = parts p is e in

@@ -78,17 +78,17 @@ IsSource None None seed (Seed number) = IsWritten 0 most_seed seed number
 IsSource coins path seed source = ⊥
 
 -- the first shot is the one that its option writes, and shot 0 if the option isn't given
-abbrev pub IsFirst : Option Text → ℕ → Type 0
-IsFirst None first = first ≡ 0
-IsFirst (Some t) first = IsUnsignedIn 0 last_shot t → first ≡ digits_value 10 (without_leading_plus t)
+abbrev pub IsFirstShot : Option Text → ℕ → Type 0
+IsFirstShot None first = first ≡ 0
+IsFirstShot (Some t) first = IsUnsignedIn 0 last_shot t → first ≡ digits_value 10 (without_leading_plus t)
 
 -- these are the shots that the options ask for
-abbrev pub AreShots : List Row → ShotRange → Type 0
-AreShots options shots = IsFirst (one_of (codes "first_shot") options) shots.first × IsWritten 0 most_shots (one_of (codes "shots") options) shots.number
+abbrev pub AreAskedShots : List Row → ShotRange → Type 0
+AreAskedShots options shots = IsFirstShot (one_of (codes "first_shot") options) shots.first × IsWritten 0 most_shots (one_of (codes "shots") options) shots.number
 
 -- the format and the shots are what their options say
 abbrev pub HasShots : List Row → Format → ShotRange → Type 0
-HasShots options format shots = IsNamed (first_of (codes "out_format") options) format × AreShots options shots
+HasShots options format shots = IsNamed (first_of (codes "out_format") options) format × AreAskedShots options shots
 
 -- a first shot, which is one of a seed, is given beside coins
 abbrev pub first_beside_coins : List Row → Bool
@@ -126,8 +126,8 @@ abbrev pub part_word : PartNumbers → Text
 part_word p = decimal (p.index + 1) ++ (codes "/" ++ decimal p.count)
 
 -- there is such a part
-abbrev pub IsPart : PartNumbers → Type 0
-IsPart p = (p.index < p.count) × (p.count ≤ most_parts)
+abbrev pub IsAskedPart : PartNumbers → Type 0
+IsAskedPart p = (p.index < p.count) × (p.count ≤ most_parts)
 
 -- whether something is asked beside a part of a search: the errors themselves, each observable, the number of least sets, only some errors, one observable, or progress
 abbrev pub is_beside_part : (wcnf table each count : Bool) → DistanceOptions → Bool
@@ -206,7 +206,7 @@ beyond_fault = codes "stabsim: the last shot of a seed is shot 18446744073709551
 -- shots are refused for lack of memory, or if they go beyond the last of a seed
 abbrev pub RefusesShots : List Row → Usage → Type 0
 RefusesShots options Memory = ⊤
-RefusesShots options (Fault line) = (string_bytes line ≡ beyond_fault) × (shots : ShotRange) × AreShots options shots × (shots_of_seed < shots.first + shots.number)
+RefusesShots options (Fault line) = (string_bytes line ≡ beyond_fault) × (shots : ShotRange) × AreAskedShots options shots × (shots_of_seed < shots.first + shots.number)
 RefusesShots options usage = ⊥
 
 -- the line for a table of errors beside what is about a search
@@ -244,7 +244,7 @@ part_fault = codes "stabsim: --part is K/N, of which K is from 1 to N, and N at 
 
 -- a part is asked for, and there is none of this word
 abbrev pub IsNoPart : List Row → Type 0
-IsNoPart options = (word : Text) × (first_of (codes "part") options ≡ Some word) × ((p : PartNumbers) → IsPart p → word ≡ part_word p → ⊥)
+IsNoPart options = (word : Text) × (first_of (codes "part") options ≡ Some word) × ((p : PartNumbers) → IsAskedPart p → word ≡ part_word p → ⊥)
 
 -- the line for a part of a search beside what is not asked with it
 abbrev pub beside_part_fault : Text
@@ -303,15 +303,15 @@ IsReported kind (Help text) = IsMistake kind → ⊥
 IsReported kind (Fault text) = IsMistake kind
 
 -- the command that the words name, with its options, if the reader takes them
-abbrev pub Takes : App → List Text → Text × List Row → Type 0
-Takes app words command = (fault_of app words ≡ []) × (subcommand_of app words ≡ Some command)
+abbrev pub TakesCommand : App → List Text → Text × List Row → Type 0
+TakesCommand app words command = (fault_of app words ≡ []) × (subcommand_of app words ≡ Some command)
 
 -- How reading the words of a command line ends, by the reader's own account of its commands.
 abbrev pub EndsBy : App → List Text → Result Job Usage → Type 0
-EndsBy app words (Ok job) = (command : Text × List Row) × Takes app words command × IsJob command.0 command.1 job
+EndsBy app words (Ok job) = (command : Text × List Row) × TakesCommand app words command × IsJob command.0 command.1 job
 EndsBy app words (Err usage) = (usage ≡ Memory)
     ⊎ (((kind : ErrorKind) × IsAmong kind (fault_of app words) × IsReported kind usage)
-    ⊎ ((command : Text × List Row) × Takes app words command × RefusesOptions command.1 usage))
+    ⊎ ((command : Text × List Row) × TakesCommand app words command × RefusesOptions command.1 usage))
 
 -- How reading the words of a command line ends, wherever the names that options take are kept.
 pub record EndsReading (words : List Text) (result : Result Job Usage) : Type 0 where

@@ -1,7 +1,7 @@
 //! The word of a part of a search, K/N.
 ghost use Rattle.std.specs.Prelude.{◌≡◌, ◌<◌, ◌≤◌, ◌^◌, ℕ, decimal, true, false, IfSome, IfNone};
 ghost use Rattle.stab_search.specs.PartNumbers.{PartNumbers, most_parts};
-ghost use Rattle.stab_args.specs.Asked.{IsPart, part_word};
+ghost use Rattle.stab_args.specs.Asked.{IsAskedPart, part_word};
 
 use itoa::Buffer;
 use stab_search::SearchPart;
@@ -30,7 +30,7 @@ fn number_of(text: &str) -> Option<usize>
 /// The part that a word names, K/N in decimal digits without a needless 0, if there is such a part.
 pub(crate) fn part_of(word: &str) -> Option<SearchPart>
     ensures some { IfSome result (λ p. word.now ≡ part_word p) }
-    ensures none { IfNone result ((p : PartNumbers) → IsPart p → word.now ≡ part_word p → ⊥) }
+    ensures none { IfNone result ((p : PartNumbers) → IsAskedPart p → word.now ≡ part_word p → ⊥) }
 {
     let (number, count) = word.split_once('/')?;
     SearchPart::new(number_of(number)?, number_of(count)?)

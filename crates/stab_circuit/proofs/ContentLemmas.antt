@@ -5,12 +5,12 @@ use Rattle.stab_instructions.specs.declared.axis.Axis.TheVariants as axis
 use Rattle.stab_instructions.specs.declared.control.ControlledPair.TheVariants as pair
 use Rattle.stab_instructions.specs.declared.operation.Kind.TheVariants as kind
 use Rattle.stab_instructions.proofs.BoolLemmas.{both, and_left, and_right}
-use Rattle.stab_instructions.proofs.FreeLemmas.{Each, Free, free-append, each_weaker, digits_free}
+use Rattle.stab_instructions.proofs.LackLemmas.{Each, Lacks, lacks-append, each_weaker, digits_lack}
 use Rattle.stab_instructions.proofs.SureLemmas.{IsQubit, IsMeasured, IsProduct, IsControlled, IsCoordinate, IsGoodKind}
 use Rattle.stab_circuit.proofs.NeatLemmas.{Ends, ends-append, solid_word}
-use Rattle.stab_circuit.proofs.AgainLemmas.{IsWord, AreWords, decimal_digits, decimal_some, target_word, lookback_word, qubits_words, pairs_spaced, pair_qubits_good}
-use Rattle.stab_circuit.proofs.FactorLemmas.{product_free, product_word}
-use Rattle.stab_circuit.proofs.ControlAgainLemmas.{flat, flat_words, controlled_spaced}
+use Rattle.stab_circuit.proofs.ReadBackLemmas.{IsWord, AreWords, decimal_digits, decimal_some, target_word, lookback_word, qubits_words, pairs_spaced, pair_qubits_good}
+use Rattle.stab_circuit.proofs.FactorLemmas.{product_lacks, product_word}
+use Rattle.stab_circuit.proofs.ControlReadBackLemmas.{flat, flat_words, controlled_spaced}
 use Rattle.stab_circuit.proofs.ShapeLemmas.{IsName, MayFollow, name_is}
 
 -- names
@@ -66,7 +66,7 @@ repeat_is = name_is _ _ refl refl
 -- a test that fails on all that targets are made of
 pub record IsClear (p : ℕ → Bool) : Type 0 where
   pub digits : (d : ℕ) → is_digit d ≡ true → p d ≡ false
-  pub marks : Free p (codes "!rec[-]*XYZ")
+  pub marks : Lacks p (codes "!rec[-]*XYZ")
   pub space : p 32 ≡ false
 
 -- nothing, or something that ends without spacing
@@ -85,11 +85,11 @@ well_well xs ys (inr e) f = inr (ends_well xs ys e f)
 pub record AreTargets (text : List ℕ) : Type 0 where
   pub can_follow : MayFollow text
   pub ends : EndsWell text
-  pub free : (p : ℕ → Bool) → IsClear p → Free p text
+  pub lacks : (p : ℕ → Bool) → IsClear p → Lacks p text
 
 -- each of these is printed with such bytes alone
 abbrev AreClear : {X : Type 0} → (X → List ℕ) → List X → Type 0
-AreClear text xs = Each (λ x. (p : ℕ → Bool) → IsClear p → Free p (text x)) xs
+AreClear text xs = Each (λ x. (p : ℕ → Bool) → IsClear p → Lacks p (text x)) xs
 
 spaced_may_follow : {X : Type 0} (text : X → List ℕ) (xs : List X) → MayFollow (spaced text xs)
 spaced_may_follow text [] = tt
@@ -99,50 +99,50 @@ spaced_ends : {X : Type 0} (text : X → List ℕ) (xs : List X) → AreWords te
 spaced_ends text [] w = inl refl
 spaced_ends text (x ∷ xs) w = inr (ends-append (codes " ") (text x ++ spaced text xs) (ends_well (text x) (spaced text xs) (solid_word (text x) w.0.0 w.0.1).ends (spaced_ends text xs w.1)))
 
-spaced_free : {X : Type 0} (text : X → List ℕ) (xs : List X) (p : ℕ → Bool) → IsClear p → AreClear text xs → Free p (spaced text xs)
-spaced_free text [] p c f = tt
-spaced_free text (x ∷ xs) p c f = (c.space, free-append p (text x) (spaced text xs) (f.0 p c) (spaced_free text xs p c f.1))
+spaced_lacks : {X : Type 0} (text : X → List ℕ) (xs : List X) (p : ℕ → Bool) → IsClear p → AreClear text xs → Lacks p (spaced text xs)
+spaced_lacks text [] p c f = tt
+spaced_lacks text (x ∷ xs) p c f = (c.space, lacks-append p (text x) (spaced text xs) (f.0 p c) (spaced_lacks text xs p c f.1))
 
 pub spaced_targets : {X : Type 0} (text : X → List ℕ) (xs : List X) → AreWords text xs → AreClear text xs → AreTargets (spaced text xs)
-spaced_targets text xs w f = record { can_follow = spaced_may_follow text xs; ends = spaced_ends text xs w; free = λ p c. spaced_free text xs p c f }
+spaced_targets text xs w f = record { can_follow = spaced_may_follow text xs; ends = spaced_ends text xs w; lacks = λ p c. spaced_lacks text xs p c f }
 
 no_targets : AreTargets []
-no_targets = record { can_follow = tt; ends = inl refl; free = λ p c. tt }
+no_targets = record { can_follow = tt; ends = inl refl; lacks = λ p c. tt }
 
-decimal_clear : (n : ℕ) → n < 2 ^ 64 → (p : ℕ → Bool) → IsClear p → Free p (decimal n)
-decimal_clear n wide p c = digits_free p (decimal n) c.digits (decimal_digits n wide)
+decimal_clear : (n : ℕ) → n < 2 ^ 64 → (p : ℕ → Bool) → IsClear p → Lacks p (decimal n)
+decimal_clear n wide p c = digits_lack p (decimal n) c.digits (decimal_digits n wide)
 
-mark_clear : (b : Bool) (p : ℕ → Bool) → IsClear p → Free p (mark_text b)
+mark_clear : (b : Bool) (p : ℕ → Bool) → IsClear p → Lacks p (mark_text b)
 mark_clear true p c = (c.marks.0, tt)
 mark_clear false p c = tt
 
-target_clear : (t : MeasureTarget) → IsMeasured t → (p : ℕ → Bool) → IsClear p → Free p (target_text t)
-target_clear t small p c = free-append p (mark_text t.inverted) (decimal t.qubit) (mark_clear t.inverted p c) (decimal_clear t.qubit (omega (arith, small)) p c)
+target_clear : (t : MeasureTarget) → IsMeasured t → (p : ℕ → Bool) → IsClear p → Lacks p (target_text t)
+target_clear t small p c = lacks-append p (mark_text t.inverted) (decimal t.qubit) (mark_clear t.inverted p c) (decimal_clear t.qubit (omega (arith, small)) p c)
 
-lookback_clear : (k : ℕ) → IsLookback k → (p : ℕ → Bool) → IsClear p → Free p (lookback_text k)
+lookback_clear : (k : ℕ) → IsLookback k → (p : ℕ → Bool) → IsClear p → Lacks p (lookback_text k)
 lookback_clear k small p c =
     let m = c.marks in
-    free-append p (codes "rec[-") (decimal k ++ codes "]") (m.1.0, (m.1.1.0, (m.1.1.1.0, (m.1.1.1.1.0, (m.1.1.1.1.1.0, tt)))))
-    (free-append p (decimal k) (codes "]") (decimal_clear k (omega (arith, small.1)) p c) (m.1.1.1.1.1.1.0, tt))
+    lacks-append p (codes "rec[-") (decimal k ++ codes "]") (m.1.0, (m.1.1.0, (m.1.1.1.0, (m.1.1.1.1.0, (m.1.1.1.1.1.0, tt)))))
+    (lacks-append p (decimal k) (codes "]") (decimal_clear k (omega (arith, small.1)) p c) (m.1.1.1.1.1.1.0, tt))
 
 qubit_targets : (qs : List ℕ) → Each IsQubit qs → AreTargets (spaced decimal qs)
 qubit_targets qs g =
-    spaced_targets decimal qs (qubits_words qs g) (each_weaker IsQubit (λ q. (p : ℕ → Bool) → IsClear p → Free p (decimal q)) qs (λ q small. decimal_clear q (omega (arith, small))) g)
+    spaced_targets decimal qs (qubits_words qs g) (each_weaker IsQubit (λ q. (p : ℕ → Bool) → IsClear p → Lacks p (decimal q)) qs (λ q small. decimal_clear q (omega (arith, small))) g)
 
 lookback_targets : (ks : List ℕ) → Each IsLookback ks → AreTargets (spaced lookback_text ks)
 lookback_targets ks g =
     spaced_targets lookback_text ks (each_weaker IsLookback (λ k. IsWord (lookback_text k)) ks lookback_word g)
-    (each_weaker IsLookback (λ k. (p : ℕ → Bool) → IsClear p → Free p (lookback_text k)) ks lookback_clear g)
+    (each_weaker IsLookback (λ k. (p : ℕ → Bool) → IsClear p → Lacks p (lookback_text k)) ks lookback_clear g)
 
-product_clear : (fs : List Factor) → IsProduct fs → (p : ℕ → Bool) → IsClear p → Free p (product_text fs)
+product_clear : (fs : List Factor) → IsProduct fs → (p : ℕ → Bool) → IsClear p → Lacks p (product_text fs)
 product_clear fs g p c =
     let m = c.marks.1.1.1.1.1.1.1 in
-    product_free p c.digits (c.marks.0, (m.1.0, (m.1.1.0, (m.1.1.1.0, tt)))) m.0 fs g.0
+    product_lacks p c.digits (c.marks.0, (m.1.0, (m.1.1.0, (m.1.1.1.0, tt)))) m.0 fs g.0
 
 product_targets : (products : List (List Factor)) → Each IsProduct products → AreTargets (spaced product_text products)
 product_targets products g =
     spaced_targets product_text products (each_weaker IsProduct (λ fs. IsWord (product_text fs)) products product_word g)
-    (each_weaker IsProduct (λ fs. (p : ℕ → Bool) → IsClear p → Free p (product_text fs)) products product_clear g)
+    (each_weaker IsProduct (λ fs. (p : ℕ → Bool) → IsClear p → Lacks p (product_text fs)) products product_clear g)
 
 controlled_clear : (pairs : List ControlledPair) → Each IsControlled pairs → AreClear (λ w. w) (flat pairs)
 controlled_clear [] g = tt
@@ -158,7 +158,7 @@ kind_targets (kind.Controlled axis pairs) g = controlled_targets pairs g
 kind_targets (kind.Swap pairs) g = subst AreTargets (sym (pairs_spaced pairs)) (qubit_targets (pair_qubits pairs) (pair_qubits_good pairs g))
 kind_targets (kind.Measure m targets) g =
     spaced_targets target_text targets (each_weaker IsMeasured (λ t. IsWord (target_text t)) targets target_word g)
-    (each_weaker IsMeasured (λ t. (p : ℕ → Bool) → IsClear p → Free p (target_text t)) targets target_clear g)
+    (each_weaker IsMeasured (λ t. (p : ℕ → Bool) → IsClear p → Lacks p (target_text t)) targets target_clear g)
 kind_targets (kind.Reset axis qubits) g = qubit_targets qubits g
 kind_targets (kind.MeasureProducts products) g = product_targets products g
 kind_targets (kind.Detector located) g = lookback_targets located.1 g.1

@@ -2,9 +2,9 @@
 use Rattle.stab_circuit.proofs.Names.{◌≡◌, ◌<◌, refl, ap, ◌∙◌, ℕ, List, [], ◌∷◌, ◌++◌, Bool, true, false, drop, map, append-nil, arith, codes, if◌then◌else◌, Some, is_some, Ok, Err, slice_split, list_all, decimal, BadTarget, most_qubits, Axis, Factor, ◌>>=◌, each, is_byte, is_digit, is_spacing, starts_with_byte, words, is_some_word, is_number, first_axis, unmarked, is_factor, factor_on, factor_of, names_twice, on_different, product_of, each_after, spaced, mark_text, axis_text, factor_text, product_text}
 use Rattle.stab_instructions.specs.declared.axis.Axis.TheVariants as axis
 use Rattle.stab_instructions.proofs.BoolLemmas.{chosen, passed, both}
-use Rattle.stab_instructions.proofs.FreeLemmas.{Each, Free, drop_none, each_weaker, free-append, digits_free, split_free, split_last}
+use Rattle.stab_instructions.proofs.LackLemmas.{Each, Lacks, drop_none, each_weaker, lacks-append, digits_lack, split_lacking, split_last}
 use Rattle.stab_instructions.proofs.SureLemmas.{IsFactor, IsProduct}
-use Rattle.stab_circuit.proofs.AgainLemmas.{IsWord, decimal_digits, decimal_number, qubit_again, digit_no, spacing_no, each_again, words_again}
+use Rattle.stab_circuit.proofs.ReadBackLemmas.{IsWord, decimal_digits, decimal_number, qubit_again, digit_no, spacing_no, each_again, words_again}
 
 -- a factor: its !, if it has one, its letter and its digits
 abbrev marked_text : Bool → Axis → List ℕ → List ℕ
@@ -65,35 +65,35 @@ all_factors [] g = refl
 all_factors (f ∷ fs) g = both (is_factor (factor_text f)) (list_all is_factor (map factor_text fs)) (is_factor_again f g.0) (all_factors fs g.1)
 
 -- which bytes a factor has
-mark_free : (p : ℕ → Bool) → Free p (codes "!XYZ") → (b : Bool) → Free p (mark_text b)
-mark_free p m true = (m.0, tt)
-mark_free p m false = tt
+mark_lacks : (p : ℕ → Bool) → Lacks p (codes "!XYZ") → (b : Bool) → Lacks p (mark_text b)
+mark_lacks p m true = (m.0, tt)
+mark_lacks p m false = tt
 
-axis_free : (p : ℕ → Bool) → Free p (codes "!XYZ") → (a : Axis) → Free p (axis_text a)
-axis_free p m axis.X = (m.1.0, tt)
-axis_free p m axis.Y = (m.1.1.0, tt)
-axis_free p m axis.Z = (m.1.1.1.0, tt)
+axis_lacks : (p : ℕ → Bool) → Lacks p (codes "!XYZ") → (a : Axis) → Lacks p (axis_text a)
+axis_lacks p m axis.X = (m.1.0, tt)
+axis_lacks p m axis.Y = (m.1.1.0, tt)
+axis_lacks p m axis.Z = (m.1.1.1.0, tt)
 
-factor_free : (p : ℕ → Bool) → ((d : ℕ) → is_digit d ≡ true → p d ≡ false) → Free p (codes "!XYZ") → (f : Factor) → IsFactor f → Free p (factor_text f)
-factor_free p d m f small =
-    free-append p (mark_text f.inverted) (axis_text f.letter ++ decimal f.qubit) (mark_free p m f.inverted)
-    (free-append p (axis_text f.letter) (decimal f.qubit) (axis_free p m f.letter) (digits_free p (decimal f.qubit) d (decimal_digits f.qubit (omega (arith, small)))))
+factor_lacks : (p : ℕ → Bool) → ((d : ℕ) → is_digit d ≡ true → p d ≡ false) → Lacks p (codes "!XYZ") → (f : Factor) → IsFactor f → Lacks p (factor_text f)
+factor_lacks p d m f small =
+    lacks-append p (mark_text f.inverted) (axis_text f.letter ++ decimal f.qubit) (mark_lacks p m f.inverted)
+    (lacks-append p (axis_text f.letter) (decimal f.qubit) (axis_lacks p m f.letter) (digits_lack p (decimal f.qubit) d (decimal_digits f.qubit (omega (arith, small)))))
 
-more_free : (p : ℕ → Bool) → ((d : ℕ) → is_digit d ≡ true → p d ≡ false) → Free p (codes "!XYZ") → p 42 ≡ false → (fs : List Factor) → Each IsFactor fs → Free p (each_after (codes "*") factor_text fs)
-more_free p d m s [] g = tt
-more_free p d m s (f ∷ fs) g = (s, free-append p (factor_text f) (each_after (codes "*") factor_text fs) (factor_free p d m f g.0) (more_free p d m s fs g.1))
+more_lack : (p : ℕ → Bool) → ((d : ℕ) → is_digit d ≡ true → p d ≡ false) → Lacks p (codes "!XYZ") → p 42 ≡ false → (fs : List Factor) → Each IsFactor fs → Lacks p (each_after (codes "*") factor_text fs)
+more_lack p d m s [] g = tt
+more_lack p d m s (f ∷ fs) g = (s, lacks-append p (factor_text f) (each_after (codes "*") factor_text fs) (factor_lacks p d m f g.0) (more_lack p d m s fs g.1))
 
-pub product_free : (p : ℕ → Bool) → ((d : ℕ) → is_digit d ≡ true → p d ≡ false) → Free p (codes "!XYZ") → p 42 ≡ false → (fs : List Factor) → Each IsFactor fs → Free p (product_text fs)
-product_free p d m s [] g = tt
-product_free p d m s (f ∷ fs) g = free-append p (factor_text f) (each_after (codes "*") factor_text fs) (factor_free p d m f g.0) (more_free p d m s fs g.1)
+pub product_lacks : (p : ℕ → Bool) → ((d : ℕ) → is_digit d ≡ true → p d ≡ false) → Lacks p (codes "!XYZ") → p 42 ≡ false → (fs : List Factor) → Each IsFactor fs → Lacks p (product_text fs)
+product_lacks p d m s [] g = tt
+product_lacks p d m s (f ∷ fs) g = lacks-append p (factor_text f) (each_after (codes "*") factor_text fs) (factor_lacks p d m f g.0) (more_lack p d m s fs g.1)
 
 -- a printed product is cut into its factors
-no_star : (f : Factor) → IsFactor f → Free (is_byte 42) (factor_text f)
-no_star f small = factor_free (is_byte 42) (digit_no 42 (omega arith)) (refl, (refl, (refl, (refl, tt)))) f small
+no_star : (f : Factor) → IsFactor f → Lacks (is_byte 42) (factor_text f)
+no_star f small = factor_lacks (is_byte 42) (digit_no 42 (omega arith)) (refl, (refl, (refl, (refl, tt)))) f small
 
 cut_again : (f : Factor) (fs : List Factor) → Each IsFactor (f ∷ fs) → slice_split (is_byte 42) (product_text (f ∷ fs)) ≡ map factor_text (f ∷ fs)
 cut_again f [] g = ap (slice_split (is_byte 42)) (append-nil (factor_text f)) ∙ split_last (is_byte 42) (factor_text f) (no_star f g.0)
-cut_again f (h ∷ fs) g = split_free (is_byte 42) (factor_text f) 42 (product_text (h ∷ fs)) (no_star f g.0) refl ∙ ap (λ l. factor_text f ∷ l) (cut_again h fs g.1)
+cut_again f (h ∷ fs) g = split_lacking (is_byte 42) (factor_text f) 42 (product_text (h ∷ fs)) (no_star f g.0) refl ∙ ap (λ l. factor_text f ∷ l) (cut_again h fs g.1)
 
 product_again : (fs : List Factor) → IsProduct fs → product_of (product_text fs) ≡ Ok fs
 unfolding product_of
@@ -113,7 +113,7 @@ some_front false axis.Z ds rest = grind arith
 pub product_word : (fs : List Factor) → IsProduct fs → IsWord (product_text fs)
 product_word [] g = absurd g.2
 product_word (f ∷ fs) g = (
-  product_free is_spacing spacing_no (refl, (refl, (refl, (refl, tt)))) refl (f ∷ fs) g.0,
+  product_lacks is_spacing spacing_no (refl, (refl, (refl, (refl, tt)))) refl (f ∷ fs) g.0,
   some_front f.inverted f.letter (decimal f.qubit) (each_after (codes "*") factor_text fs),
 )
 

@@ -1,6 +1,6 @@
 -- Targets that are read off the front of several words.
 use Rattle.stab_circuit.proofs.Names.{◌≡◌, ◌<◌, ◌≤◌, ℕ, ◌-◌, Bool, true, false, ◌&&◌, not, ◌==◌, nat_le, nat_lt, nat_eq, List, [], ◌∷◌, length, take, drop, ◌++◌, append_assoc, append-nil, length-drop, refl, sym, ap, ◌∙◌, arith, Ok, Err, if◌then◌else◌, codes, list_all, starts_with, position_or_len, prefix_len, pointwise, length-append, take-append-drop, nat_tests, BadTarget, QubitOutOfRange, most_qubits, most_lookback, is_spacing, is_digit, starts_with_byte, ends_with_byte, trimmed_front, words, is_number, is_some_word, value, ◌>>=◌, qubit_of, measure_target_of, lookback_of, is_lookback, lookback_digits, BeginsWithNumber, is_word_end, BeginsWithTarget}
-use Rattle.stab_instructions.proofs.FreeLemmas.{Free, free-append, digits_free, position_front, free_position, take_front, drop_front, drop_none, ends_with_last}
+use Rattle.stab_instructions.proofs.LackLemmas.{Lacks, lacks-append, digits_lack, position_front, lacks_position, take_front, drop_front, drop_none, ends_with_last}
 use Rattle.stab_instructions.proofs.PieceLemmas.{one_word}
 use Rattle.stab_circuit.proofs.NumberLemmas.{digit_solid}
 use Rattle.stab_instructions.proofs.BoolLemmas.{both, chosen, passed, and_left, and_right}
@@ -66,14 +66,14 @@ some_long : (word : List ℕ) → is_some_word word ≡ true → 0 < length word
 some_long [] h = cc
 some_long (b ∷ bs) h = omega arith
 
-end_place : (word rest : List ℕ) → Free is_spacing word → is_word_end rest ≡ true → position_or_len is_spacing (word ++ rest) ≡ length word
-end_place word [] f e = ap (position_or_len is_spacing) (append-nil word) ∙ free_position is_spacing word f
+end_place : (word rest : List ℕ) → Lacks is_spacing word → is_word_end rest ≡ true → position_or_len is_spacing (word ++ rest) ≡ length word
+end_place word [] f e = ap (position_or_len is_spacing) (append-nil word) ∙ lacks_position is_spacing word f
 end_place word (y ∷ ys) f e = position_front is_spacing word y ys f e
 
 -- a word in front, and what follows it
-pub word_begins : (bs front word rest : List ℕ) → front ≡ trimmed_front bs → front ≡ word ++ rest → Free is_spacing word → is_some_word word ≡ true → is_word_end rest ≡ true → words bs ≡ word ∷ words rest
-word_begins bs front word rest e same free some end =
-    let place : length word ≡ position_or_len is_spacing front = sym (ap (position_or_len is_spacing) same ∙ end_place word rest free end) in
+pub word_begins : (bs front word rest : List ℕ) → front ≡ trimmed_front bs → front ≡ word ++ rest → Lacks is_spacing word → is_some_word word ≡ true → is_word_end rest ≡ true → words bs ≡ word ∷ words rest
+word_begins bs front word rest e same lacks some end =
+    let place : length word ≡ position_or_len is_spacing front = sym (ap (position_or_len is_spacing) same ∙ end_place word rest lacks end) in
     one_word bs front (length word) e (omega (arith, ap length same, length-append word rest, some_long word some)) place
     ∙ ap (λ l. l ∷ words (drop (length word) front)) (ap (take (length word)) same ∙ take_front word rest)
     ∙ ap (λ l. word ∷ words l) (ap (drop (length word)) same ∙ drop_front word rest)
@@ -112,13 +112,13 @@ record_read ds k h v low high =
     (both (is_lookback w && nat_lt 0 (value (lookback_digits w))) _ (both (is_lookback w) _ (record_written ds h) (ap (nat_lt 0) same ∙ below_is 0 k low)) (ap (λ n. nat_le n most_lookback) same ∙ within_is k most_lookback high))
     ∙ ap Ok same
 
-digits_solid : (ds : List ℕ) → list_all is_digit ds ≡ true → Free is_spacing ds
-digits_solid ds h = digits_free is_spacing ds digit_solid h
+digits_solid : (ds : List ℕ) → list_all is_digit ds ≡ true → Lacks is_spacing ds
+digits_solid ds h = digits_lack is_spacing ds digit_solid h
 
-pub record_solid : (ds : List ℕ) → list_all is_digit ds ≡ true → Free is_spacing (record_word ds)
+pub record_solid : (ds : List ℕ) → list_all is_digit ds ≡ true → Lacks is_spacing (record_word ds)
 record_solid ds h =
-    free-append is_spacing (codes "rec[-") (ds ++ codes "]") (refl, (refl, (refl, (refl, (refl, tt)))))
-    (free-append is_spacing ds (codes "]") (digits_solid ds h) (refl, tt))
+    lacks-append is_spacing (codes "rec[-") (ds ++ codes "]") (refl, (refl, (refl, (refl, (refl, tt)))))
+    (lacks-append is_spacing ds (codes "]") (digits_solid ds h) (refl, tt))
 
 pub some_value : (ds : List ℕ) → 0 < value ds → is_some_word ds ≡ true
 some_value [] h = absurd (omega arith)

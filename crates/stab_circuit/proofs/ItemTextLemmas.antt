@@ -2,7 +2,7 @@
 use Rattle.stab_circuit.proofs.Names.{◌≡◌, ◌≤◌, ap, refl, sym, ◌∙◌, subst, ℕ, List, [], Bool, true, false, nat_lt, length, Option, None, Some, Ok, arith, if◌then◌else◌, list_all, slice_split, BadLine, Fault, whole, is_byte, Items, OneItem, operation, repeat, before, done, next, block, Joins, most_bytes, contents, meanings, fault_from, one_item, is_empty, item_fault, StandsForOne, before_reading, read_on, StandsForOneOnly, AreLinesOf}
 use Rattle.stab_circuit.proofs.ReadingLemmas.{one_list, some_list, read_joined}
 use Rattle.stab_circuit.proofs.OneItemLemmas.{read_blank, read_one, same_meanings, size}
-use Rattle.stab_circuit.proofs.RoundLemmas.{limit_case, text_lines, parts_free}
+use Rattle.stab_circuit.proofs.RoundLemmas.{limit_case, text_lines, parts_lack}
 
 -- a text without a fault has a line that is not blank, and its lines have no fault
 some_line : (b : Bool) (f : Option Fault) → (if b then Some (whole BadLine) else f) ≡ None → (b ≡ false) × (f ≡ None)
@@ -50,7 +50,7 @@ lines_clean text e = ap (fault_from 1 []) (sym (lines_same text e)) ∙ (item_li
 -- the lines of one item's text
 pub item_is_lines : (text : List ℕ) (item : OneItem) → StandsForOne text item → AreLinesOf (slice_split (is_byte 10) text) (before item done)
 item_is_lines text item s =
-    record { each = text_lines (slice_split (is_byte 10) text) (parts_free (is_byte 10) text); faultless = lines_clean text s.0; joined = s.1 }
+    record { each = text_lines (slice_split (is_byte 10) text) (parts_lack (is_byte 10) text); faultless = lines_clean text s.0; joined = s.1 }
 
 pub one_item_text : (text : List ℕ) → item_fault text ≡ None → (item : OneItem) × StandsForOneOnly text item
 one_item_text text e =

@@ -6,9 +6,9 @@ mod DetectorLemmas
 mod ProductLemmas
 mod FrontTargetLemmas
 mod ControlLemmas
-mod AgainLemmas
+mod ReadBackLemmas
 mod FactorLemmas
-mod ControlAgainLemmas
+mod ControlReadBackLemmas
 mod NeatLemmas
 mod ShapeLemmas
 mod ContentLemmas
@@ -19,7 +19,7 @@ mod PlainLineLemmas
 mod EmptyLemmas
 mod LineRefusalLemmas
 pub mod LineLaws
-pub mod FrontLemmas
+pub mod FirstLineLemmas
 mod LinePieceLemmas
 pub mod KnownLineLemmas
 pub mod ReaderLemmas

@@ -1,7 +1,7 @@
 -- The laws of lines.
 use Rattle.stab_circuit.proofs.Names.{◌≡◌, refl, ap, ◌∙◌, subst, ℕ, ◌+◌, zero, suc, true, List, [], ◌∷◌, ◌++◌, drop, replicate, append-nil, arith, codes, Ok, Err, before_first, prefix_len, Refusal, Line, Blank, Close, Open, is_byte, is_spacing, trimmed, trimmed_front, trimmed_end, content_of, meaning_of, is_of_line, IsLine, line_printed, Says}
 use Rattle.stab_instructions.specs.declared.operation.Line.TheVariants as line
-use Rattle.stab_instructions.proofs.FreeLemmas.{free_spaces, before_free, any_free}
+use Rattle.stab_instructions.proofs.LackLemmas.{lacks_spaces, before_lacking, any_lacking}
 use Rattle.stab_instructions.proofs.SureLemmas.{IsGoodLine}
 use Rattle.stab_instructions.proofs.GoodLineLemmas.{line_good}
 use Rattle.stab_circuit.proofs.NeatLemmas.{IsNeat, content_again}
@@ -22,12 +22,12 @@ spaces_left : (n : ℕ) → content_of (replicate n 32 ++ []) ≡ []
 unfolding content_of
 spaces_left n =
     ap (λ l. trimmed (before_first (is_byte 35) l)) (append-nil (replicate n 32))
-    ∙ ap trimmed (before_free (is_byte 35) (replicate n 32) (free_spaces 35 n refl))
+    ∙ ap trimmed (before_lacking (is_byte 35) (replicate n 32) (lacks_spaces 35 n refl))
     ∙ ap trimmed_end (spaces_trimmed n)
 
 -- a neat content says what it means
 said : (content : List ℕ) (m : Line) → IsNeat content → meaning_of content ≡ Ok m → Says content m
-said content m n e = record { one_line = any_free (is_byte 10) content n.lines; left = λ k. content_again k content n; means = e }
+said content m n e = record { one_line = any_lacking (is_byte 10) content n.lines; left = λ k. content_again k content n; means = e }
 
 pub good_said : (m : Line) → IsGoodLine m → Says (line_printed m) m
 good_said Blank g = record { one_line = refl; left = spaces_left; means = empty_blank }

@@ -7,11 +7,11 @@ use Rattle.stab_instructions.specs.declared.name.Name.TheVariants as name
 use Rattle.stab_instructions.specs.declared.operation.Kind.TheVariants as kind
 use Rattle.stab_instructions.specs.declared.operation.Line.TheVariants as line
 use Rattle.stab_instructions.proofs.BoolLemmas.{chosen, passed}
-use Rattle.stab_instructions.proofs.FreeLemmas.{Each, Free, free-append, digits_free, split_free, tag_free}
+use Rattle.stab_instructions.proofs.LackLemmas.{Each, Lacks, lacks-append, digits_lack, split_lacking, tag_lacks}
 use Rattle.stab_instructions.proofs.SureLemmas.{IsCount, IsCoordinate, IsGoodKind, IsTag}
-use Rattle.stab_circuit.proofs.AgainLemmas.{decimal_digits, decimal_number, decimal_some, decimal_word, arguments_again, qubits_again, targets_again, lookbacks_again, pairs_again, pairs_spaced, pair_qubits_good, coordinate_again, count_again, observable_again, each_again, same_map}
+use Rattle.stab_circuit.proofs.ReadBackLemmas.{decimal_digits, decimal_number, decimal_some, decimal_word, arguments_again, qubits_again, targets_again, lookbacks_again, pairs_again, pairs_spaced, pair_qubits_good, coordinate_again, count_again, observable_again, each_again, same_map}
 use Rattle.stab_circuit.proofs.FactorLemmas.{products_again}
-use Rattle.stab_circuit.proofs.ControlAgainLemmas.{controlled_pairs_again}
+use Rattle.stab_circuit.proofs.ControlReadBackLemmas.{controlled_pairs_again}
 use Rattle.stab_circuit.proofs.ShapeLemmas.{IsName, inner_of, shape_again, open_shape_again}
 use Rattle.stab_circuit.proofs.ContentLemmas.{IsClear, kind_is, repeat_is, kind_targets, kind_coordinates}
 
@@ -164,7 +164,7 @@ operation_again op g t =
     let s = shape_for op.tag k in
     let targets = kind_targets k g in
     headed_means (kind_name k) op.tag _ (kind_is k)
-    ∙ ap (λ r. r >>= shape_meaning) (shape_again (kind_name k) op.tag (kind_arguments k) (targets_text k) (kind_is k) (tag_free op.tag t).2 (kind_coordinates k g) targets.can_follow (targets.free is_brace no_braces))
+    ∙ ap (λ r. r >>= shape_meaning) (shape_again (kind_name k) op.tag (kind_arguments k) (targets_text k) (kind_is k) (tag_lacks op.tag t).2 (kind_coordinates k g) targets.can_follow (targets.lacks is_brace no_braces))
     ∙ ap (λ r. r >>= named_line s) (kind_name_again k)
     ∙ ap (λ r. r >>= λ kind. without_open s (Ok (line.Operation (record { kind = kind; tag = op.tag })))) (kind_again op.tag k g)
 
@@ -173,7 +173,7 @@ count_word : (n : ℕ) → n < 2 ^ 64 → words (codes " " ++ (decimal n ++ code
 count_word n wide =
     ap (filter is_some_word)
     (slice_split-cons_yes is_spacing 32 (decimal n ++ codes " ") refl
-    ∙ ap (λ l. [] ∷ l) (split_free is_spacing (decimal n) 32 [] (decimal_word n wide).0 refl))
+    ∙ ap (λ l. [] ∷ l) (split_lacking is_spacing (decimal n) 32 [] (decimal_word n wide).0 refl))
     ∙ ap (λ b. if b then decimal n ∷ [] else []) (decimal_some n wide)
 
 pub open_again : (n : ℕ) (tag : List ℕ) → IsCount n → IsTag tag → meaning_of (open_text n tag) ≡ Ok (Open n tag)
@@ -183,10 +183,10 @@ open_again n tag c t =
     let front = codes " " ++ (decimal n ++ codes " ") in
     let s : Shape = record { name = codes "REPEAT"; tag = tag; arguments = []; targets = front; opens = true } in
     let flat : codes " " ++ (decimal n ++ codes " {") ≡ front ++ 123 ∷ [] = ap (λ l. 32 ∷ l) (sym (append_assoc (decimal n) (codes " ") (123 ∷ []))) in
-    let free : Free is_brace front = (refl, free-append is_brace (decimal n) (codes " ") (digits_free is_brace (decimal n) no_braces.digits (decimal_digits n wide)) (refl, tt)) in
+    let lacks : Lacks is_brace front = (refl, lacks-append is_brace (decimal n) (codes " ") (digits_lack is_brace (decimal n) no_braces.digits (decimal_digits n wide)) (refl, tt)) in
     headed_means (codes "REPEAT") tag _ repeat_is
     ∙ ap (λ l. shape_of (head_text (codes "REPEAT") tag ++ l) >>= shape_meaning) flat
-    ∙ ap (λ r. r >>= shape_meaning) (open_shape_again (codes "REPEAT") tag front repeat_is (tag_free tag t).2 refl free)
+    ∙ ap (λ r. r >>= shape_meaning) (open_shape_again (codes "REPEAT") tag front repeat_is (tag_lacks tag t).2 refl lacks)
     ∙ ap (λ r. r >>= named_line s) repeat_again
     ∙ ap (λ ws. each count_of ws >>= λ counts. opening_of s (only_count counts)) (count_word n wide)
     ∙ ap (λ r. (r >>= λ first. Ok (first ∷ [])) >>= λ counts. opening_of s (only_count counts)) (count_again n c)

@@ -62,7 +62,7 @@ pub use Rattle.std.specs.Result.{IsErrAnd, IfErr}
 pub use Rattle.stab_io.specs.declared.refusal.Fault.{Fault}
 pub use Rattle.stab_instructions.proofs.BoolLemmas.{chosen, passed, and_left, and_right, both}
 pub use lib.Dec.{eqb}
-pub use Rattle.stab_items.specs.Circuits.{Meaning, at_line, meaning_after, one_item, depth_after, ends_item, line_meanings, Joins, nothing, blank_line, operation_line, block_lines, fault_from, text_fault, StandsFor, most_bytes, contents, meanings, is_empty, item_fault, StandsForOne, limited}
+pub use Rattle.stab_items.specs.Circuits.{Meaning, at_line, meaning_after, one_item, depth_after, ends_item, line_meanings, Joins, nothing, blank_line, operation_line, block_lines, fault_from, text_fault, StandsFor, most_bytes, contents, meanings, is_empty, item_fault, StandsForOne, limited, AreLinesOf}
 pub use Rattle.stab_items.specs.Items.{OneItem, Items, operation, repeat, done, next, block, before, listed, join, depth, entries, AreGood}
 pub use Rattle.stab_items.specs.Nothings.{IsNothing}
 pub use Rattle.stab_items.specs.Prints.{PrintedLine, printed_lines, text_of, printed}
@@ -74,8 +74,8 @@ pub use Rattle.stab_circuit.specs.declared.stretches.Stretch.{Stretch}
 pub use Rattle.stab_circuit.specs.inner.KnownLines.{IsOneLine, IsCut, BeginsWithItem, IsKnownLine, IsMeant}
 pub use Rattle.stab_circuit.specs.inner.Readers.{Progress, is_whole, meaning_at, OpenBlock, closed, stepped, finished, read_on, is_some_items, pending, ReadsItems, IsShallowProgress, open_block_of, open_blocks_of, kept_progress, closing, progress_of, reading, before_reading}
 pub use Rattle.stab_items.specs.Edits.{outermost, with_item, rebuilt, edited_inside, changed, edited_in, edited, taken_in, taken, list_verdict, verdict, inner, edit_path, taken_at, put_item, steps_in, steps_before, first_changed, after_taken, after_put}
-pub use Rattle.stab_circuit.specs.inner.Stretches.{Ran, reading_on, outside, Reads, items_of, IsStretch, KeepsStretches, IsRunOf, IsRun, IsEnded, RunsOn, AreStretches}
-pub use Rattle.stab_instructions.proofs.FreeLemmas.{Each, each-append, Free, free-append, free_spaces, free_any, any_free, split_free}
+pub use Rattle.stab_circuit.specs.inner.Stretches.{Ran, reading_on, read_outside, ReadsAhead, items_of, IsLineStretch, KeepsStretches, IsRunOf, IsLineRun, IsEnded, RunsOn, AreLineStretches}
+pub use Rattle.stab_instructions.proofs.LackLemmas.{Each, each-append, Lacks, lacks-append, lacks_spaces, lacks_any, any_lacking, split_lacking}
 pub use Rattle.stab_instructions.proofs.GoodLineLemmas.{line_good}
 pub use Rattle.stab_instructions.specs.Rules.{IsGoodKind, IsGoodLine, IsTag}
 pub use Rattle.std.proofs.lemmas.Option.{slice_get_within}
@@ -85,10 +85,10 @@ pub use Rattle.stab_io.specs.Refusals.{whole, Refuses, IsCallFault}
 pub use Rattle.stab_items.proofs.ItemLemmas.{listed-append, depth-join, join_done, join_assoc, listed_pushed, no_length}
 pub use Rattle.stab_items.proofs.SummaryLemmas.{past_named-join}
 pub use Rattle.stab_circuit.specs.Inputs.{GaveTooMuch, GaveFront, ReadsText}
-pub use Rattle.stab_circuit.specs.Laws.{StandsForOneOnly, AreLinesOf, AreOfLines, IsReadBack, PutsLines}
+pub use Rattle.stab_circuit.specs.Laws.{StandsForOneOnly, AreOfLines, IsReadBack, PutsLines}
 pub use Rattle.stab_items.specs.Paths.{Path}
 pub use Rattle.stab_items.specs.Views.{circuit_items}
-pub use Rattle.stab_circuit.specs.Readings.{IsCircuit, IsFaultOf, IsRefused, has_line, ReadsCircuit, IsPlaced, is_of_circuit, is_of_item}
+pub use Rattle.stab_circuit.specs.Readings.{IsCircuit, IsFaultOf, IsRefused, has_line, ReadsCircuit, HasLine, is_of_circuit, is_of_item}
 pub use Rattle.stab_items.specs.Rounds.{interleaved, rounds_in, round_pieces, pieces_in, pieces, HaveRounds, item_steps, steps_between, ChangesEachRound}
 pub use Rattle.stab_items.specs.Splits.{parts_of_block, parts_of_item, with_parts, split_in, split, rounds_as_block}
 pub use Rattle.stab_items.specs.declared.edit.Edit.{Edit}

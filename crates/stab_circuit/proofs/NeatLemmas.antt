@@ -1,6 +1,6 @@
 -- Contents that begin and end without spacing.
 use Rattle.stab_circuit.proofs.Names.{◌≡◌, refl, ap, sym, ◌∙◌, ℕ, ◌+◌, ◌-◌, zero, suc, List, [], ◌∷◌, ◌++◌, Bool, true, false, not, length, take, drop, take_all, reverse, replicate, append_assoc, arith, prefix_len, suffix_len, reverse-append, is_byte, is_spacing, trimmed, trimmed_front, trimmed_end, content_of, is_some_word}
-use Rattle.stab_instructions.proofs.FreeLemmas.{Free, free-append, free_spaces, prefix_no, before_free}
+use Rattle.stab_instructions.proofs.LackLemmas.{Lacks, lacks-append, lacks_spaces, prefix_no, before_lacking}
 
 -- the last byte is no spacing
 pub record Ends (core : List ℕ) : Type 0 where
@@ -23,7 +23,7 @@ ends-append xs ys e = record { init = xs ++ e.init; last = e.last; back = ap (λ
 pub ends_one : (xs : List ℕ) (x : ℕ) → is_spacing x ≡ false → Ends (xs ++ x ∷ [])
 ends_one xs x e = record { init = xs; last = x; back = refl; closed = e }
 
-ends_word : (x : ℕ) (xs : List ℕ) → Free is_spacing (x ∷ xs) → Ends (x ∷ xs)
+ends_word : (x : ℕ) (xs : List ℕ) → Lacks is_spacing (x ∷ xs) → Ends (x ∷ xs)
 ends_word x [] f = ends_one [] x f.0
 ends_word x (y ∷ ys) f = ends-append (x ∷ []) (y ∷ ys) (ends_word y ys f.1)
 
@@ -31,7 +31,7 @@ some_more : (b : Bool) → b ≡ true → not b ≡ true → ⊥
 some_more true e h = cc
 some_more false e h = cc
 
-pub solid_word : (w : List ℕ) → Free is_spacing w → is_some_word w ≡ true → IsSolid w
+pub solid_word : (w : List ℕ) → Lacks is_spacing w → is_some_word w ≡ true → IsSolid w
 solid_word [] f h = absurd (some_more true refl h)
 solid_word (x ∷ xs) f h = record { first = x; rest = xs; front = refl; solid = f.0; ends = ends_word x xs f }
 
@@ -54,12 +54,12 @@ trimmed_again n core s = ap trimmed_end (front_trimmed n core s.first s.rest s.f
 
 -- a content as it is printed: no line end, no comment, and no spacing at its ends
 pub record IsNeat (core : List ℕ) : Type 0 where
-  pub lines : Free (is_byte 10) core
-  pub comments : Free (is_byte 35) core
+  pub lines : Lacks (is_byte 10) core
+  pub comments : Lacks (is_byte 35) core
   pub solid : IsSolid core
 
 -- an indented content is what is left of its line
 pub content_again : (n : ℕ) (core : List ℕ) → IsNeat core → content_of (replicate n 32 ++ core) ≡ core
 unfolding content_of
 content_again n core neat =
-    ap trimmed (before_free (is_byte 35) (replicate n 32 ++ core) (free-append (is_byte 35) (replicate n 32) core (free_spaces 35 n refl) neat.comments)) ∙ trimmed_again n core neat.solid
+    ap trimmed (before_lacking (is_byte 35) (replicate n 32 ++ core) (lacks-append (is_byte 35) (replicate n 32) core (lacks_spaces 35 n refl) neat.comments)) ∙ trimmed_again n core neat.solid

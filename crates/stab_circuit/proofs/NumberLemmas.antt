@@ -1,7 +1,7 @@
 -- Numbers that are the first of several words.
 use Rattle.stab_circuit.proofs.Names.{◌≡◌, ◌<◌, ◌≤◌, ℕ, zero, suc, Bool, true, false, List, [], ◌∷◌, length, take, drop, get_or, refl, sym, ap, subst, ◌∙◌, arith, drop-cons, length-take, position_or_len, list_all, nat_tests, get_or-take, position_or_len_is, list_all_at, is_spacing, is_digit, trimmed_front, is_some_word, value, is_word_end, BeginsWithNumber, IsAfterWord}
 use Rattle.stab_instructions.proofs.BoolLemmas.{both, and_left}
-use Rattle.stab_instructions.proofs.FreeLemmas.{prefix_no}
+use Rattle.stab_instructions.proofs.LackLemmas.{prefix_no}
 use Rattle.stab_instructions.proofs.PieceLemmas.{one_word, rest_shorter}
 
 -- a digit is no spacing

@@ -5,12 +5,12 @@ use Rattle.stab_instructions.specs.declared.name.Name.TheVariants as name
 use Rattle.stab_instructions.specs.declared.operation.Kind.TheVariants as kind
 use Rattle.stab_instructions.specs.declared.operation.Line.TheVariants as line
 use Rattle.stab_instructions.proofs.BoolLemmas.{both, and_left, and_right}
-use Rattle.stab_instructions.proofs.FreeLemmas.{Each, Free, free-append, split_free, split_last, digits_free}
-use Rattle.stab_circuit.proofs.AgainLemmas.{AreWords, words_again, same_map, spacing_no}
+use Rattle.stab_instructions.proofs.LackLemmas.{Each, Lacks, lacks-append, split_lacking, split_last, digits_lack}
+use Rattle.stab_circuit.proofs.ReadBackLemmas.{AreWords, words_again, same_map, spacing_no}
 use Rattle.stab_circuit.proofs.NeatLemmas.{IsNeat, content_again}
 use Rattle.stab_circuit.proofs.ShapeLemmas.{IsName, name_is, shape_again}
 use Rattle.stab_circuit.proofs.ContentLemmas.{IsClear, AreTargets, spaced_targets, ends_well}
-use Rattle.stab_circuit.proofs.PrintedLemmas.{head_free, line_ends_outer, comments_outer, headed_solid, head_ends}
+use Rattle.stab_circuit.proofs.PrintedLemmas.{head_lacks, line_ends_outer, comments_outer, headed_solid, head_ends}
 use Rattle.stab_circuit.proofs.MeaningLemmas.{headed_means, no_braces}
 
 take_none : (xs : List ℕ) → take 0 xs ≡ []
@@ -29,25 +29,25 @@ all_front p [] = refl
 all_front p (x ∷ xs) = all_cut p x xs (p x) refl (all_front p xs)
 
 -- a text is cut after its first line
-line_split : (first rest : List ℕ) (after : Option (List ℕ)) → Free (is_byte 10) first → EndsLine rest after → slice_split (is_byte 10) (first ++ rest) ≡ first ∷ pieces_after 10 after
+line_split : (first rest : List ℕ) (after : Option (List ℕ)) → Lacks (is_byte 10) first → EndsLine rest after → slice_split (is_byte 10) (first ++ rest) ≡ first ∷ pieces_after 10 after
 line_split first rest None f e = ap (λ l. slice_split (is_byte 10) (first ++ l)) e ∙ ap (slice_split (is_byte 10)) (append-nil first) ∙ split_last (is_byte 10) first f
-line_split first rest (Some after) f e = ap (λ l. slice_split (is_byte 10) (first ++ l)) e ∙ split_free (is_byte 10) first 10 after f refl
+line_split first rest (Some after) f e = ap (λ l. slice_split (is_byte 10) (first ++ l)) e ∙ split_lacking (is_byte 10) first 10 after f refl
 
 -- numbers are words
 number_words : (ws : List (List ℕ)) → list_all is_number ws ≡ true → AreWords (λ w. w) ws
 number_words [] h = tt
 number_words (w ∷ ws) h =
     let number : is_number w ≡ true = and_left (is_number w) (list_all is_number ws) h in
-    ((digits_free _ w spacing_no (and_right (is_some_word w) _ number), and_left (is_some_word w) _ number), number_words ws (and_right (is_number w) (list_all is_number ws) h))
+    ((digits_lack _ w spacing_no (and_right (is_some_word w) _ number), and_left (is_some_word w) _ number), number_words ws (and_right (is_number w) (list_all is_number ws) h))
 
 plain_words : (ws : List (List ℕ)) → list_all is_number ws ≡ true → words (spaced_words ws) ≡ ws
 plain_words ws h = words_again (λ w. w) ws (number_words ws h) ∙ same_map ws
 
 -- numbers are digits alone
-number_clear : (ws : List (List ℕ)) → list_all is_number ws ≡ true → Each (λ w. (p : ℕ → Bool) → IsClear p → Free p w) ws
+number_clear : (ws : List (List ℕ)) → list_all is_number ws ≡ true → Each (λ w. (p : ℕ → Bool) → IsClear p → Lacks p w) ws
 number_clear [] h = tt
 number_clear (w ∷ ws) h = (
-  λ p c. digits_free p w c.digits (and_right (is_some_word w) _ (and_left (is_number w) (list_all is_number ws) h)),
+  λ p c. digits_lack p w c.digits (and_right (is_some_word w) _ (and_left (is_number w) (list_all is_number ws) h)),
   number_clear ws (and_right (is_number w) (list_all is_number ws) h),
 )
 
@@ -144,8 +144,8 @@ plain_line name ws = head_text name [] ++ spaced_words ws
 plain_neat : (name : List ℕ) (ws : List (List ℕ)) → IsName name → list_all is_number ws ≡ true → IsNeat (plain_line name ws)
 plain_neat name ws n h =
     let targets = plain_targets ws h in record {
-      lines = free-append (is_byte 10) (head_text name []) (spaced_words ws) (head_free (is_byte 10) line_ends_outer name [] n tt) (targets.free (is_byte 10) line_ends_outer.targets);
-      comments = free-append (is_byte 35) (head_text name []) (spaced_words ws) (head_free (is_byte 35) comments_outer name [] n tt) (targets.free (is_byte 35) comments_outer.targets);
+      lines = lacks-append (is_byte 10) (head_text name []) (spaced_words ws) (head_lacks (is_byte 10) line_ends_outer name [] n tt) (targets.lacks (is_byte 10) line_ends_outer.targets);
+      comments = lacks-append (is_byte 35) (head_text name []) (spaced_words ws) (head_lacks (is_byte 35) comments_outer name [] n tt) (targets.lacks (is_byte 35) comments_outer.targets);
       solid = headed_solid name [] (spaced_words ws) n (ends_well (head_text name []) (spaced_words ws) (head_ends name [] n) targets.ends);
     }
 
@@ -157,7 +157,7 @@ plain_means text ws i k n h named does =
     let targets = plain_targets ws h in
     ap meaning_of (content_again 0 (plain_line text ws) (plain_neat text ws n h))
     ∙ headed_means text [] (spaced_words ws) n
-    ∙ ap (λ r. r >>= shape_meaning) (shape_again text [] [] (spaced_words ws) n tt tt targets.can_follow (targets.free is_brace no_braces))
+    ∙ ap (λ r. r >>= shape_meaning) (shape_again text [] [] (spaced_words ws) n tt tt targets.can_follow (targets.lacks is_brace no_braces))
     ∙ ap (λ r. r >>= named_line s) named
     ∙ ap (λ r. r >>= λ what. without_open s (Ok (line.Operation (record { kind = what; tag = [] })))) does
 

@@ -1,10 +1,10 @@
 -- Printed contents hold no line end and no comment, and begin and end without spacing.
 use Rattle.stab_circuit.proofs.Names.{◌≡◌, refl, ap, ◌∙◌, ℕ, ◌<◌, ◌≤◌, ◌==◌, List, [], ◌∷◌, ◌++◌, Bool, true, false, arith, codes, inl, inr, decimal, nat_tests, Operation, is_byte, is_digit, is_spacing, is_letter, is_name_byte, is_some_word, is_coordinate_byte, kind_name, tag_text, arguments_text, kind_arguments, targets_text, head_text, operation_text, open_text}
-use Rattle.stab_instructions.proofs.FreeLemmas.{Each, Free, free-append, each_weaker, digits_free, tag_free}
+use Rattle.stab_instructions.proofs.LackLemmas.{Each, Lacks, lacks-append, each_weaker, digits_lack, tag_lacks}
 use Rattle.stab_instructions.proofs.SureLemmas.{IsCount, IsCoordinate, IsGoodKind, IsTag}
 use Rattle.stab_circuit.proofs.NeatLemmas.{Ends, IsSolid, IsNeat, ends-append, ends_one, solid_word}
-use Rattle.stab_circuit.proofs.AgainLemmas.{decimal_digits, coordinate_free, further}
-use Rattle.stab_circuit.proofs.ShapeLemmas.{IsName, free_further}
+use Rattle.stab_circuit.proofs.ReadBackLemmas.{decimal_digits, coordinate_lacks, further}
+use Rattle.stab_circuit.proofs.ShapeLemmas.{IsName, lacks_further}
 use Rattle.stab_circuit.proofs.ContentLemmas.{IsClear, EndsWell, ends_well, well_well, kind_is, repeat_is, kind_targets, kind_coordinates}
 
 -- a test that fails on all bytes that are printed, but perhaps on those of tags
@@ -20,7 +20,7 @@ pub record IsOuter (p : ℕ → Bool) : Type 0 where
   brace : p 123 ≡ false
 
 -- a test for a byte in front of those of numbers and names
-outer : (m : ℕ) → m < 40 → Free (is_byte m) (codes "!rec[-]*XYZ") → is_byte m 32 ≡ false → IsOuter (is_byte m)
+outer : (m : ℕ) → m < 40 → Lacks (is_byte m) (codes "!rec[-]*XYZ") → is_byte m 32 ≡ false → IsOuter (is_byte m)
 outer m small marks space = record {
   names = name_no;
   coordinates = coordinate_no;
@@ -51,30 +51,30 @@ line_ends_outer = outer 10 (omega arith) (refl, (refl, (refl, (refl, (refl, (ref
 pub comments_outer : IsOuter (is_byte 35)
 comments_outer = outer 35 (omega arith) (refl, (refl, (refl, (refl, (refl, (refl, (refl, (refl, (refl, (refl, (refl, tt))))))))))) refl
 
-tag_text_free : (p : ℕ → Bool) → IsOuter p → (tag : List ℕ) → Free p tag → Free p (tag_text tag)
-tag_text_free p o [] f = tt
-tag_text_free p o (b ∷ bs) f = (o.open_tag, free-append p (b ∷ bs) (codes "]") f (o.close_tag, tt))
+tag_text_lacks : (p : ℕ → Bool) → IsOuter p → (tag : List ℕ) → Lacks p tag → Lacks p (tag_text tag)
+tag_text_lacks p o [] f = tt
+tag_text_lacks p o (b ∷ bs) f = (o.open_tag, lacks-append p (b ∷ bs) (codes "]") f (o.close_tag, tt))
 
-arguments_free : (p : ℕ → Bool) → IsOuter p → (arguments : List (List ℕ)) → Each IsCoordinate arguments → Free p (arguments_text arguments)
-arguments_free p o [] c = tt
-arguments_free p o (a ∷ more) c = (
+arguments_lack : (p : ℕ → Bool) → IsOuter p → (arguments : List (List ℕ)) → Each IsCoordinate arguments → Lacks p (arguments_text arguments)
+arguments_lack p o [] c = tt
+arguments_lack p o (a ∷ more) c = (
   o.open_arguments,
-  free-append p a (further more ++ codes ")") (coordinate_free p a o.coordinates c.0.1)
-      (free-append p (further more) (codes ")") (free_further p o.coordinates o.comma o.targets.space more c.1) (o.close_arguments, tt)),
+  lacks-append p a (further more ++ codes ")") (coordinate_lacks p a o.coordinates c.0.1)
+      (lacks-append p (further more) (codes ")") (lacks_further p o.coordinates o.comma o.targets.space more c.1) (o.close_arguments, tt)),
 )
 
-pub head_free : (p : ℕ → Bool) → IsOuter p → (name tag : List ℕ) → IsName name → Free p tag → Free p (head_text name tag)
-head_free p o name tag n f = free-append p name (tag_text tag) (each_weaker (λ b. is_name_byte b ≡ true) (λ b. p b ≡ false) name o.names n.bytes) (tag_text_free p o tag f)
+pub head_lacks : (p : ℕ → Bool) → IsOuter p → (name tag : List ℕ) → IsName name → Lacks p tag → Lacks p (head_text name tag)
+head_lacks p o name tag n f = lacks-append p name (tag_text tag) (each_weaker (λ b. is_name_byte b ≡ true) (λ b. p b ≡ false) name o.names n.bytes) (tag_text_lacks p o tag f)
 
-operation_free : (p : ℕ → Bool) → IsOuter p → (op : Operation) → IsGoodKind op.kind → Free p op.tag → Free p (operation_text op)
-operation_free p o op g f =
-    free-append p (head_text (kind_name op.kind) op.tag) (arguments_text (kind_arguments op.kind) ++ targets_text op.kind) (head_free p o (kind_name op.kind) op.tag (kind_is op.kind) f)
-    (free-append p (arguments_text (kind_arguments op.kind)) (targets_text op.kind) (arguments_free p o (kind_arguments op.kind) (kind_coordinates op.kind g)) ((kind_targets op.kind g).free p o.targets))
+operation_lacks : (p : ℕ → Bool) → IsOuter p → (op : Operation) → IsGoodKind op.kind → Lacks p op.tag → Lacks p (operation_text op)
+operation_lacks p o op g f =
+    lacks-append p (head_text (kind_name op.kind) op.tag) (arguments_text (kind_arguments op.kind) ++ targets_text op.kind) (head_lacks p o (kind_name op.kind) op.tag (kind_is op.kind) f)
+    (lacks-append p (arguments_text (kind_arguments op.kind)) (targets_text op.kind) (arguments_lack p o (kind_arguments op.kind) (kind_coordinates op.kind g)) ((kind_targets op.kind g).lacks p o.targets))
 
-open_free : (p : ℕ → Bool) → IsOuter p → (count : ℕ) (tag : List ℕ) → IsCount count → Free p tag → Free p (open_text count tag)
-open_free p o count tag c f =
-    free-append p (head_text (codes "REPEAT") tag) (codes " " ++ (decimal count ++ codes " {")) (head_free p o (codes "REPEAT") tag repeat_is f)
-    (o.targets.space, free-append p (decimal count) (codes " {") (digits_free p (decimal count) o.targets.digits (decimal_digits count (omega (arith, c.1)))) (o.targets.space, (o.brace, tt)))
+open_lacks : (p : ℕ → Bool) → IsOuter p → (count : ℕ) (tag : List ℕ) → IsCount count → Lacks p tag → Lacks p (open_text count tag)
+open_lacks p o count tag c f =
+    lacks-append p (head_text (codes "REPEAT") tag) (codes " " ++ (decimal count ++ codes " {")) (head_lacks p o (codes "REPEAT") tag repeat_is f)
+    (o.targets.space, lacks-append p (decimal count) (codes " {") (digits_lack p (decimal count) o.targets.digits (decimal_digits count (omega (arith, c.1)))) (o.targets.space, (o.brace, tt)))
 
 -- ends
 name_solid : (name : List ℕ) → IsName name → IsSolid name
@@ -122,13 +122,13 @@ open_solid count tag =
 -- what is printed of an operation, and of a block's opening and end
 pub operation_neat : (op : Operation) → IsGoodKind op.kind → IsTag op.tag → IsNeat (operation_text op)
 operation_neat op g t =
-    let free = tag_free op.tag t in
-    record { lines = operation_free (is_byte 10) line_ends_outer op g free.0; comments = operation_free (is_byte 35) comments_outer op g free.1; solid = operation_solid op g }
+    let lacks = tag_lacks op.tag t in
+    record { lines = operation_lacks (is_byte 10) line_ends_outer op g lacks.0; comments = operation_lacks (is_byte 35) comments_outer op g lacks.1; solid = operation_solid op g }
 
 pub open_neat : (count : ℕ) (tag : List ℕ) → IsCount count → IsTag tag → IsNeat (open_text count tag)
 open_neat count tag c t =
-    let free = tag_free tag t in
-    record { lines = open_free (is_byte 10) line_ends_outer count tag c free.0; comments = open_free (is_byte 35) comments_outer count tag c free.1; solid = open_solid count tag }
+    let lacks = tag_lacks tag t in
+    record { lines = open_lacks (is_byte 10) line_ends_outer count tag c lacks.0; comments = open_lacks (is_byte 35) comments_outer count tag c lacks.1; solid = open_solid count tag }
 
 pub close_neat : IsNeat (codes "}")
 close_neat = record { lines = (refl, tt); comments = (refl, tt); solid = record { first = 125; rest = []; front = refl; solid = refl; ends = ends_one [] 125 refl } }

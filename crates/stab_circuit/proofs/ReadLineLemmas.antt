@@ -1,6 +1,6 @@
 -- What a reader keeps, of which the first items of the outermost list are kept by themselves.
 use Rattle.stab_circuit.proofs.Names.{◌≡◌, refl, ap, sym, ◌∙◌, suc, List, [], ◌∷◌, ◌++◌, ◌==◌, ◌&&◌, not, length, map, reverse, Ok, arith, append_assoc, append-nil, map-append, reverse-append, length-reverse, length-map, StoredBlock, OneItem, repeat, before, done, listed, join, OpenBlock, open_block_of, open_blocks_of, kept_progress, is_whole, closing, listed_pushed}
-use Rattle.stab_circuit.specs.inner.Readers.{outermost}
+use Rattle.stab_circuit.specs.inner.Readers.{innermost_open}
 use Rattle.stab_circuit.proofs.ReaderLemmas.{some_before, not_empty, not_none}
 
 -- as many blocks as are kept
@@ -12,19 +12,19 @@ length-opened : (xs : List OneItem) (fs : List StoredBlock) → length (reverse 
 length-opened xs fs = length-reverse (open_blocks_of xs fs) ∙ length-open_blocks xs fs
 
 -- one more block
-blocks_pushed : (xs : List OneItem) (fs : List StoredBlock) (f : StoredBlock) → reverse (open_blocks_of xs (fs ++ f ∷ [])) ≡ open_block_of (outermost xs fs) f ∷ reverse (open_blocks_of xs fs)
+blocks_pushed : (xs : List OneItem) (fs : List StoredBlock) (f : StoredBlock) → reverse (open_blocks_of xs (fs ++ f ∷ [])) ≡ open_block_of (innermost_open xs fs) f ∷ reverse (open_blocks_of xs fs)
 blocks_pushed xs [] f = refl
 blocks_pushed xs (g ∷ gs) f =
     ap (λ l. reverse (open_block_of xs g ∷ l)) (map-append (open_block_of []) gs (f ∷ []))
     ∙ reverse-append (open_block_of xs g ∷ map (open_block_of []) gs) (open_block_of [] f ∷ [])
 
-outermost_pushed : (xs : List OneItem) (fs : List StoredBlock) (f : StoredBlock) → outermost xs (fs ++ f ∷ []) ≡ []
+outermost_pushed : (xs : List OneItem) (fs : List StoredBlock) (f : StoredBlock) → innermost_open xs (fs ++ f ∷ []) ≡ []
 outermost_pushed xs [] f = refl
 outermost_pushed xs (g ∷ gs) f = refl
 
 -- one more item
-pub kept_pushed : (xs : List OneItem) (fs : List StoredBlock) (ys : List OneItem) (x : OneItem) → listed (outermost xs fs ++ (ys ++ x ∷ [])) ≡ join (listed (outermost xs fs ++ ys)) (before x done)
-kept_pushed xs fs ys x = ap listed (sym (append_assoc (outermost xs fs) ys (x ∷ []))) ∙ listed_pushed (outermost xs fs ++ ys) x
+pub kept_pushed : (xs : List OneItem) (fs : List StoredBlock) (ys : List OneItem) (x : OneItem) → listed (innermost_open xs fs ++ (ys ++ x ∷ [])) ≡ join (listed (innermost_open xs fs ++ ys)) (before x done)
+kept_pushed xs fs ys x = ap listed (sym (append_assoc (innermost_open xs fs) ys (x ∷ []))) ∙ listed_pushed (innermost_open xs fs ++ ys) x
 
 -- the items are put after the first
 pub settled : (xs all : List OneItem) (fs gs : List StoredBlock) (ys zs : List OneItem) → length fs ≡ 0 → gs ≡ fs → zs ≡ [] → all ≡ xs ++ ys → kept_progress all gs zs ≡ kept_progress xs fs ys
@@ -37,8 +37,8 @@ pub closed_kept : (xs : List OneItem) (fs gs : List StoredBlock) (ys zs : List O
     → closing (kept_progress xs fs ys) ≡ Ok (kept_progress xs gs zs)
 closed_kept xs fs gs ys zs f e put =
     let x = repeat f.count f.tag (listed ys) in
-    let now : join (listed (outermost xs gs ++ f.before.items)) (before x done) ≡ listed (outermost xs gs ++ zs) =
-    sym (kept_pushed xs gs f.before.items x) ∙ ap (λ l. listed (outermost xs gs ++ l)) (sym put) in
+    let now : join (listed (innermost_open xs gs ++ f.before.items)) (before x done) ≡ listed (innermost_open xs gs ++ zs) =
+    sym (kept_pushed xs gs f.before.items x) ∙ ap (λ l. listed (innermost_open xs gs ++ l)) (sym put) in
     (λ i. closing (kept_progress xs (e i) ys))
     ∙ (λ i. closing (record { open_blocks = blocks_pushed xs gs f i; now = listed (outermost_pushed xs gs f i ++ ys) }))
     ∙ (λ i. Ok (record { open_blocks = reverse (open_blocks_of xs gs); now = now i }))

@@ -1,26 +1,26 @@
 -- A printed text stands for its items, and for no others.
-use Rattle.stab_circuit.proofs.Names.{◌≡◌, ◌≤◌, refl, ap, sym, ◌∙◌, subst, ℕ, ◌*◌, suc, List, [], ◌∷◌, ◌++◌, Bool, true, false, nat_lt, length, map, replicate, All, Option, None, Some, Ok, append_assoc, arith, codes, if◌then◌else◌, slice_split, onto_first, map-append, All-nil, All-cons, All-head, All-tail, slice_split-cons_yes, slice_split-cons_no, nat_tests, TooLong, Fault, whole, Line, Blank, Close, Open, is_byte, content_of, meaning_of, IsLine, line_printed, Says, Items, done, next, block, Meaning, Joins, line_meanings, meanings, fault_from, text_fault, most_bytes, StandsFor, PrintedLine, printed_lines, text_of, printed, AreLinesOf, IsReadBack, passed, Each, Free, each-append, free-append, free_spaces, free_any, any_free, split_free, each_left, each_right}
+use Rattle.stab_circuit.proofs.Names.{◌≡◌, ◌≤◌, refl, ap, sym, ◌∙◌, subst, ℕ, ◌*◌, suc, List, [], ◌∷◌, ◌++◌, Bool, true, false, nat_lt, length, map, replicate, All, Option, None, Some, Ok, append_assoc, arith, codes, if◌then◌else◌, slice_split, onto_first, map-append, All-nil, All-cons, All-head, All-tail, slice_split-cons_yes, slice_split-cons_no, nat_tests, TooLong, Fault, whole, Line, Blank, Close, Open, is_byte, content_of, meaning_of, IsLine, line_printed, Says, Items, done, next, block, Meaning, Joins, line_meanings, meanings, fault_from, text_fault, most_bytes, StandsFor, PrintedLine, printed_lines, text_of, printed, AreLinesOf, IsReadBack, passed, Each, Lacks, each-append, lacks-append, lacks_spaces, lacks_any, any_lacking, split_lacking, each_left, each_right}
 use Rattle.stab_circuit.proofs.LineLaws.{printed_again, blank_is_empty}
 use Rattle.stab_instructions.specs.declared.operation.Line.TheVariants as line
 use Rattle.stab_circuit.proofs.BlankLemmas.{lines_of, lines_join, joins_end, unblank_joined, unblank_each, same_faultless}
 use Rattle.stab_circuit.proofs.ReadingLemmas.{one_list, some_list}
 
 -- the lines of a text hold no line feed
-onto_free : (p : ℕ → Bool) (x : ℕ) (parts : List (List ℕ)) → p x ≡ false → Each (Free p) parts → Each (Free p) (onto_first x parts)
-onto_free p x [] e f = ((e, tt), tt)
-onto_free p x (part ∷ parts) e f = ((e, f.0), f.1)
+onto_lacks : (p : ℕ → Bool) (x : ℕ) (parts : List (List ℕ)) → p x ≡ false → Each (Lacks p) parts → Each (Lacks p) (onto_first x parts)
+onto_lacks p x [] e f = ((e, tt), tt)
+onto_lacks p x (part ∷ parts) e f = ((e, f.0), f.1)
 
-parts_more : (p : ℕ → Bool) (x : ℕ) (xs : List ℕ) (b : Bool) → p x ≡ b → Each (Free p) (slice_split p xs) → Each (Free p) (slice_split p (x ∷ xs))
-parts_more p x xs true e f = subst (Each (Free p)) (sym (slice_split-cons_yes p x xs e)) (tt, f)
-parts_more p x xs false e f = subst (Each (Free p)) (sym (slice_split-cons_no p x xs e)) (onto_free p x (slice_split p xs) e f)
+parts_more : (p : ℕ → Bool) (x : ℕ) (xs : List ℕ) (b : Bool) → p x ≡ b → Each (Lacks p) (slice_split p xs) → Each (Lacks p) (slice_split p (x ∷ xs))
+parts_more p x xs true e f = subst (Each (Lacks p)) (sym (slice_split-cons_yes p x xs e)) (tt, f)
+parts_more p x xs false e f = subst (Each (Lacks p)) (sym (slice_split-cons_no p x xs e)) (onto_lacks p x (slice_split p xs) e f)
 
-pub parts_free : (p : ℕ → Bool) (xs : List ℕ) → Each (Free p) (slice_split p xs)
-parts_free p [] = (tt, tt)
-parts_free p (x ∷ xs) = parts_more p x xs (p x) refl (parts_free p xs)
+pub parts_lack : (p : ℕ → Bool) (xs : List ℕ) → Each (Lacks p) (slice_split p xs)
+parts_lack p [] = (tt, tt)
+parts_lack p (x ∷ xs) = parts_more p x xs (p x) refl (parts_lack p xs)
 
-pub text_lines : (parts : List (List ℕ)) → Each (Free (is_byte 10)) parts → All IsLine parts
+pub text_lines : (parts : List (List ℕ)) → Each (Lacks (is_byte 10)) parts → All IsLine parts
 text_lines [] f = All-nil IsLine
-text_lines (part ∷ parts) f = All-cons IsLine part parts (any_free (is_byte 10) part f.0) (text_lines parts f.1)
+text_lines (part ∷ parts) f = All-cons IsLine part parts (any_lacking (is_byte 10) part f.0) (text_lines parts f.1)
 
 -- each meaning is that of some line
 abbrev pub IsOfLine : Meaning → Type 0
@@ -81,9 +81,9 @@ text_means (w ∷ ws) n =
     let spaces = replicate (4 * w.depth) 32 in
     let flat : text_of (w ∷ ws) ≡ (spaces ++ w.content) ++ 10 ∷ text_of ws =
     append_assoc spaces (w.content ++ codes "\n") (text_of ws) ∙ ap (λ l. spaces ++ l) (append_assoc w.content (codes "\n") (text_of ws)) ∙ sym (append_assoc spaces w.content (10 ∷ text_of ws)) in
-    let free : Free (is_byte 10) (spaces ++ w.content) = free-append (is_byte 10) spaces w.content (free_spaces 10 (4 * w.depth) refl) (free_any (is_byte 10) w.content n.0.1.one_line) in
+    let lacks : Lacks (is_byte 10) (spaces ++ w.content) = lacks-append (is_byte 10) spaces w.content (lacks_spaces 10 (4 * w.depth) refl) (lacks_any (is_byte 10) w.content n.0.1.one_line) in
     ap meanings flat
-    ∙ ap (λ ls. map meaning_of (map content_of ls)) (split_free (is_byte 10) (spaces ++ w.content) 10 (text_of ws) free refl)
+    ∙ ap (λ ls. map meaning_of (map content_of ls)) (split_lacking (is_byte 10) (spaces ++ w.content) 10 (text_of ws) lacks refl)
     ∙ ap (λ c. meaning_of c ∷ meanings (text_of ws)) (n.0.1.left (4 * w.depth))
     ∙ ap (λ ms. meaning_written w ∷ ms) (text_means ws n.1)
 
@@ -98,7 +98,7 @@ lines_faultless text e = limit_case (nat_lt most_bytes (length text)) (fault_fro
 -- the lines of a text that stands for items
 pub text_is_lines : (text : List ℕ) (items : Items) → StandsFor text items → AreLinesOf (slice_split (is_byte 10) text) items
 text_is_lines text items s =
-    record { each = text_lines (slice_split (is_byte 10) text) (parts_free (is_byte 10) text); faultless = lines_faultless text s.0; joined = s.1 }
+    record { each = text_lines (slice_split (is_byte 10) text) (parts_lack (is_byte 10) text); faultless = lines_faultless text s.0; joined = s.1 }
 
 -- what lines that stand for items mean
 pub items_meant : (lines : List (List ℕ)) (items : Items) → AreLinesOf lines items → AreMeant (lines_of items)

@@ -1,5 +1,5 @@
 -- What is read of a text is what it stands for, and what refuses it is its fault.
-use Rattle.stab_circuit.proofs.Names.{◌≡◌, ◌≤◌, ◌<◌, refl, ap, sym, ◌∙◌, subst, ℕ, List, [], ◌∷◌, ◌++◌, Bool, true, false, nat_lt, length, Option, None, Some, Result, Ok, Err, if◌then◌else◌, arith, ◌⊎◌, inl, inr, list_all, IfErr, nat_tests, Refusal, LookbackTooFar, TooManySteps, TooLong, BadLine, OutOfMemory, Fault, whole, Items, OneItem, before, done, listed, Joins, contents, meanings, limited, text_fault, item_fault, StandsFor, StandsForOne, one_item, is_empty, check_of, unroll, looks_too_far, most_steps, before_reading, read_on, reading, IsCircuit, IsFaultOf, ReadsCircuit, IsPlaced, is_of_circuit, is_of_item, chosen, passed, Refuses, IsCallFault}
+use Rattle.stab_circuit.proofs.Names.{◌≡◌, ◌≤◌, ◌<◌, refl, ap, sym, ◌∙◌, subst, ℕ, List, [], ◌∷◌, ◌++◌, Bool, true, false, nat_lt, length, Option, None, Some, Result, Ok, Err, if◌then◌else◌, arith, ◌⊎◌, inl, inr, list_all, IfErr, nat_tests, Refusal, LookbackTooFar, TooManySteps, TooLong, BadLine, OutOfMemory, Fault, whole, Items, OneItem, before, done, listed, Joins, contents, meanings, limited, text_fault, item_fault, StandsFor, StandsForOne, one_item, is_empty, check_of, unroll, looks_too_far, most_steps, before_reading, read_on, reading, IsCircuit, IsFaultOf, ReadsCircuit, HasLine, is_of_circuit, is_of_item, chosen, passed, Refuses, IsCallFault}
 use Rattle.std.proofs.Common.{length-append}
 use Rattle.std.specs.Result.{IfOk}
 use Rattle.stab_circuit.proofs.ReadingLemmas.{joined_read, fault_read}
@@ -56,11 +56,11 @@ item_refused text f h e =
     within text _ h ∙ passed (list_all is_empty cs) _ _ (not_blank_fault cs f (list_all is_empty cs) refl e) ∙ fault_read (one_item 0 cs) f e
 
 -- if a fault is placed
-line_placed : (f : Fault) (is_whole : Refusal → Bool) → IsLineFault f → IsPlaced is_whole f
+line_placed : (f : Fault) (is_whole : Refusal → Bool) → IsLineFault f → HasLine is_whole f
 line_placed f is_whole p = inl (p.0, p.1)
 
-whole_placed : (f : Fault) (r : Refusal) (is_whole : Refusal → Bool) → f ≡ whole r → is_whole r ≡ true → IsPlaced is_whole f
-whole_placed f r is_whole e p = subst (IsPlaced is_whole) (sym e) (inr (p, refl))
+whole_placed : (f : Fault) (r : Refusal) (is_whole : Refusal → Bool) → f ≡ whole r → is_whole r ≡ true → HasLine is_whole f
+whole_placed f r is_whole e p = subst (HasLine is_whole) (sym e) (inr (p, refl))
 
 long_case : (b : Bool) (ms : Option Fault) (f : Fault) → (if b then Some (whole TooLong) else ms) ≡ Some f → (f ≡ whole TooLong) ⊎ (ms ≡ Some f)
 long_case true ms f e = let same : whole TooLong ≡ f = cc in inl (sym same)
@@ -74,14 +74,14 @@ text_fault_cases text f e =
       | inr g ↦ inr (line_fault_found (meanings text) 1 [] f (meanings_lines (contents text)) (omega arith) tt g)
     ]
 
-pub text_fault_placed : (text : List ℕ) (f : Fault) → text_fault text ≡ Some f → IsPlaced is_of_circuit f
+pub text_fault_placed : (text : List ℕ) (f : Fault) → text_fault text ≡ Some f → HasLine is_of_circuit f
 text_fault_placed text f e = elim (text_fault_cases text f e) [ inl l ↦ whole_placed f TooLong is_of_circuit l refl | inr g ↦ line_placed f is_of_circuit g ]
 
-blank_placed : (b : Bool) (ms : Option Fault) (f : Fault) → (if b then Some (whole BadLine) else ms) ≡ Some f → (ms ≡ Some f → IsPlaced is_of_item f) → IsPlaced is_of_item f
+blank_placed : (b : Bool) (ms : Option Fault) (f : Fault) → (if b then Some (whole BadLine) else ms) ≡ Some f → (ms ≡ Some f → HasLine is_of_item f) → HasLine is_of_item f
 blank_placed true ms f e rest = let same : whole BadLine ≡ f = cc in whole_placed f BadLine is_of_item (sym same) refl
 blank_placed false ms f e rest = rest e
 
-pub item_fault_placed : (text : List ℕ) (f : Fault) → item_fault text ≡ Some f → IsPlaced is_of_item f
+pub item_fault_placed : (text : List ℕ) (f : Fault) → item_fault text ≡ Some f → HasLine is_of_item f
 item_fault_placed text f e =
     elim (long_case (nat_lt 16777216 (length text)) _ f e) [
       | inl l ↦ whole_placed f TooLong is_of_item l refl
@@ -89,7 +89,7 @@ item_fault_placed text f e =
           (λ k. line_placed f is_of_item (line_fault_found (one_item 0 (contents text)) 1 [] f (one_item_lines 0 (contents text)) (omega arith) tt k))
     ]
 
-pub item_placed : (text : List ℕ) (f : Fault) → (f ≡ whole OutOfMemory) ⊎ (item_fault text ≡ Some f) → IsPlaced is_of_item f
+pub item_placed : (text : List ℕ) (f : Fault) → (f ≡ whole OutOfMemory) ⊎ (item_fault text ≡ Some f) → HasLine is_of_item f
 item_placed text f (inl e) = whole_placed f OutOfMemory is_of_item e refl
 item_placed text f (inr e) = item_fault_placed text f e
 
@@ -103,11 +103,11 @@ pub check_refusal : (items : Items) (r : Refusal) → check_of items ≡ Some r 
 unfolding check_of
 check_refusal items r e = check_choice (looks_too_far 0 (unroll items)) (nat_lt most_steps (length (unroll items))) r e
 
-check_placed : (f : Fault) (r : Refusal) → f ≡ whole r → (r ≡ LookbackTooFar) ⊎ (r ≡ TooManySteps) → IsPlaced is_of_circuit f
+check_placed : (f : Fault) (r : Refusal) → f ≡ whole r → (r ≡ LookbackTooFar) ⊎ (r ≡ TooManySteps) → HasLine is_of_circuit f
 check_placed f r e (inl p) = whole_placed f r is_of_circuit e (ap is_of_circuit p)
 check_placed f r e (inr p) = whole_placed f r is_of_circuit e (ap is_of_circuit p)
 
-pub circuit_placed : (text : List ℕ) (f : Fault) → (f ≡ whole OutOfMemory) ⊎ IsFaultOf text f → IsPlaced is_of_circuit f
+pub circuit_placed : (text : List ℕ) (f : Fault) → (f ≡ whole OutOfMemory) ⊎ IsFaultOf text f → HasLine is_of_circuit f
 circuit_placed text f (inl e) = whole_placed f OutOfMemory is_of_circuit e refl
 circuit_placed text f (inr (inl e)) = text_fault_placed text f e
 circuit_placed text f (inr (inr (items, r, s, k, e))) = check_placed f r e (check_refusal items r k)
@@ -127,7 +127,7 @@ pub circuit_judged : (text : List ℕ) (held : List OneItem) (given : Result (Li
 circuit_judged text held (Ok c) h e same k = subst (λ l. IsCircuit text (listed l)) (sym same) (text_read text (listed held) h e, k)
 circuit_judged text held (Err f) h e same k = judged_fault text held f (check_of (listed held)) h e refl k
 
-pub circuit_answered : (text : List ℕ) (given : Result (List OneItem) Fault) → ReadsCircuit text given → IfErr given (IsPlaced is_of_circuit)
+pub circuit_answered : (text : List ℕ) (given : Result (List OneItem) Fault) → ReadsCircuit text given → IfErr given (HasLine is_of_circuit)
 circuit_answered text (Ok c) p = tt
 circuit_answered text (Err f) p = circuit_placed text f p
 

@@ -1,24 +1,20 @@
 -- Laws: what holds between all texts and all items.
 -- Source: this project's own.
-use Rattle.std.specs.Prelude.{◌≡◌, ◌≤◌, ◌⊎◌, ℕ, List, [], All, length, Some, None, Ok}
+use Rattle.std.specs.Prelude.{◌≡◌, ◌≤◌, ◌⊎◌, ℕ, List, All, length, Some, None, Ok}
 use Rattle.std.specs.List.{slice_split}
 use Rattle.stab_io.specs.declared.refusal.Fault.{Fault}
 use Rattle.stab_instructions.specs.Lines.{is_byte}
 use Rattle.stab_items.specs.declared.edit.Edit.{Edit}
 use Rattle.stab_items.specs.Items.{Items, OneItem, done, before, listed, depth}
-use Rattle.stab_items.specs.Circuits.{most_bytes, text_fault, item_fault, StandsFor, StandsForOne}
-pub use Rattle.stab_items.specs.Circuits.{AreLinesOf}
+use Rattle.stab_items.specs.Circuits.{most_bytes, text_fault, item_fault, StandsFor, StandsForOne, AreLinesOf}
 use Rattle.stab_items.specs.Prints.{printed}
-use Rattle.stab_items.specs.Steps.{unroll}
-use Rattle.stab_items.specs.Cursors.{HasDistinctQubits}
+use Rattle.stab_items.specs.Steps.{unroll, HasDistinctQubits}
 use Rattle.stab_circuit.specs.Readings.{IsCircuit, IsFaultOf}
 use Rattle.stab_items.specs.StepPaths.{paths_of}
 use Rattle.stab_items.specs.Paths.{Path}
-pub use Rattle.stab_items.specs.Edits.{LeavesTheRest}
-pub use Rattle.stab_items.specs.Splits.{AreAlike}
-use Rattle.stab_items.specs.Edits.{edit_path, edited, taken, put_item}
+use Rattle.stab_items.specs.Edits.{LeavesTheRest, edit_path, edited, taken, put_item}
+use Rattle.stab_items.specs.Splits.{AreAlike, split}
 use Rattle.stab_items.specs.Rounds.{HaveRounds, ChangesEachRound}
-use Rattle.stab_items.specs.Splits.{split}
 
 -- the text stands for the items, and for no others
 abbrev pub StandsForOnly : List ℕ → Items → Type 0

@@ -1,10 +1,5 @@
 pub mod FirstLines
 pub mod inner
-pub use Rattle.stab_items.specs.Items
-pub use Rattle.stab_items.specs.Circuits
-pub use Rattle.stab_items.specs.Steps
-pub use Rattle.stab_items.specs.Prints
-pub use Rattle.stab_items.specs.Nothings
 pub mod Limits
 pub mod Inputs
 pub mod Readings

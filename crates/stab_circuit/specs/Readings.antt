@@ -62,5 +62,5 @@ is_of_item OutOfMemory = true
 is_of_item r = false
 
 -- the fault has a line, as a refused line has, or is one of those that have none
-abbrev pub IsPlaced : (Refusal → Bool) → Fault → Type 0
-IsPlaced is_whole fault = (IsTrue (has_line fault.refusal) × (0 < fault.line)) ⊎ (IsTrue (is_whole fault.refusal) × (fault.line ≡ 0))
+abbrev pub HasLine : (Refusal → Bool) → Fault → Type 0
+HasLine is_whole fault = (IsTrue (has_line fault.refusal) × (0 < fault.line)) ⊎ (IsTrue (is_whole fault.refusal) × (fault.line ≡ 0))

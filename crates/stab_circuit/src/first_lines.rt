@@ -56,7 +56,7 @@ pub(crate) fn after_front<'a>(text: &'a [u8], line: &[u8]) -> Option<Option<&'a 
 }
 
 /// What is in a text before these lines.
-#[tactic(auto, using(crate::proofs::FrontLemmas::before_cut))]
+#[tactic(auto, using(crate::proofs::FirstLineLemmas::before_cut))]
 pub(crate) fn before_lines<'a>(text: &'a [u8], after: Option<&[u8]>) -> &'a [u8]
     ensures value { (front : List ℕ) → IsCut text.now front (option_copied after.entry) → result.now ≡ front }
 {

@@ -87,9 +87,5 @@ pub use line::{content, ends_with, starts_with};
 pub use meanings::{is_close, meaning};
 pub use plain_line::instruction_in_front;
 pub use reading::{circuit_of_text, read_circuit, read_item, write_circuit};
-pub use stab_instructions::{Axis, ControlledPair, Factor, MeasureTarget, Measurement, Qubit};
-pub use stab_items::{
-    Circuit, Cursor, Detectors, Edit, Item, Path, Refused, Repeat, Span, Step, StepItem, Steps,
-    controlled_gate, measured_step, write_item_coordinates, write_one_item, write_path,
-};
+pub use stab_items::{Circuit, Cursor, Edit, Item, Path, Refused, Step};
 pub use word::{capped_value, is_number};

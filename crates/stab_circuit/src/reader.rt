@@ -37,7 +37,7 @@ impl CircuitReader {
     ghost use Rattle.stab_io.specs.declared.refusal.Refusal.TheVariants.{OutOfMemory};
     ghost use Rattle.stab_instructions.specs.Lines.{content_of};
     ghost use Rattle.stab_instructions.specs.Results.{Gives};
-    ghost use Rattle.stab_circuit.specs.inner.Readers.{progress_of, before_reading, stepped, opening, closing, finished, is_whole as whole_of, meaning_at, TakesLine, TakesFirst, with_instruction, with_item, ReadsItems, IsShallowProgress};
+    ghost use Rattle.stab_circuit.specs.inner.Readers.{progress_of, before_reading, stepped, opening, closing, finished, is_whole as whole_of, meaning_at, TakesLine, TakesFirst, with_instruction, with_read_item, ReadsItems, IsShallowProgress};
     ghost use Rattle.stab_circuit.specs.inner.KnownLines.{IsOneLine, IsMeant, Means};
 
     pub(crate) fn new(alloc: Global) -> CircuitReader
@@ -210,7 +210,7 @@ impl CircuitReader {
     #[inline]
     #[tactic(auto, using(crate::proofs::ReadLineLemmas::kept_pushed))]
     fn put(&mut self, item: Item) -> Result<(), Refusal>
-        ensures same { OnOk result (progress_of self.new ≡ with_item (progress_of self.old) item) }
+        ensures same { OnOk result (progress_of self.new ≡ with_read_item (progress_of self.old) item) }
         ensures fault { IfErr result (λ r. r ≡ OutOfMemory) }
         ensures outer { OnOk result (self.new.outer.items ≡ self.old.outer.items) }
     {

@@ -6,7 +6,7 @@ ghost use Rattle.stab_items.specs.Prints.{printed};
 ghost use Rattle.stab_items.specs.Steps.{check_of};
 ghost use Rattle.stab_items.specs.Views.{circuit_items};
 ghost use Rattle.stab_circuit.specs.Laws.{IsReadBack};
-ghost use Rattle.stab_circuit.specs.Readings.{ReadsCircuit, ReadsInput, ReadsItem, IsPlaced, is_of_circuit, is_of_item};
+ghost use Rattle.stab_circuit.specs.Readings.{ReadsCircuit, ReadsInput, ReadsItem, HasLine, is_of_circuit, is_of_item};
 
 use crate::input::{MOST_BYTES, read_text};
 use crate::whole_text::read_lines;
@@ -19,7 +19,7 @@ use std::alloc::Global;
 /// Faults: those of the text, with their lines; 8, 9 and 14 for the whole of it; `OutOfMemory`.
 pub fn circuit_of_text(alloc: Global, text: &[u8]) -> Result<Circuit, Fault>
     ensures gives { ReadsCircuit text.now result }
-    ensures only { IfErr result (IsPlaced is_of_circuit) }
+    ensures only { IfErr result (HasLine is_of_circuit) }
 {
     if text.len() > MOST_BYTES {
         return Err(Fault::whole(Refusal::TooLong));
@@ -35,7 +35,7 @@ pub fn circuit_of_text(alloc: Global, text: &[u8]) -> Result<Circuit, Fault>
 /// is there.
 pub fn read_circuit<I: Input>(alloc: Global, input: &mut I) -> Result<Circuit, Fault>
     ensures reads { ReadsInput (I.seen input.old) (I.seen input.new) result }
-    ensures only { IfErr result (IsPlaced is_of_circuit) }
+    ensures only { IfErr result (HasLine is_of_circuit) }
     ensures checked { IfOk result (λ c. check_of (circuit_items c) ≡ None) }
 {
     let text = read_text(alloc, input).map_err(Fault::whole)?;
@@ -45,7 +45,7 @@ pub fn read_circuit<I: Input>(alloc: Global, input: &mut I) -> Result<Circuit, F
 /// The item that a text stands for.
 pub fn read_item(alloc: Global, text: &[u8]) -> Result<Item, Fault>
     ensures gives { ReadsItem text.now result }
-    ensures only { IfErr result (IsPlaced is_of_item) }
+    ensures only { IfErr result (HasLine is_of_item) }
 {
     if text.len() > MOST_BYTES {
         return Err(Fault::whole(Refusal::TooLong));

@@ -69,7 +69,7 @@ impl<'a> Stretches<'a> {
     ghost use Rattle.std.specs.Option.{option_copied};
     ghost use Rattle.std.specs.List.{Contains};
     ghost use Rattle.stab_circuit.specs.inner.KnownLines.{IsCut};
-    ghost use Rattle.stab_circuit.specs.inner.Stretches.{AreStretches, IsEnded};
+    ghost use Rattle.stab_circuit.specs.inner.Stretches.{AreLineStretches, IsEnded};
 
     /// No stretches.
     pub(crate) fn new(alloc: Global) -> Stretches<'a>
@@ -189,9 +189,9 @@ impl<'a> Stretches<'a> {
         line: u64,
         rest: &'a [u8],
     ) -> Result<(), AllocError>
-        requires known { AreStretches items.now self.old }
+        requires known { AreLineStretches items.now self.old }
         requires ended { MatchOption self.old.run (Unit {0}) (IsEnded items.now first line rest.now) }
-        ensures known { OnOk result (AreStretches items.now self.new) }
+        ensures known { OnOk result (AreLineStretches items.now self.new) }
         ensures run { OnOk result (self.new.run ≡ None) }
     {
         let Some(run) = self.run else {

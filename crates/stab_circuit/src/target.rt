@@ -2,7 +2,7 @@ ghost use Rattle.std.specs.Prelude.{◌≡◌, ℕ, List, ◌≤◌, ◌<◌, le
 ghost use Rattle.stab_io.specs.declared.refusal.Refusal.{Refusal};
 ghost use Rattle.stab_instructions.specs.Results.{Gives, each};
 ghost use Rattle.stab_instructions.specs.Words.{words};
-ghost use Rattle.stab_circuit.specs.inner.FrontTargets.{BeginsWithTarget, GivesFirst, IsShorter};
+ghost use Rattle.stab_circuit.specs.inner.FrontTargets.{BeginsWithTarget, GivesFirst, IsShorterRest};
 ghost use Rattle.stab_instructions.specs.Targets.{qubit_of, measure_target_of, lookback_of, lookback_digits, is_lookback, count_of, pairs_of};
 
 use crate::line::{ends_with, starts_with};
@@ -231,7 +231,7 @@ impl Target for CountTargets {
 /// What the first word means, and what follows it; none if there is no word.
 fn first_target<T: Target>(alloc: Global, bytes: &[u8]) -> Result<Option<(T::Kept, &[u8])>, Refusal>
     ensures gives { GivesFirst T.meaning bytes.now result }
-    ensures shorter { IsShorter bytes.now result }
+    ensures shorter { IsShorterRest bytes.now result }
 {
     if let Some(first) = T::at_front(bytes) {
         return Ok(Some(first));

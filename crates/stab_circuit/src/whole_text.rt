@@ -21,7 +21,7 @@ impl CircuitReader {
     ghost use Rattle.stab_items.specs.Items.{listed, join};
     ghost use Rattle.stab_circuit.specs.inner.KnownLines.{IsCut};
     ghost use Rattle.stab_circuit.specs.inner.Readers.{progress_of, IsShallowProgress};
-    ghost use Rattle.stab_circuit.specs.inner.Stretches.{outside, items_of, IsStretch, AreStretches, KeepsStretches, IsRun, RunsOn, TakesLines, IsShorter};
+    ghost use Rattle.stab_circuit.specs.inner.Stretches.{read_outside, items_of, IsLineStretch, AreLineStretches, KeepsStretches, IsLineRun, RunsOn, TakesLines, IsShorter};
 
     /// Takes the lines that a text begins with: those of a known stretch, or else the first alone.
     fn take_next<'a>(
@@ -34,12 +34,12 @@ impl CircuitReader {
     ) -> Result<Taken<'a>, Refusal>
         requires few { line + length text.now ≤ 16777217 }
         requires shallow { IsShallowProgress (progress_of self.old) }
-        requires stretches { AreStretches self.old.outer.items stretches.old }
-        requires run { IsRun self.old.outer.items (progress_of self.old) line text.now stretches.old.run }
+        requires stretches { AreLineStretches self.old.outer.items stretches.old }
+        requires run { IsLineRun self.old.outer.items (progress_of self.old) line text.now stretches.old.run }
         ensures gives { TakesLines single line text.entry.now (progress_of self.old) (progress_of self.new) result }
         ensures shorter { IfOk result (λ taken. IsShorter text.entry.now taken) }
         ensures shallow { OnOk result (IsShallowProgress (progress_of self.new)) }
-        ensures stretches { OnOk result (AreStretches self.new.outer.items stretches.new) }
+        ensures stretches { OnOk result (AreLineStretches self.new.outer.items stretches.new) }
         ensures run { IfOk result (λ taken. RunsOn self.new.outer.items (progress_of self.new) (line + taken.lines) (option_copied taken.after) stretches.new.run) }
     {
         match self.known_stretch(single, text, stretches) {
@@ -80,14 +80,14 @@ impl CircuitReader {
     ) -> Result<Taken<'a>, Refusal>
         requires outside { length self.old.open_blocks.items ≡ 0 }
         requires shallow { IsShallowProgress (progress_of self.old) }
-        requires known { IsStretch self.old.outer.items stretch }
+        requires known { IsLineStretch self.old.outer.items stretch }
         requires front { IsCut text.now stretch.bytes.now (option_copied after) }
-        requires stretches { AreStretches self.old.outer.items stretches.old }
-        requires run { IsRun self.old.outer.items (progress_of self.old) line text.now stretches.old.run }
+        requires stretches { AreLineStretches self.old.outer.items stretches.old }
+        requires run { IsLineRun self.old.outer.items (progress_of self.old) line text.now stretches.old.run }
         ensures gives { TakesLines false line text.entry.now (progress_of self.old) (progress_of self.new) result }
         ensures shorter { IfOk result (λ taken. IsShorter text.entry.now taken) }
         ensures shallow { OnOk result (IsShallowProgress (progress_of self.new)) }
-        ensures stretches { OnOk result (AreStretches self.new.outer.items stretches.new) }
+        ensures stretches { OnOk result (AreLineStretches self.new.outer.items stretches.new) }
         ensures run { OnOk result (stretches.new.run ≡ None) }
     {
         self.leave_items(line, text, stretches)?;
@@ -106,13 +106,13 @@ impl CircuitReader {
         stretches: &mut Stretches<'a>,
     ) -> Result<(), Refusal>
         requires outside { length self.old.open_blocks.items ≡ 0 }
-        requires stretches { AreStretches self.old.outer.items stretches.old }
-        requires run { IsRun self.old.outer.items (progress_of self.old) line rest.now stretches.old.run }
+        requires stretches { AreLineStretches self.old.outer.items stretches.old }
+        requires run { IsLineRun self.old.outer.items (progress_of self.old) line rest.now stretches.old.run }
         ensures same { OnOk result (progress_of self.new ≡ progress_of self.old) }
         ensures outside { OnOk result (length self.new.open_blocks.items ≡ 0) }
         ensures none { OnOk result (self.new.items.items ≡ []) }
         ensures kept { OnOk result (KeepsStretches self.old.outer.items self.new.outer.items) }
-        ensures stretches { OnOk result (AreStretches self.new.outer.items stretches.new) }
+        ensures stretches { OnOk result (AreLineStretches self.new.outer.items stretches.new) }
         ensures fault { IfErr result (λ r. r ≡ OutOfMemory) }
     {
         if self.items.is_empty() {
@@ -131,13 +131,13 @@ impl CircuitReader {
         stretches: &mut Stretches<'a>,
     ) -> Result<(), Refusal>
         requires outside { length self.old.open_blocks.items ≡ 0 }
-        requires stretches { AreStretches self.old.outer.items stretches.old }
-        requires run { IsRun self.old.outer.items (progress_of self.old) line rest.now stretches.old.run }
+        requires stretches { AreLineStretches self.old.outer.items stretches.old }
+        requires run { IsLineRun self.old.outer.items (progress_of self.old) line rest.now stretches.old.run }
         ensures same { OnOk result (progress_of self.new ≡ progress_of self.old) }
         ensures outside { OnOk result (length self.new.open_blocks.items ≡ 0) }
         ensures none { OnOk result (self.new.items.items ≡ []) }
         ensures kept { OnOk result (KeepsStretches self.old.outer.items self.new.outer.items) }
-        ensures stretches { OnOk result (AreStretches self.new.outer.items stretches.new) }
+        ensures stretches { OnOk result (AreLineStretches self.new.outer.items stretches.new) }
         ensures run { OnOk result (stretches.new.run ≡ None) }
         ensures fault { IfErr result (λ r. r ≡ OutOfMemory) }
     {
@@ -155,10 +155,10 @@ impl CircuitReader {
     ) -> Result<(), Refusal>
         requires outside { length self.old.open_blocks.items ≡ 0 }
         requires none { self.old.items.items ≡ [] }
-        requires known { IsStretch self.old.outer.items stretch }
-        requires stretches { AreStretches self.old.outer.items stretches.old }
-        ensures same { OnOk result (progress_of self.new ≡ outside (join (progress_of self.old).now (listed (items_of stretch.entry self.old.outer.items)))) }
-        ensures stretches { OnOk result (AreStretches self.new.outer.items stretches.new) }
+        requires known { IsLineStretch self.old.outer.items stretch }
+        requires stretches { AreLineStretches self.old.outer.items stretches.old }
+        ensures same { OnOk result (progress_of self.new ≡ read_outside (join (progress_of self.old).now (listed (items_of stretch.entry self.old.outer.items)))) }
+        ensures stretches { OnOk result (AreLineStretches self.new.outer.items stretches.new) }
         ensures run { OnOk result (stretches.new.run ≡ None) }
         ensures fault { IfErr result (λ r. r ≡ OutOfMemory) }
     {
@@ -190,12 +190,12 @@ impl CircuitReader {
     ) -> Result<Taken<'a>, Refusal>
         requires few { line + length text.now ≤ 16777217 }
         requires shallow { IsShallowProgress (progress_of self.old) }
-        requires stretches { AreStretches self.old.outer.items stretches.old }
-        requires run { IsRun self.old.outer.items (progress_of self.old) line text.now stretches.old.run }
+        requires stretches { AreLineStretches self.old.outer.items stretches.old }
+        requires run { IsLineRun self.old.outer.items (progress_of self.old) line text.now stretches.old.run }
         ensures gives { TakesLines single line text.entry.now (progress_of self.old) (progress_of self.new) result }
         ensures shorter { IfOk result (λ taken. IsShorter text.entry.now taken) }
         ensures shallow { OnOk result (IsShallowProgress (progress_of self.new)) }
-        ensures stretches { OnOk result (AreStretches self.new.outer.items stretches.new) }
+        ensures stretches { OnOk result (AreLineStretches self.new.outer.items stretches.new) }
         ensures run { IfOk result (λ taken. RunsOn self.new.outer.items (progress_of self.new) (line + taken.lines) (option_copied taken.after) stretches.new.run) }
     {
         let run = self.run_at(line, text, stretches);
@@ -207,8 +207,8 @@ impl CircuitReader {
 
     /// The run that goes on or begins with this line, with which a text begins.
     fn run_at<'a>(&self, line: u64, text: &'a [u8], stretches: &Stretches<'a>) -> Option<Run<'a>>
-        requires run { IsRun self.now.outer.items (progress_of self.now) line text.now stretches.now.run }
-        ensures run { IsRun self.now.outer.items (progress_of self.now) line text.entry.now result }
+        requires run { IsLineRun self.now.outer.items (progress_of self.now) line text.now stretches.now.run }
+        ensures run { IsLineRun self.now.outer.items (progress_of self.now) line text.entry.now result }
     {
         if self.items.is_empty() && self.open_blocks.is_empty() {
             Some(Run {
@@ -239,10 +239,10 @@ impl CircuitReader {
         after: Option<&'a [u8]>,
         stretches: &mut Stretches<'a>,
     ) -> Result<(), Refusal>
-        requires stretches { AreStretches self.old.outer.items stretches.old }
+        requires stretches { AreLineStretches self.old.outer.items stretches.old }
         requires run { RunsOn self.old.outer.items (progress_of self.old) line (option_copied after) stretches.old.run }
         ensures same { OnOk result (progress_of self.new ≡ progress_of self.old) }
-        ensures stretches { OnOk result (AreStretches self.new.outer.items stretches.new) }
+        ensures stretches { OnOk result (AreLineStretches self.new.outer.items stretches.new) }
         ensures run { OnOk result (RunsOn self.new.outer.items (progress_of self.new) line (option_copied after.entry) stretches.new.run) }
         ensures fault { IfErr result (λ r. r ≡ OutOfMemory) }
     {

@@ -1,7 +1,6 @@
 -- Jobs: how the command of a job ends, the status of a program's run, and how its fault is reported.
 -- Source: this project's own.
 use Rattle.std.specs.Prelude.{◌≡◌, ℕ, Bool, true, false, List, string_bytes, Option, None, Result, Ok, Err}
-pub use Rattle.stab_jobs.specs.Commands.{reads_script}
 use Rattle.stab_io.specs.Devices.{InputView, OutputView}
 use Rattle.stab_io.specs.declared.refusal.Fault.{Fault}
 use Rattle.stab_report.specs.FaultLines.{TookOrFailed, reported_text}
@@ -9,7 +8,7 @@ use Rattle.stab_commands.specs.Outputs.{EndsRun, sample_of, detect_of}
 use Rattle.stab_commands.specs.Stabilisers.{EndsStabilisers}
 use Rattle.stab_commands.specs.Checks.{EndsCheck}
 use Rattle.stab_report.specs.Deterministic.{EndsDeterministic}
-use Rattle.stab_report.specs.FaultTables.{EndsFaults}
+use Rattle.stab_report.specs.SingleErrorTables.{EndsFaults}
 use Rattle.stab_report.specs.CoinTables.{EndsCoins}
 use Rattle.stab_report.specs.Reasons.{EndsExplain}
 use Rattle.stab_report.specs.Questions.{EndsQuestion, ReportsQuestion, WarnsOfQuestion}
@@ -78,9 +77,9 @@ CommandWarns (Distance question options) i i' old new r = WarnsOfQuestion questi
 CommandWarns command i i' old new r = new ≡ old
 
 -- a run's fault is reported, with the bit that it names, if any; and without a fault the error output is as the call of the command leaves it
-abbrev pub Reports : Command → InputView → InputView → Result Bool Fault → Option Random → OutputView → OutputView → Type 0
-Reports command i i' (Ok x) random old new = CommandWarns command i i' old new (Ok x)
-Reports command i i' (Err f) random old new = TookOrFailed old new (reported_text f random)
+abbrev pub ReportsRunFault : Command → InputView → InputView → Result Bool Fault → Option Random → OutputView → OutputView → Type 0
+ReportsRunFault command i i' (Ok x) random old new = CommandWarns command i i' old new (Ok x)
+ReportsRunFault command i i' (Err f) random old new = TookOrFailed old new (reported_text f random)
 
 -- How a run of a job ends: as the call of its command ends, with that call's status, and its fault reported.
 pub record EndsJob (job : Job) (i i' s s' : InputView) (o o' e e' : OutputView) (status : ℕ) : Type 0 where
@@ -88,7 +87,7 @@ pub record EndsJob (job : Job) (i i' s s' : InputView) (o o' e e' : OutputView) 
   pub random : Option Random
   pub ends : EndsCommand job.command job.source (string_bytes job.at) (string_bytes job.string) i i' s s' o o' answer random
   pub status_is : status ≡ status_of answer
-  pub reported : Reports job.command i i' answer random e e'
+  pub reported : ReportsRunFault job.command i i' answer random e e'
 
 -- how the run of a job with this status reads a script: as the call of its command does
 abbrev pub JobInTurn : Job → InputView → InputView → InputView → InputView → OutputView → OutputView → Option (List Asked) → Option (List Asked) → (status : ℕ) → Type 0

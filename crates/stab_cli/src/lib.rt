@@ -1,8 +1,7 @@
 //! The command line of stabsim: its words, and the jobs that they ask for.
 //!
-//! All names that a user of the program's parts needs. The words are those of `stab_args`, the jobs those
-//! of `stab_jobs`, and the commands those of `stab_commands` and `stab_script`, passed on; each crate says what is proved about
-//! them.
+//! The words are those of `stab_args`, the jobs those of `stab_jobs`, and the commands those of `stab_commands` and
+//! `stab_script`, passed on as far as the program and its callers take them; each crate says what is proved about them.
 //! Here is what answers the status of the program:
 //!
 //! - `status`: running a job.
@@ -19,20 +18,13 @@ mod status;
 mod usage;
 
 pub use stab_args::{CoinsFault, NO_COINS, Usage, parse_words, read_coins};
-pub use stab_commands::{
-    run_check, run_coins, run_counted_distance, run_detect, run_detect_shots, run_deterministic,
-    run_distance, run_each_distance, run_explain, run_faults, run_part_distance, run_question,
-    run_sample, run_sample_shots, run_searched_errors, run_stabilisers,
-};
+pub use stab_commands::{run_detect, run_sample, run_stabilisers};
 pub use stab_jobs::{
-    Command, DistanceOptions, ErrorLetters, FaultLayout, Job, QubitCount, Question, SearchedLayout,
-    Shots, Source, Stride,
+    Command, DistanceOptions, ErrorLetters, FaultLayout, Job, QubitCount, Question, Shots, Source,
+    Stride,
 };
-pub use stab_report::{Bit, Decider, FaultsRefused, Random, write_fault, write_refused};
-pub use stab_script::{
-    KeepsLog, LoggedInput, LoggedRead, NoWatcher, Watcher, run_edit, run_edit_watched,
-    run_propagate, run_propagate_each,
-};
+pub use stab_report::write_fault;
+pub use stab_script::{KeepsLog, LoggedInput, LoggedRead, NoWatcher, Watcher, run_edit};
 pub use stab_search::{Progress, SearchPart, Unwatched};
 pub use status::{run_job, run_job_watched};
 pub use usage::write_usage;

@@ -1,10 +1,11 @@
 //! Running a job, with the status of the program.
 ghost use Rattle.std.specs.Prelude.{◌≡◌, ◌≤◌, IfSome, None, false, string_bytes};
 ghost use Rattle.stab_gates.specs.Limits.{most_qubits};
-ghost use Rattle.stab_report.specs.FaultTables.{fault_of, random_of};
+ghost use Rattle.stab_report.specs.SingleErrorTables.{fault_of, random_of};
 ghost use Rattle.stab_script.specs.ScriptEndings.{EndsEdit};
 ghost use Rattle.stab_script.specs.ScriptTurns.{EditsInTurn};
-ghost use Rattle.stab_cli.specs.Jobs.{CommandInTurn, CommandReports, CommandWarns, EndsCommand, EndsJob, JobInTurn, JobReports, reads_script, refusing_none};
+ghost use Rattle.stab_cli.specs.Jobs.{CommandInTurn, CommandReports, CommandWarns, EndsCommand, EndsJob, JobInTurn, JobReports, refusing_none};
+ghost use Rattle.stab_jobs.specs.Commands.{reads_script};
 
 use stab_commands::{
     run_check, run_coins, run_detect_shots, run_deterministic, run_explain, run_faults,

@@ -1,6 +1,6 @@
 -- Laws of the rows of coins: the steps that take coins, and the rows of lanes and of a whole table.
-use Rattle.stab_commands.proofs.Names.{◌≡◌, refl, sym, ap, ap₂, ◌∙◌, subst, ℕ, zero, suc, ◌+◌, ◌*◌, ◌/◌, ◌%◌, ◌<◌, ◌≤◌, Bool, List, [], ◌∷◌, ◌++◌, append_assoc, append-nil, length, map, get_or, arith, flat_map, get_or-map, length-append, length-map, map-append, Items, qubits_of, unroll, detectors_of, observables_of, length-flipped, bits_in, run_of, kinds_detectors, lane_bits, ShotBits, flips_of, coin_flipped, zero_coins, step_of_coin, AreCoinRuns, free_coins, CoinRow, row_by, table_of, CoinRuns, FaultLayout, coin_text, coins_text, whole_bits, whole_kinds, checked_bits, texts_from, HaveFlips, flips_at, text_at}
-use Rattle.stab_commands.proofs.PlaceLemmas.{flags-of-run, free-step-within}
+use Rattle.stab_commands.proofs.Names.{◌≡◌, refl, sym, ap, ap₂, ◌∙◌, subst, ℕ, zero, suc, ◌+◌, ◌*◌, ◌/◌, ◌%◌, ◌<◌, ◌≤◌, Bool, List, [], ◌∷◌, ◌++◌, append_assoc, append-nil, length, map, get_or, arith, flat_map, get_or-map, length-append, length-map, map-append, Items, qubits_of, unroll, detectors_of, observables_of, length-flipped, bits_in, run_of, kinds_detectors, lane_bits, ShotBits, flips_of, coin_flipped, zero_coins, step_of_coin, AreCoinRuns, deciding_coins, CoinRow, row_by, table_of, CoinRuns, FaultLayout, coin_entry, coins_text, whole_bits, whole_kinds, checked_bits, texts_from, HaveFlips, flips_at, text_at}
+use Rattle.stab_commands.proofs.CoinPositionLemmas.{flags-of-run, free-step-within}
 use Rattle.stab_commands.proofs.CountLaws.{numbers_of_runs}
 
 -- where coins decide
@@ -10,7 +10,7 @@ pub step_of_position : (n : ℕ) (items : Items) (r : CoinRuns) (k : ℕ) → Ar
     → get_or r.steps.items k 0 ≡ step_of_coin (unroll items) (get_or r.numbers.items k 0)
 step_of_position n items r k are within =
     ap (λ l. get_or l k 0) are.steps
-    ∙ get_or-map (step_of_coin (unroll items)) (free_coins n items) k 0 0 (subst (λ l. k < length l) are.numbers within)
+    ∙ get_or-map (step_of_coin (unroll items)) (deciding_coins n items) k 0 0 (subst (λ l. k < length l) are.numbers within)
     ∙ ap (λ l. step_of_coin (unroll items) (get_or l k 0)) (sym are.numbers)
 
 -- there is such a step
@@ -18,7 +18,7 @@ pub step_within : (n : ℕ) (items : Items) (r : CoinRuns) (k : ℕ) → AreCoin
 step_within n items r k are within =
     let inside = subst (λ l. k < length l) are.numbers within in
     subst (λ t. t < length (unroll items))
-    (sym (ap (λ l. get_or l k 0) are.steps ∙ get_or-map (step_of_coin (unroll items)) (free_coins n items) k 0 0 inside))
+    (sym (ap (λ l. get_or l k 0) are.steps ∙ get_or-map (step_of_coin (unroll items)) (deciding_coins n items) k 0 0 inside))
     (free-step-within (run_of n zero_coins items).free (unroll items) k (flags-of-run n zero_coins items) inside)
 
 -- lanes
@@ -96,7 +96,7 @@ pub table_texts : (layout : FaultLayout) (items : Items) (r : CoinRuns) → AreC
     → texts_from (text_at layout items) 0 (length r.numbers.items) ≡ coins_text layout items (table_of (qubits_of items) items)
 table_texts layout items r are =
     let n = qubits_of items in
-    let text : ℕ → List ℕ = λ t. coin_text layout items t (whole_bits (flips_of n items zero_coins t)) in
+    let text : ℕ → List ℕ = λ t. coin_entry layout items t (whole_bits (flips_of n items zero_coins t)) in
     ap (λ (l : List ℕ). texts_from (text_at layout items) 0 (length l)) are.numbers
-    ∙ sym (texts_of_list text (free_coins n items))
-    ∙ sym (flat-mapped (λ (row : CoinRow). coin_text layout items row.coin (whole_bits row.flips)) (row_by n items zero_coins) (free_coins n items))
+    ∙ sym (texts_of_list text (deciding_coins n items))
+    ∙ sym (flat-mapped (λ (row : CoinRow). coin_entry layout items row.coin (whole_bits row.flips)) (row_by n items zero_coins) (deciding_coins n items))

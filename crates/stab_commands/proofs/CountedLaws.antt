@@ -1,6 +1,6 @@
 -- Laws of counts: what a call passes on that finds an answer about all errors and how many least sets there are.
 use Rattle.stab_commands.proofs.Names.{◌≡◌, ap, subst, ℕ, ◌++◌, Result, Option, OutputView, Fault, Items, DistanceOptions, Distance, SendsFound, SendsAtOnce, IsDistanceOf, answer_text}
-use Rattle.stab_circuit.specs.Steps.{qubits_of}
+use Rattle.stab_items.specs.Steps.{qubits_of}
 use Rattle.stab_error_model.specs.Unseen.{IsSetCount}
 use Rattle.stab_report.specs.Distances.{IsCountedText, count_line, of_all}
 use Rattle.stab_commands.proofs.FoundLaws.{found_at_once}

@@ -1,5 +1,5 @@
 -- Laws of deciders: the lanes of a word, and the lists of the coins that flip each bit.
-use Rattle.stab_commands.proofs.Names.{◌≡◌, refl, sym, ap, ap₂, subst, ◌∙◌, ℕ, zero, suc, ◌+◌, ◌-◌, ◌*◌, ◌/◌, ◌%◌, ◌<◌, ◌≤◌, Bool, false, List, [], ◌∷◌, ◌++◌, length, get_or, set, if◌then◌else◌, ◌⊎◌, inl, inr, arith, Vec, cases_eq, get_or-map, numbers_where, Items, qubits_of, word_bit, lane_bits, word_bit-zero, listed, listed-set_here, listed-set_other, flips_of, zero_coins, AreBits, free_coins, Shots, checked_bits, coin_at, decides, ones_at, ones_of}
+use Rattle.stab_commands.proofs.Names.{◌≡◌, refl, sym, ap, ap₂, subst, ◌∙◌, ℕ, zero, suc, ◌+◌, ◌-◌, ◌*◌, ◌/◌, ◌%◌, ◌<◌, ◌≤◌, Bool, false, List, [], ◌∷◌, ◌++◌, length, get_or, set, if◌then◌else◌, ◌⊎◌, inl, inr, arith, Vec, cases_eq, get_or-map, numbers_where, Items, qubits_of, word_bit, lane_bits, word_bit-zero, rows_listed, listed-set_here, listed-set_other, flips_of, zero_coins, LaneHasBits, deciding_coins, Shots, checked_bits, coin_at, decides, ones_at, ones_of}
 use Rattle.stab_commands.proofs.CoinRowLaws.{lanes_checked}
 use Rattle.stab_commands.proofs.ReasonLaws.{where-next, where-join}
 use Rattle.stab_regions.proofs.AscentLemmas.{where-same}
@@ -71,20 +71,20 @@ batch_decides at items first end words i lanes =
 
 -- the lanes of all words that are no records
 pub lanes_are : {W : Type 0} (at : W → ℕ → Bool) (lanes : ℕ) (items : Items) (first n : ℕ) (lists : Shots W) (words : List W) → n ≡ qubits_of items → words ≡ lists.detectors.items ++ lists.observables.items
-    → ((l : ℕ) → l < lanes → first + l < length (free_coins n items) → AreBits at l (flips_of n items zero_coins (get_or (free_coins n items) (first + l) 0)) lists)
-    → (l : ℕ) → l < lanes → first + l < length (free_coins (qubits_of items) items) → lane_bits at l words ≡ checked_bits (flips_of (qubits_of items) items zero_coins (coin_at items (first + l)))
+    → ((l : ℕ) → l < lanes → first + l < length (deciding_coins n items) → LaneHasBits at l (flips_of n items zero_coins (get_or (deciding_coins n items) (first + l) 0)) lists)
+    → (l : ℕ) → l < lanes → first + l < length (deciding_coins (qubits_of items) items) → lane_bits at l words ≡ checked_bits (flips_of (qubits_of items) items zero_coins (coin_at items (first + l)))
 lanes_are {W} at lanes items first n lists words e are flips l few within =
     let bits =
-    (subst (λ k. (j : ℕ) → j < lanes → first + j < length (free_coins k items) → AreBits at j (flips_of k items zero_coins (get_or (free_coins k items) (first + j) 0)) lists) e flips) l few within in
+    (subst (λ k. (j : ℕ) → j < lanes → first + j < length (deciding_coins k items) → LaneHasBits at j (flips_of k items zero_coins (get_or (deciding_coins k items) (first + j) 0)) lists) e flips) l few within in
     ap (lane_bits at l) are ∙ lanes_checked at l lists.detectors.items lists.observables.items (flips_of (qubits_of items) items zero_coins (coin_at items (first + l))) bits.detectors bits.observables
 
 -- one list more is written
 pub lists-more : {W : Type 0} (at : W → ℕ → Bool) (words : List W) (first end position : ℕ) (old lists : List (Vec ℕ)) (new : Vec ℕ) → position < length lists
-    → ((i : ℕ) → i < position → listed lists i ≡ listed old i ++ ones_at at words i first end) → new.items ≡ listed old position ++ ones_at at words position first end
-    → (i : ℕ) → i < position + 1 → listed (set lists position new) i ≡ listed old i ++ ones_at at words i first end
+    → ((i : ℕ) → i < position → rows_listed lists i ≡ rows_listed old i ++ ones_at at words i first end) → new.items ≡ rows_listed old position ++ ones_at at words position first end
+    → (i : ℕ) → i < position + 1 → rows_listed (set lists position new) i ≡ rows_listed old i ++ ones_at at words i first end
 lists-more at words first end position old lists new within before here i less = by_position (cases_eq i position)
   where
-    by_position : (i ≡ position) ⊎ (i ≡ position → ⊥) → listed (set lists position new) i ≡ listed old i ++ ones_at at words i first end
+    by_position : (i ≡ position) ⊎ (i ≡ position → ⊥) → rows_listed (set lists position new) i ≡ rows_listed old i ++ ones_at at words i first end
     by_position (inl same) =
-        ap (listed (set lists position new)) same ∙ listed-set_here lists position new within ∙ here ∙ ap (λ k. listed old k ++ ones_at at words k first end) (sym same)
+        ap (rows_listed (set lists position new)) same ∙ listed-set_here lists position new within ∙ here ∙ ap (λ k. rows_listed old k ++ ones_at at words k first end) (sym same)
     by_position (inr other) = listed-set_other lists position i new other ∙ before i (omega (arith, less, other))

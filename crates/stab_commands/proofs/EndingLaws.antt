@@ -1,11 +1,11 @@
 -- Laws of endings: how a call ends that reads a circuit, looks at its marks, and goes on with it.
-use Rattle.stab_commands.proofs.Names.{◌≡◌, ◌∙◌, refl, sym, subst, Bool, ℕ, List, Result, Ok, Err, Option, None, ◌∷◌, [], length, inl, inr, IsErrAnd, InputView, OutputView, OutOfMemory, Fault, whole, Items, RefusesText, IsFaultOf, FaultsRefused, fault_of, random_of, GoesOn, DistanceOptions, Heard, AreErrorsOf, HearsDistance}
+use Rattle.stab_commands.proofs.Names.{◌≡◌, ◌∙◌, refl, sym, subst, Bool, ℕ, List, Result, Ok, Err, Option, None, ◌∷◌, [], length, inl, inr, IsErrAnd, InputView, OutputView, OutOfMemory, Fault, whole, Items, RefusesText, IsFaultOf, FaultsRefused, fault_of, random_of, GoesOnWithItems, DistanceOptions, Heard, AreErrorsOf, HearsDistance}
 use Rattle.std.specs.Prelude.{false}
 use Rattle.stab_search.specs.Progress.{Hears, begins}
 use Rattle.stab_error_model.specs.ErrorTables.{ErrorTableState}
 use Rattle.stab_error_model.specs.declared.doubts.DoubtfulMark.{DoubtfulMark}
 use Rattle.stab_report.specs.Endings.{GaveCircuit, Sends}
-use Rattle.stab_report.specs.FaultTables.{EndsOrNames}
+use Rattle.stab_report.specs.SingleErrorTables.{EndsOrNames}
 use Rattle.stab_report.specs.Distances.{HearsErrors, ReportsDistance, ReportsErrors}
 use Rattle.stab_report.specs.DoubtLines.{ReportsIfOk, Warns, doubts_of}
 use Rattle.stab_report.specs.MissingObservables.{WarnsOf}
@@ -20,7 +20,7 @@ unsent {T} are deterministic_only i i' o items f (Err y) gave memory is =
 
 -- what a call with the items ended by is passed on
 pub refusal_handed : {T : Type 0} (are : Items → List ℕ → Type 0) (deterministic_only : Bool) (i i' : InputView) (o o' : OutputView) (items : Items) (e : FaultsRefused) (r : Result T FaultsRefused)
-    → GaveCircuit i i' items → GoesOn {T = T} (are items) deterministic_only items e.random o o' (Err e.fault) → IsErrAnd r (λ y. y ≡ e)
+    → GaveCircuit i i' items → GoesOnWithItems {T = T} (are items) deterministic_only items e.random o o' (Err e.fault) → IsErrAnd r (λ y. y ≡ e)
     → EndsOrNames are deterministic_only i i' o o' (fault_of r) (random_of r)
 refusal_handed are deterministic_only i i' o o' items e (Ok x) gave goes is = absurd is
 refusal_handed {T} are deterministic_only i i' o o' items e (Err y) gave goes is =
@@ -55,10 +55,10 @@ heard_over options items t old new count are is hears = inr (t, are, subst (λ n
 
 -- memory was refused after the circuit was read, and before anything was written
 pub unsent_on : {T : Type 0} (are : List ℕ → Type 0) (deterministic_only : Bool) (items : Items) (f : Fault) (r : Result T FaultsRefused) (old : OutputView) → f ≡ whole OutOfMemory
-    → IsErrAnd r (λ y. y ≡ record { fault = f; random = None }) → GoesOn are deterministic_only items (random_of r) old old (fault_of r)
+    → IsErrAnd r (λ y. y ≡ record { fault = f; random = None }) → GoesOnWithItems are deterministic_only items (random_of r) old old (fault_of r)
 unsent_on are deterministic_only items f (Ok x) old memory is = absurd is
 unsent_on {T} are deterministic_only items f (Err y) old memory is =
-    subst (λ (z : FaultsRefused). GoesOn {T = T} are deterministic_only items z.random old old (Err z.fault)) (sym is) (inr (memory, refl))
+    subst (λ (z : FaultsRefused). GoesOnWithItems {T = T} are deterministic_only items z.random old old (Err z.fault)) (sym is) (inr (memory, refl))
 
 -- after a fault no mark is reported
 pub unwarned : {T : Type 0} (everywhere : Bool) (i i' : InputView) (e : OutputView) (r : Result T FaultsRefused) (x : FaultsRefused) → r ≡ Err x → Warns everywhere i i' e e (fault_of r)

@@ -20,4 +20,4 @@ pub mod DeciderLaws
 pub mod BitLemmas
 pub mod PropagatedPointLemmas
 pub mod RowLemmas
-pub mod PlaceLemmas
+pub mod CoinPositionLemmas

@@ -1,5 +1,5 @@
 -- Laws of reasons: numbers with a property, the coins that flip a bit by their positions, and which bits no coin flips.
-use Rattle.stab_commands.proofs.Names.{◌≡◌, refl, sym, ap, ap₂, ◌∙◌, ℕ, zero, suc, ◌+◌, ◌<◌, ◌==◌, Bool, true, false, List, [], ◌∷◌, ◌++◌, append_assoc, length, drop, map, get_or, codes, if◌then◌else◌, arith, flat_map, nat_tests, ◌⊕◌, Items, Path, path_text, qubits_of, unroll, observables_of, detectors_of, length-flipped, run_of, one_places, bit, numbers_where, IsDeterministic, ShotBits, shot_bits_of, inverted, coin_flipped, flips_of, zero_coins, AreCoinRuns, free_coins, CoinRow, row_by, with_rows, IsCoinTable, table_of, CoinRuns, Bit, bit_of, path_of_bit, checked_bits, deciders, bit_name, coordinates_at, decider_text, reason_line, reason_text, DeterministicHasNoDecider, coin_at, decides}
+use Rattle.stab_commands.proofs.Names.{◌≡◌, refl, sym, ap, ap₂, ◌∙◌, ℕ, zero, suc, ◌+◌, ◌<◌, ◌==◌, Bool, true, false, List, [], ◌∷◌, ◌++◌, append_assoc, length, drop, map, get_or, codes, if◌then◌else◌, arith, flat_map, nat_tests, ◌⊕◌, Items, Path, path_text, qubits_of, unroll, observables_of, detectors_of, length-flipped, run_of, one_positions, bit, numbers_where, IsDeterministic, ShotBits, shot_bits_of, inverted, coin_flipped, flips_of, zero_coins, AreCoinRuns, deciding_coins, CoinRow, row_by, with_rows, IsCoinTable, table_of, CoinRuns, Bit, bit_of, path_of_bit, checked_bits, deciders, bit_name, coordinates_at, decider_text, reason_line, reason_text, DeterministicHasNoDecider, coin_at, decides}
 use Rattle.stab_frames.specs.Flips.{flipped}
 use Rattle.stab_commands.proofs.CountLaws.{numbers_of_runs}
 
@@ -123,7 +123,7 @@ module _ (n : ℕ) (items : Items) (i : ℕ) where
       ∙ none-decide deterministic ts
 
   pub deterministic-has-none : (rows : List CoinRow) → IsCoinTable n items rows → IsDeterministic n items i → deciders i rows ≡ []
-  deterministic-has-none rows table deterministic = ap (deciders i) (table.listed zero_coins) ∙ none-decide deterministic (one_places (run_of n zero_coins items).free)
+  deterministic-has-none rows table deterministic = ap (deciders i) (table.listed zero_coins) ∙ none-decide deterministic (one_positions (run_of n zero_coins items).free)
 
   -- a run whose coins flip it nowhere
 
@@ -171,7 +171,7 @@ module _ (n : ℕ) (items : Items) (i : ℕ) where
   none-has-deterministic rows table none = λ coins others. sym (bit_of_run others) ∙ as_zero others ∙ sym (as_zero coins) ∙ bit_of_run coins
     where
       all : List ℕ
-      all = one_places (run_of n zero_coins items).free
+      all = one_positions (run_of n zero_coins items).free
 
       as_zero : (coins : ℕ → Bool) → get_or (checked_bits (shot_bits_of (run_of n coins items))) i false ≡ get_or (checked_bits (shot_bits_of (run_of n zero_coins items))) i false
       as_zero coins =
@@ -216,7 +216,7 @@ none-mapped h (x ∷ xs) e = absurd (cc)
 module _ (items : Items) (r : CoinRuns) (are : AreCoinRuns (qubits_of items) items r) (i : ℕ) (positions : List ℕ) (found : numbers_where (decides items i) 0 (length r.numbers.items) ≡ positions) where
   pub found_deciders : deciders i (table_of (qubits_of items) items) ≡ map (coin_at items) positions
   found_deciders =
-      deciders_by_positions (qubits_of items) items i (free_coins (qubits_of items) items)
+      deciders_by_positions (qubits_of items) items i (deciding_coins (qubits_of items) items)
       ∙ ap (λ (l : List ℕ). map (coin_at items) (numbers_where (decides items i) 0 (length l))) (sym are.numbers)
       ∙ ap (map (coin_at items)) found
 

@@ -1,7 +1,7 @@
 -- Rows: each coin flips the same bits whatever the others are, and each run is the sum of the rows of its coins.
-use Rattle.stab_commands.proofs.Names.{◌≡◌, ℕ, zero, suc, ◌+◌, ◌-◌, ◌<◌, ◌≤◌, ◌==◌, refl, sym, ◌∙◌, ap, subst, Bool, true, false, List, [], ◌∷◌, map, get_or, arith, inl, inr, All, ◌⊎◌, if◌then◌else◌, cases_eq, cases_lt, All-head, All-tail, ◌⊕◌, Items, unroll, State, run_of, StepFits, run_of-same, one_positions_from, one_places, ShotBits, shot_bits_of, inverted, coin_flipped, flips_of, zero_coins, CoinRow, row_by, with_rows, IsCoinTable, table_of, CoinsHaveRows}
+use Rattle.stab_commands.proofs.Names.{◌≡◌, ℕ, zero, suc, ◌+◌, ◌-◌, ◌<◌, ◌≤◌, ◌==◌, refl, sym, ◌∙◌, ap, subst, Bool, true, false, List, [], ◌∷◌, map, get_or, arith, inl, inr, All, ◌⊎◌, if◌then◌else◌, cases_eq, cases_lt, All-head, All-tail, ◌⊕◌, Items, unroll, State, run_of, StepFits, run_of-same, one_positions_from, one_positions, ShotBits, shot_bits_of, inverted, coin_flipped, flips_of, zero_coins, CoinRow, row_by, with_rows, IsCoinTable, table_of, CoinsHaveRows}
 use Rattle.stab_commands.proofs.BitLemmas.{AreAlike, inverted-alike, inverted-round, inverted-kept}
-use Rattle.stab_commands.proofs.PropagatedPointLemmas.{flips_by, bits-changed, bits-zero, free-zero}
+use Rattle.stab_commands.proofs.PropagatedPointLemmas.{flips_by, bits-changed, bits-zero, random-zero}
 
 same : (s t : ℕ) → s ≡ t → (s == t) ≡ true
 same s t e = grind (arith, e)
@@ -48,7 +48,7 @@ module _ (n : ℕ) (items : Items) (fits : All (StepFits n) (unroll items)) wher
         where
           by_cases : (s ≡ t) ⊎ (s ≡ t → ⊥) → coins s ≡ coin_flipped t coins s
           by_cases (inl e) =
-              let not' : true ≡ false = sym free ∙ ap (λ flags. get_or flags s false) (free-zero n items fits coins) ∙ ap (λ k. get_or (run_of n zero_coins items).free k false) e ∙ fixed in
+              let not' : true ≡ false = sym free ∙ ap (λ flags. get_or flags s false) (random-zero n items fits coins) ∙ ap (λ k. get_or (run_of n zero_coins items).free k false) e ∙ fixed in
               absurd (cc)
           by_cases (inr ne) = sym (flipped-elsewhere t s coins ne)
 
@@ -99,7 +99,7 @@ module _ (n : ℕ) (items : Items) (fits : All (StepFits n) (unroll items)) wher
         by_cases s free (inr le) =
             let at : k + (s - k) ≡ s = omega (arith, le) in
             let not' : true ≡ false =
-            sym free ∙ ap (λ flags. get_or flags s false) (free-zero n items fits some) ∙ ap (λ m. get_or (run_of n zero_coins items).free m false) (sym at) ∙ are (s - k) in
+            sym free ∙ ap (λ flags. get_or flags s false) (random-zero n items fits some) ∙ ap (λ m. get_or (run_of n zero_coins items).free m false) (sym at) ∙ are (s - k) in
             absurd (cc)
 
     sum-from : (k : ℕ) (flags : List Bool) (some : ℕ → Bool) → AreFlags k flags → IsBelow k some
@@ -131,7 +131,7 @@ module _ (n : ℕ) (items : Items) (fits : All (StepFits n) (unroll items)) wher
 
   pub coin-table : IsCoinTable n items (table_of n items)
   coin-table = record {
-    listed = λ coins. λ i. map (rows coins i) (one_places (sym (free-zero n items fits coins) i));
+    listed = λ coins. λ i. map (rows coins i) (one_positions (sym (random-zero n items fits coins) i));
     others = λ coins t all. still coins t (absent 0 (run_of n zero_coins items).free t (subst (λ m. All (λ (r : CoinRow). r.coin ≡ m → ⊥) (table_of n items)) (omega arith) all));
     adds = λ coins.
         sym (sum-from coins 0 (run_of n zero_coins items).free zero_coins (λ i. ap (λ m. get_or (run_of n zero_coins items).free m false) (omega arith))

@@ -5,8 +5,8 @@ use Rattle.std.specs.List.{flat_map}
 use Rattle.stab_io.specs.Devices.{InputView, OutputView}
 use Rattle.stab_io.specs.declared.refusal.Refusal.TheVariants.{ReadFault, OutOfMemory}
 use Rattle.stab_io.specs.declared.refusal.Fault.{Fault}
-use Rattle.stab_circuit.specs.Items.{Items, entries}
-use Rattle.stab_circuit.specs.Steps.{unroll, records_of, qubits_of, observables_of, detectors_of}
+use Rattle.stab_items.specs.Items.{Items, entries}
+use Rattle.stab_items.specs.Steps.{unroll, records_of, qubits_of, observables_of, detectors_of}
 use Rattle.stab_run.specs.Points.{all_coins_of}
 use Rattle.stab_run.specs.Runs.{State, run_of}
 use Rattle.stab_report.specs.Endings.{Ends, Sends}
@@ -40,13 +40,13 @@ abbrev pub number_line : (name : List ℕ) → ℕ → List ℕ
 number_line name n = name ++ (codes ": " ++ (decimal n ++ codes "\n"))
 
 -- a circuit's numbers under their names
-abbrev pub named : Numbers → List (List ℕ × ℕ)
-named n = (codes "qubits", n.qubits) ∷ (codes "items", n.items) ∷ (codes "steps", n.steps) ∷ (codes "records", n.records)
+abbrev pub named_numbers : Numbers → List (List ℕ × ℕ)
+named_numbers n = (codes "qubits", n.qubits) ∷ (codes "items", n.items) ∷ (codes "steps", n.steps) ∷ (codes "records", n.records)
     ∷ (codes "detectors", n.detectors) ∷ (codes "observables", n.observables) ∷ (codes "coins", n.coins) ∷ []
 
 -- the lines of a circuit's numbers
 abbrev pub numbers_text : Numbers → List ℕ
-numbers_text n = flat_map (λ l. number_line l.0 l.1) (named n)
+numbers_text n = flat_map (λ l. number_line l.0 l.1) (named_numbers n)
 
 -- what `check` writes for the items
 abbrev pub check_text : Items → List ℕ

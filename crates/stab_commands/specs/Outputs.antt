@@ -4,7 +4,7 @@
 use Rattle.std.specs.Prelude.{◌≡◌, ℕ, ◌+◌, Bool, true, false, List, ◌++◌, length, Result}
 use Rattle.stab_io.specs.Devices.{InputView, OutputView}
 use Rattle.stab_io.specs.declared.refusal.Fault.{Fault}
-use Rattle.stab_circuit.specs.Items.{Items}
+use Rattle.stab_items.specs.Items.{Items}
 use Rattle.stab_run.specs.Runs.{State}
 use Rattle.stab_results.specs.declared.format.Format.{Format}
 use Rattle.stab_results.specs.declared.format.Kinds.TheVariants.{Measurements, Detectors}
@@ -12,7 +12,7 @@ use Rattle.stab_results.specs.Formats.{shot_bytes}
 use Rattle.stab_report.specs.Endings.{Ends, Sends}
 use Rattle.stab_jobs.specs.declared.job.Source.{Source}
 use Rattle.stab_report.specs.Sources.{run_of_shot}
-pub use Rattle.stab_report.specs.Texts.{texts_from as of_shots}
+use Rattle.stab_report.specs.Texts.{texts_from as of_shots}
 
 -- what `sample` writes for the items: the records of each shot
 abbrev pub sample_of : Format → (first shots : ℕ) → Source → Items → List ℕ

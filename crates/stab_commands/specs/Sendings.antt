@@ -2,7 +2,7 @@
 -- Source: this project's own.
 use Rattle.std.specs.Prelude.{◌≡◌, ℕ, Bool, true, false, List, ◌++◌, length}
 use Rattle.stab_run.specs.Runs.{State}
-use Rattle.stab_circuit.specs.Items.{Items}
+use Rattle.stab_items.specs.Items.{Items}
 use Rattle.stab_results.specs.declared.format.Format.{Format}
 use Rattle.stab_results.specs.declared.format.Kinds.{Kinds}
 use Rattle.stab_results.specs.declared.format.Kinds.TheVariants.{Measurements, Detectors as Detected}
@@ -11,9 +11,9 @@ use Rattle.stab_jobs.specs.declared.job.Source.{Source}
 use Rattle.stab_commands.specs.declared.bits.Shown.{Shown}
 use Rattle.stab_commands.specs.declared.bits.Shown.TheVariants.{Records, Detectors, DetectorsAndObservables}
 use Rattle.stab_jobs.specs.Limits.{ShotRange}
-use Rattle.stab_commands.specs.Outputs.{detected, of_shots}
+use Rattle.stab_commands.specs.Outputs.{detected}
+use Rattle.stab_report.specs.Texts.{texts_from as of_shots}
 use Rattle.stab_report.specs.Sources.{run_of_shot}
-pub use Rattle.stab_report.specs.Endings.{SendsUnflushed}
 
 -- what kinds of bits are shown of a shot with this many detectors
 abbrev pub shown_kinds : Shown → ℕ → Kinds

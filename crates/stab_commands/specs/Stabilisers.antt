@@ -3,7 +3,7 @@
 use Rattle.std.specs.Prelude.{◌≡◌, Result}
 use Rattle.stab_io.specs.Devices.{InputView, OutputView}
 use Rattle.stab_io.specs.declared.refusal.Fault.{Fault}
-use Rattle.stab_circuit.specs.Steps.{qubits_of}
+use Rattle.stab_items.specs.Steps.{qubits_of}
 use Rattle.stab_report.specs.Endings.{Ends, SendsFound}
 use Rattle.stab_report.specs.Rows.{IsStabilisersText}
 use Rattle.stab_report.specs.Sources.{run_of_shot}

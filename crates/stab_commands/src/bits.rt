@@ -1,9 +1,10 @@
 //! What is shown of a shot.
 ghost use Rattle.std.specs.Prelude.{◌≡◌, ℕ, ◌≤◌, length, IfOk};
-ghost use Rattle.stab_results.specs.Formats.{detectors_of};
+ghost use Rattle.stab_results.specs.Formats.{detector_bits_of};
 ghost use Rattle.stab_run.specs.Runs.{State};
-ghost use Rattle.stab_commands.specs.Outputs.{of_shots};
-ghost use Rattle.stab_commands.specs.Sendings.{IsShown, SendsUnflushed, shown_bytes, shown_kinds, shown_items};
+ghost use Rattle.stab_report.specs.Texts.{texts_from as of_shots};
+ghost use Rattle.stab_commands.specs.Sendings.{IsShown, shown_bytes, shown_kinds, shown_items};
+ghost use Rattle.stab_report.specs.Endings.{SendsUnflushed};
 
 use stab_io::{Fault, Output};
 use stab_recording::Shot;
@@ -35,7 +36,7 @@ fn shown_of(
     observables: Vec<bool>,
     shown: Shown,
 ) -> Result<Bits, AllocError>
-    ensures within { IfOk result (λ b. detectors_of b.kinds ≤ length b.items.items) }
+    ensures within { IfOk result (λ b. detector_bits_of b.kinds ≤ length b.items.items) }
     ensures kinds { IfOk result (λ b. b.kinds ≡ shown_kinds shown (length detectors.items)) }
     ensures items { IfOk result (λ b. b.items.items ≡ shown_items shown records.items detectors.items observables.items) }
 {
@@ -66,7 +67,7 @@ fn write_copies<O: Output>(
     bits: &Bits,
     copies: usize,
 ) -> Result<(), Fault>
-    requires within { detectors_of bits.now.kinds ≤ length bits.now.items.items }
+    requires within { detector_bits_of bits.now.kinds ≤ length bits.now.items.items }
     ensures sends { (first : ℕ) (shown : Shown) (run : State) → IsShown shown run bits.now.kinds bits.now.items.items → SendsUnflushed (of_shots (λ shot. shown_bytes format shown run) first copies) (O.seen out.old) (O.seen out.new) result }
 {
     for written in 0..copies {

@@ -1,17 +1,18 @@
 //! The coins that decide, and the steps at which they do.
 ghost use Rattle.std.specs.Prelude.{◌≡◌, ◌+◌, ◌<◌, ◌^◌, ◌++◌, All, drop, length, map, take, None, IfOk, IfErr, OnOk};
 ghost use Rattle.stab_io.specs.declared.refusal.Refusal.TheVariants.{OutOfMemory};
-ghost use Rattle.stab_circuit.specs.Steps.{check_of, unroll};
-ghost use Rattle.stab_items.specs.Cursors.{step_shown, HasDistinctQubits};
+ghost use Rattle.stab_items.specs.Steps.{check_of, unroll, HasDistinctQubits};
+ghost use Rattle.stab_items.specs.StepValues.{step_shown};
 ghost use Rattle.stab_items.specs.Views.{circuit_items};
 ghost use Rattle.stab_run.specs.Points.{all_coins_of, coins_of};
-ghost use Rattle.stab_results.specs.Formats.{one_places, one_positions_from};
+ghost use Rattle.stab_results.specs.Formats.{one_positions, one_positions_from};
 ghost use Rattle.stab_report.specs.Places.{step_of_coin};
 ghost use Rattle.stab_commands.specs.inner.Groups.{coins_together};
 
-use stab_circuit::{Circuit, Cursor, Step, Steps};
+use stab_circuit::{Circuit, Cursor, Step};
 use stab_frames::bit_at;
 use stab_io::Refusal;
+use stab_items::Steps;
 use stab_sampler::push_when;
 use std::alloc::{AllocError, Global};
 
@@ -80,8 +81,8 @@ pub(crate) fn coin_positions(
 ) -> Result<CoinPositions, Refusal>
     requires checked { check_of (circuit_items circuit.now) ≡ None }
     requires flags { length free.now ≡ all_coins_of (unroll (circuit_items circuit.now)) }
-    ensures numbers { IfOk result (λ p. p.numbers.items ≡ one_places free.now) }
-    ensures steps { IfOk result (λ p. p.steps.items ≡ map (step_of_coin (unroll (circuit_items circuit.now))) (one_places free.now)) }
+    ensures numbers { IfOk result (λ p. p.numbers.items ≡ one_positions free.now) }
+    ensures steps { IfOk result (λ p. p.steps.items ≡ map (step_of_coin (unroll (circuit_items circuit.now))) (one_positions free.now)) }
     ensures distinct { IfOk result (λ p. All HasDistinctQubits (unroll (circuit_items circuit.now))) }
     ensures err { IfErr result (λ r. r ≡ OutOfMemory) }
 {

@@ -4,14 +4,14 @@ ghost use Rattle.std.specs.List.{flat_map};
 ghost use Rattle.stab_io.specs.Devices.{WritesAll, WritesAllOrFault};
 ghost use Rattle.stab_io.specs.declared.refusal.Refusal.TheVariants.{OutOfMemory};
 ghost use Rattle.stab_io.specs.Refusals.{whole};
-ghost use Rattle.stab_circuit.specs.Steps.{check_of, qubits_of, unroll};
+ghost use Rattle.stab_items.specs.Steps.{check_of, qubits_of, unroll};
 ghost use Rattle.stab_items.specs.Views.{circuit_items};
-ghost use Rattle.stab_results.specs.Formats.{detectors_of, entry, one_places};
+ghost use Rattle.stab_results.specs.Formats.{detector_bits_of, entry, one_positions};
 ghost use Rattle.stab_sampler.specs.Lanes.{lane_bits};
 ghost use Rattle.stab_sampler.specs.Words.{word_bit};
 ghost use Rattle.stab_report.specs.Places.{step_of_coin, path_of_coin};
 ghost use Rattle.stab_commands.specs.CoinRuns.{AreCoinRuns};
-ghost use Rattle.stab_report.specs.CoinTables.{coin_line, coin_text, whole_kinds};
+ghost use Rattle.stab_report.specs.CoinTables.{coin_line, coin_entry, whole_kinds};
 ghost use Rattle.stab_report.specs.Endings.{SendsUnflushed};
 ghost use Rattle.stab_report.specs.Texts.{row_head, texts_from};
 ghost use Rattle.stab_commands.specs.inner.CoinRows.{HaveFlips, coin_at, positions_in, text_at};
@@ -38,7 +38,7 @@ fn whole_kinds(circuit: &Circuit) -> Kinds
 
 /// A coin that decides, and where it does.
 #[derive(Clone, Copy)]
-pub(crate) struct PlacedCoin {
+pub(crate) struct NumberedCoin {
     /// Its number.
     pub coin: usize,
     /// How many steps are in front of the one that takes it.
@@ -47,7 +47,7 @@ pub(crate) struct PlacedCoin {
     pub path: Path,
 }
 
-impl PlacedCoin {
+impl NumberedCoin {
     ghost use Rattle.std.specs.Prelude.{◌≡◌};
 
     /// The coin, with the path of the item that takes it.
@@ -63,7 +63,7 @@ impl PlacedCoin {
 }
 
 /// The coin at a position among those that decide.
-pub(crate) fn placed_coin(circuit: &Circuit, runs: &CoinRuns, position: usize) -> PlacedCoin
+pub(crate) fn placed_coin(circuit: &Circuit, runs: &CoinRuns, position: usize) -> NumberedCoin
     requires checked { check_of (circuit_items circuit.now) ≡ None }
     requires runs { AreCoinRuns (qubits_of (circuit_items circuit.now)) (circuit_items circuit.now) runs.now }
     requires in_range { position < length runs.now.numbers.items }
@@ -74,12 +74,12 @@ pub(crate) fn placed_coin(circuit: &Circuit, runs: &CoinRuns, position: usize) -
     let coin = runs.numbers()[position] as usize;
     let step = runs.steps()[position];
     let path = circuit.item_of_step(step).path;
-    PlacedCoin { coin, step, path }
+    NumberedCoin { coin, step, path }
 }
 
 /// A word of 64 lanes, and its position among others.
 #[derive(Clone, Copy)]
-struct PlacedWord {
+struct NumberedWord {
     position: u32,
     word: u64,
 }
@@ -90,7 +90,7 @@ const LAST_POSITION: usize = 4_294_967_295;
 /// Puts a word and its position after others, if it is not 0.
 ///
 /// Fault `OutOfMemory`, also if the position fits no `u32`: no circuit has as many bits.
-fn push_word(found: &mut Vec<PlacedWord>, position: usize, word: u64) -> Result<(), Fault>
+fn push_word(found: &mut Vec<NumberedWord>, position: usize, word: u64) -> Result<(), Fault>
     ensures value { OnOk result ((l : ℕ) → positions_in l found.new.items ≡ positions_in l found.old.items ++ (if word_bit word l then position ∷ [] else [])) }
     ensures err { IfErr result (λ f. f ≡ whole OutOfMemory) }
 {
@@ -101,14 +101,14 @@ fn push_word(found: &mut Vec<PlacedWord>, position: usize, word: u64) -> Result<
         return Err(Fault::whole(Refusal::OutOfMemory));
     }
     let position = position as u32;
-    found.push(PlacedWord { position, word })?;
+    found.push(NumberedWord { position, word })?;
     Ok(())
 }
 
 /// Replaces what a list has by the words that are not 0, of the 64 lanes from 64 * `part` on.
-fn find_words<W: Word>(words: &[W], part: usize, found: &mut Vec<PlacedWord>) -> Result<(), Fault>
+fn find_words<W: Word>(words: &[W], part: usize, found: &mut Vec<NumberedWord>) -> Result<(), Fault>
     requires in_range { 64 * part + 64 ≤ W.lanes }
-    ensures ones { OnOk result ((l : ℕ) → l < 64 → positions_in l found.new.items ≡ one_places (lane_bits W.at (64 * part + l) words.now)) }
+    ensures ones { OnOk result ((l : ℕ) → l < 64 → positions_in l found.new.items ≡ one_positions (lane_bits W.at (64 * part + l) words.now)) }
     ensures err { IfErr result (λ f. f ≡ whole OutOfMemory) }
 {
     found.clear();
@@ -120,7 +120,7 @@ fn find_words<W: Word>(words: &[W], part: usize, found: &mut Vec<PlacedWord>) ->
 
 /// Replaces what a list has by the positions of the words that are 1 in a lane.
 fn write_positions(
-    found: &[PlacedWord],
+    found: &[NumberedWord],
     lane: usize,
     positions: &mut Vec<u32>,
 ) -> Result<(), AllocError>
@@ -140,7 +140,7 @@ fn write_positions(
 fn write_line<O: Output>(
     out: &mut O,
     kinds: Kinds,
-    coin: &PlacedCoin,
+    coin: &NumberedCoin,
     positions: &[u32],
 ) -> Result<(), Refusal>
     ensures writes { WritesAll (O.seen out.old) (O.seen out.new) (row_head coin.now.step coin.now.path (codes "c") coin.now.coin ++ (flat_map (entry kinds) positions.now ++ codes "\n")) result }
@@ -161,7 +161,7 @@ fn write_coin_line<O: Output>(
     requires checked { check_of (circuit_items circuit.now) ≡ None }
     requires runs { AreCoinRuns (qubits_of (circuit_items circuit.now)) (circuit_items circuit.now) runs.now }
     requires in_range { position < length runs.now.numbers.items }
-    ensures writes { (flips : List Bool) → one_places flips ≡ positions.now → WritesAllOrFault (O.seen out.old) (O.seen out.new) (coin_line (circuit_items circuit.now) (coin_at (circuit_items circuit.now) position) flips) result }
+    ensures writes { (flips : List Bool) → one_positions flips ≡ positions.now → WritesAllOrFault (O.seen out.old) (O.seen out.new) (coin_line (circuit_items circuit.now) (coin_at (circuit_items circuit.now) position) flips) result }
 {
     let coin = placed_coin(circuit, runs, position);
     let kinds = whole_kinds(circuit);
@@ -186,8 +186,8 @@ fn write_coin<O: Output>(
     requires in_range { position < length runs.now.numbers.items }
     requires below { All (λ k. k < length bits.old) positions.now }
     requires zero { bits.old ≡ replicate (length bits.old) false }
-    requires within { detectors_of (whole_kinds (circuit_items circuit.now)) ≤ length bits.old }
-    ensures writes { (flips : List Bool) → length flips ≡ length bits.old → one_places flips ≡ positions.now → WritesAllOrFault (O.seen out.old) (O.seen out.new) (coin_text layout (circuit_items circuit.now) (coin_at (circuit_items circuit.now) position) flips) result }
+    requires within { detector_bits_of (whole_kinds (circuit_items circuit.now)) ≤ length bits.old }
+    ensures writes { (flips : List Bool) → length flips ≡ length bits.old → one_positions flips ≡ positions.now → WritesAllOrFault (O.seen out.old) (O.seen out.new) (coin_entry layout (circuit_items circuit.now) (coin_at (circuit_items circuit.now) position) flips) result }
     ensures same { OnOk result (bits.new ≡ bits.old) }
 {
     match layout {
@@ -216,7 +216,7 @@ fn write_lanes<O: Output, W: Word>(
     requires some { first + lanes ≤ length runs.now.numbers.items }
     requires as_many { length bits.old ≡ length words.now }
     requires zero { bits.old ≡ replicate (length bits.old) false }
-    requires within { detectors_of (whole_kinds (circuit_items circuit.now)) ≤ length bits.old }
+    requires within { detector_bits_of (whole_kinds (circuit_items circuit.now)) ≤ length bits.old }
     ensures sends { HaveFlips (λ w k. W.at w (64 * part + k)) (circuit_items circuit.now) first lanes words.now → SendsUnflushed (texts_from (text_at layout (circuit_items circuit.now)) first lanes) (O.seen out.old) (O.seen out.new) result }
     ensures same { OnOk result (bits.new ≡ bits.old) }
 {
@@ -246,7 +246,7 @@ pub(crate) fn write_parts<O: Output, W: Word>(
     requires runs { AreCoinRuns (qubits_of (circuit_items circuit.now)) (circuit_items circuit.now) runs.now }
     requires in_range { lanes ≤ W.lanes }
     requires some { first + lanes ≤ length runs.now.numbers.items }
-    requires within { detectors_of (whole_kinds (circuit_items circuit.now)) ≤ length words.now }
+    requires within { detector_bits_of (whole_kinds (circuit_items circuit.now)) ≤ length words.now }
     ensures sends { HaveFlips W.at (circuit_items circuit.now) first lanes words.now → SendsUnflushed (texts_from (text_at layout (circuit_items circuit.now)) first lanes) (O.seen out.old) (O.seen out.new) result }
 {
     let mut bits = vec![in alloc; false; words.len()]?;

@@ -3,16 +3,15 @@ ghost use Rattle.std.specs.Prelude.{◌≡◌, ℕ, ◌+◌, ◌<◌, ◌≤◌,
 ghost use Rattle.stab_io.specs.declared.refusal.Refusal.TheVariants.{OutOfMemory};
 ghost use Rattle.stab_io.specs.Refusals.{Refuses, whole};
 ghost use Rattle.stab_gates.specs.Limits.{most_qubits};
-ghost use Rattle.stab_circuit.specs.Steps.{check_of, check_within, unroll};
-ghost use Rattle.stab_items.specs.Cursors.{HasDistinctQubits};
+ghost use Rattle.stab_items.specs.Steps.{check_of, check_within, unroll, HasDistinctQubits};
 ghost use Rattle.stab_items.specs.Views.{circuit_items};
 ghost use Rattle.stab_run.specs.Points.{all_coins_of};
-ghost use Rattle.stab_results.specs.Formats.{one_places};
+ghost use Rattle.stab_results.specs.Formats.{one_positions};
 ghost use Rattle.stab_sampler.specs.References.{IsReference};
 ghost use Rattle.stab_report.specs.Places.{step_of_coin};
 ghost use Rattle.stab_report.specs.Coins.{flips_of};
 ghost use Rattle.stab_run.specs.Coins.{zero_coins};
-ghost use Rattle.stab_commands.specs.CoinRuns.{AreCoinRuns, AreBits, free_coins};
+ghost use Rattle.stab_commands.specs.CoinRuns.{AreCoinRuns, LaneHasBits, deciding_coins};
 
 use crate::coin_positions::{CoinPositions, coin_positions};
 use stab_circuit::Circuit;
@@ -82,8 +81,8 @@ fn reference_of(
 fn positions_of(alloc: Global, circuit: &Circuit, free: &[bool]) -> Result<CoinPositions, Fault>
     requires checked { check_of (circuit_items circuit.now) ≡ None }
     requires flags { length free.now ≡ all_coins_of (unroll (circuit_items circuit.now)) }
-    ensures numbers { IfOk result (λ p. p.numbers.items ≡ one_places free.now) }
-    ensures steps { IfOk result (λ p. p.steps.items ≡ map (step_of_coin (unroll (circuit_items circuit.now))) (one_places free.now)) }
+    ensures numbers { IfOk result (λ p. p.numbers.items ≡ one_positions free.now) }
+    ensures steps { IfOk result (λ p. p.steps.items ≡ map (step_of_coin (unroll (circuit_items circuit.now))) (one_positions free.now)) }
     ensures distinct { IfOk result (λ p. All HasDistinctQubits (unroll (circuit_items circuit.now))) }
     ensures err { IfErr result (λ f. f ≡ whole OutOfMemory) }
 {
@@ -170,7 +169,7 @@ impl CoinRuns {
         requires in_range { n ≤ most_qubits }
         requires runs { AreCoinRuns n (circuit_items circuit.now) self.now }
         requires some { first ≤ length self.now.numbers.items }
-        ensures flips { OnOk result ((l : ℕ) → l < W.lanes → first + l < length (free_coins n (circuit_items circuit.now)) → AreBits W.at l (flips_of n (circuit_items circuit.now) zero_coins (slice_index_or (free_coins n (circuit_items circuit.now)) (first + l) 0)) lists.new) }
+        ensures flips { OnOk result ((l : ℕ) → l < W.lanes → first + l < length (deciding_coins n (circuit_items circuit.now)) → LaneHasBits W.at l (flips_of n (circuit_items circuit.now) zero_coins (slice_index_or (deciding_coins n (circuit_items circuit.now)) (first + l) 0)) lists.new) }
         ensures err { IfErr result (λ f. f ≡ whole OutOfMemory) }
     {
         let (_, left) = self.numbers.as_slice().split_at(first);

@@ -1,6 +1,6 @@
 //! The command that writes which bits of a circuit's runs each coin decides.
 ghost use Rattle.std.specs.Prelude.{◌≡◌, ◌+◌, ◌<◌, ◌≤◌, None, length};
-ghost use Rattle.stab_circuit.specs.Steps.{check_of, qubits_of};
+ghost use Rattle.stab_items.specs.Steps.{check_of, qubits_of};
 ghost use Rattle.stab_items.specs.Views.{circuit_items};
 ghost use Rattle.stab_commands.specs.CoinRuns.{AreCoinRuns};
 ghost use Rattle.stab_report.specs.Coins.{IsCoinTable, table_of};

@@ -1,10 +1,10 @@
 //! The command that finds a distance of all errors and how many least sets there are.
 ghost use Rattle.std.specs.Prelude.{◌≡◌, ◌++◌, None};
 ghost use Rattle.stab_io.specs.Devices.{WritesAll};
-ghost use Rattle.stab_circuit.specs.Steps.{check_of};
+ghost use Rattle.stab_items.specs.Steps.{check_of};
 ghost use Rattle.stab_items.specs.Views.{circuit_items};
 ghost use Rattle.stab_error_model.specs.ErrorTables.{StepsInside};
-ghost use Rattle.stab_report.specs.FaultTables.{GoesOn, fault_of, random_of};
+ghost use Rattle.stab_report.specs.SingleErrorTables.{GoesOnWithItems, fault_of, random_of};
 ghost use Rattle.stab_report.specs.MissingObservables.{WarnsOf};
 ghost use Rattle.stab_report.specs.Distances.{EndsCounted, HearsDistance, IsCountedText, IsDistanceOf, ReportsDistance, answer_text, count_line, of_all};
 ghost use Rattle.stab_commands.specs.inner.Faults.{SendsAtOnce};
@@ -13,10 +13,10 @@ use crate::distance::{Distance, count_of, find_distance, write_distance};
 use crate::doubts::doubts_of;
 use itoa::Buffer;
 use stab_circuit::{Circuit, read_circuit};
-use stab_error_model::Progress;
 use stab_io::{Fault, Input, Output, Refusal};
 use stab_jobs::DistanceOptions;
 use stab_report::{FaultsRefused, finish, report_doubts, report_missing, write_texts};
+use stab_search::Progress;
 use std::alloc::Global;
 
 /// The same options, for all errors.
@@ -85,7 +85,7 @@ fn send_counted_distance<O: Output, P: Progress>(
     progress: &mut P,
 ) -> Result<(), FaultsRefused>
     requires checked { check_of (circuit_items circuit.now) ≡ None }
-    ensures goes_on { GoesOn (IsCountedText options (circuit_items circuit.now)) options.deterministic_only (circuit_items circuit.now) (random_of result) (O.seen out.old) (O.seen out.new) (fault_of result) }
+    ensures goes_on { GoesOnWithItems (IsCountedText options (circuit_items circuit.now)) options.deterministic_only (circuit_items circuit.now) (random_of result) (O.seen out.old) (O.seen out.new) (fault_of result) }
     ensures reported { HearsDistance (of_all options) (circuit_items circuit.now) (P.heard progress.old) (P.heard progress.new) (fault_of result) }
 {
     let asked = of_all(options);

@@ -2,12 +2,12 @@
 ghost use Rattle.std.specs.Prelude.{◌≡◌, ℕ, ◌+◌, ◌-◌, ◌<◌, ◌≤◌, ◌++◌, None, length, IfOk, IfErr, OnOk};
 ghost use Rattle.stab_io.specs.Refusals.{whole};
 ghost use Rattle.stab_io.specs.declared.refusal.Refusal.TheVariants.{OutOfMemory};
-ghost use Rattle.stab_circuit.specs.Steps.{check_of, qubits_of};
+ghost use Rattle.stab_items.specs.Steps.{check_of, qubits_of};
 ghost use Rattle.stab_items.specs.Views.{circuit_items};
-ghost use Rattle.stab_regions.specs.Faults.{bits_in, numbers_where};
+ghost use Rattle.stab_regions.specs.SingleErrors.{bits_in, numbers_where};
 ghost use Rattle.stab_sampler.specs.Words.{word_bit};
 ghost use Rattle.stab_commands.specs.CoinRuns.{AreCoinRuns};
-ghost use Rattle.stab_search.specs.inner.Indexes.{listed};
+ghost use Rattle.stab_search.specs.inner.Indexes.{rows_listed};
 ghost use Rattle.stab_commands.specs.inner.CoinRows.{decides};
 ghost use Rattle.stab_commands.specs.inner.Deciders.{ones_at, ones_of};
 
@@ -71,7 +71,7 @@ fn push_all<W: Word>(
     requires in_range { end ≤ first + W.lanes }
     requires as_many { length lists.old.items ≡ length words.now }
     ensures size { OnOk result (length lists.new.items ≡ length words.now) }
-    ensures value { OnOk result ((i : ℕ) → i < length words.now → listed lists.new.items i ≡ listed lists.old.items i ++ ones_at W.at words.now i first end) }
+    ensures value { OnOk result ((i : ℕ) → i < length words.now → rows_listed lists.new.items i ≡ rows_listed lists.old.items i ++ ones_at W.at words.now i first end) }
 {
     for bit in 0..words.len() {
         push_parts(&mut lists[bit], words[bit], first, end)?;
@@ -82,7 +82,7 @@ fn push_all<W: Word>(
 /// Puts this many empty lists after others.
 fn add_lists(alloc: Global, lists: &mut Vec<Vec<usize>>, count: usize) -> Result<(), AllocError>
     ensures size { OnOk result (length lists.new.items ≡ length lists.old.items + count) }
-    ensures value { OnOk result ((i : ℕ) → listed lists.new.items i ≡ listed lists.old.items i) }
+    ensures value { OnOk result ((i : ℕ) → rows_listed lists.new.items i ≡ rows_listed lists.old.items i) }
 {
     for number in 0..count {
         lists.push(Vec::new(alloc))?;
@@ -107,7 +107,7 @@ fn list_batch<W: UnitWord>(
     requires in_range { end ≤ length runs.now.numbers.items }
     requires as_many { length lists.old.items ≡ bits_in (circuit_items circuit.now) }
     ensures size { OnOk result (length lists.new.items ≡ bits_in (circuit_items circuit.now)) }
-    ensures value { OnOk result ((i : ℕ) → i < bits_in (circuit_items circuit.now) → listed lists.new.items i ≡ listed lists.old.items i ++ numbers_where (decides (circuit_items circuit.now) i) first (end - first)) }
+    ensures value { OnOk result ((i : ℕ) → i < bits_in (circuit_items circuit.now) → rows_listed lists.new.items i ≡ rows_listed lists.old.items i ++ numbers_where (decides (circuit_items circuit.now) i) first (end - first)) }
     ensures err { IfErr result (λ f. f ≡ whole OutOfMemory) }
 {
     runs.flips(alloc, circuit, circuit.qubits(), first, lanes)?;
@@ -130,7 +130,7 @@ fn list_batches<W: UnitWord>(
     requires some { 0 < lanes }
     requires few { lanes ≤ W.lanes }
     ensures size { IfOk result (λ v. length v.items ≡ bits_in (circuit_items circuit.now)) }
-    ensures value { IfOk result (λ v. (i : ℕ) → i < bits_in (circuit_items circuit.now) → listed v.items i ≡ numbers_where (decides (circuit_items circuit.now) i) 0 (length runs.now.numbers.items)) }
+    ensures value { IfOk result (λ v. (i : ℕ) → i < bits_in (circuit_items circuit.now) → rows_listed v.items i ≡ numbers_where (decides (circuit_items circuit.now) i) 0 (length runs.now.numbers.items)) }
     ensures err { IfErr result (λ f. f ≡ whole OutOfMemory) }
 {
     let coins = runs.numbers().len();
@@ -156,7 +156,7 @@ pub(crate) fn deciders(
     requires checked { check_of (circuit_items circuit.now) ≡ None }
     requires runs { AreCoinRuns (qubits_of (circuit_items circuit.now)) (circuit_items circuit.now) runs.now }
     ensures size { IfOk result (λ v. length v.items ≡ bits_in (circuit_items circuit.now)) }
-    ensures value { IfOk result (λ v. (i : ℕ) → i < bits_in (circuit_items circuit.now) → listed v.items i ≡ numbers_where (decides (circuit_items circuit.now) i) 0 (length runs.now.numbers.items)) }
+    ensures value { IfOk result (λ v. (i : ℕ) → i < bits_in (circuit_items circuit.now) → rows_listed v.items i ≡ numbers_where (decides (circuit_items circuit.now) i) 0 (length runs.now.numbers.items)) }
     ensures err { IfErr result (λ f. f ≡ whole OutOfMemory) }
 {
     let lanes = runs.lanes();

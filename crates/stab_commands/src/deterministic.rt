@@ -1,8 +1,8 @@
 //! The command that says which detectors and observables are the same for all random bits.
 ghost use Rattle.std.specs.Prelude.{◌≡◌, ◌≤◌, ◌+◌, None, length};
-ghost use Rattle.stab_circuit.specs.Steps.{check_of, qubits_of, unroll, observables_of};
+ghost use Rattle.stab_items.specs.Steps.{check_of, qubits_of, unroll, observables_of};
 ghost use Rattle.stab_items.specs.Views.{circuit_items};
-ghost use Rattle.stab_regions.specs.Faults.{bits_in};
+ghost use Rattle.stab_regions.specs.SingleErrors.{bits_in};
 ghost use Rattle.stab_report.specs.Endings.{SendsFound};
 ghost use Rattle.stab_report.specs.Deterministic.{EndsDeterministic, IsDeterministicText, kinds_of};
 

@@ -2,13 +2,13 @@
 ghost use Rattle.std.specs.Prelude.{◌≡◌, ℕ, ◌<◌, ◌++◌, length, codes, false, All, None, IfOk, IfErr};
 ghost use Rattle.stab_io.specs.Devices.{WritesAll};
 ghost use Rattle.stab_io.specs.declared.refusal.Refusal.TheVariants.{OutOfMemory};
-ghost use Rattle.stab_circuit.specs.Items.{Items};
+ghost use Rattle.stab_items.specs.Items.{Items};
 ghost use Rattle.stab_io.specs.Refusals.{whole};
-ghost use Rattle.stab_circuit.specs.Steps.{check_of, qubits_of};
+ghost use Rattle.stab_items.specs.Steps.{check_of, qubits_of};
 ghost use Rattle.stab_items.specs.Views.{circuit_items};
 ghost use Rattle.stab_error_model.specs.ErrorTables.{IsErrorTable, StepsInside};
 ghost use Rattle.stab_error_model.specs.Unseen.{IsDistance, IsSetCount, ReportsUnseen};
-ghost use Rattle.stab_report.specs.FaultTables.{GoesOn, fault_of, random_of};
+ghost use Rattle.stab_report.specs.SingleErrorTables.{GoesOnWithItems, fault_of, random_of};
 ghost use Rattle.stab_report.specs.MissingObservables.{WarnsOf};
 ghost use Rattle.stab_report.specs.Distances.{EndsDistance, HearsDistance, IsDistanceOf, IsDistanceText, IsRefusedFor, ReportsDistance, answer_text, distance_line, if_graphlike, line_end, none_line, of_errors, set_text, up_to};
 ghost use Rattle.stab_commands.specs.inner.Faults.{SendsAtOnce};
@@ -18,14 +18,13 @@ use crate::doubts::doubts_of;
 use crate::searched::searched_errors;
 use itoa::Buffer;
 use stab_circuit::{Circuit, read_circuit};
-use stab_error_model::{
-    Answer, ErrorTable, Progress, count_distance, distance, graphlike_distance,
-};
+use stab_error_model::{ErrorTable, count_distance, distance, graphlike_distance};
 use stab_io::{Fault, Input, Output, Refusal};
 use stab_jobs::DistanceOptions;
 use stab_report::{
     FaultsRefused, finish, report_doubts, report_missing, write_errors, write_texts,
 };
+use stab_search::{Answer, Progress};
 use std::alloc::Global;
 
 /// The errors of a circuit, and what a search found among them.
@@ -269,7 +268,7 @@ fn send_distance<O: Output, P: Progress>(
     progress: &mut P,
 ) -> Result<(), FaultsRefused>
     requires checked { check_of (circuit_items circuit.now) ≡ None }
-    ensures goes_on { GoesOn (IsDistanceText options (circuit_items circuit.now)) options.deterministic_only (circuit_items circuit.now) (random_of result) (O.seen out.old) (O.seen out.new) (fault_of result) }
+    ensures goes_on { GoesOnWithItems (IsDistanceText options (circuit_items circuit.now)) options.deterministic_only (circuit_items circuit.now) (random_of result) (O.seen out.old) (O.seen out.new) (fault_of result) }
     ensures reported { HearsDistance options (circuit_items circuit.now) (P.heard progress.old) (P.heard progress.new) (fault_of result) }
 {
     let found = find_distance(alloc, circuit, options, progress)?;

@@ -2,7 +2,7 @@
 ghost use Rattle.std.specs.Prelude.{◌≡◌, ◌<◌, None, All, length, IfOk, IfErr};
 ghost use Rattle.stab_io.specs.Refusals.{whole};
 ghost use Rattle.stab_io.specs.declared.refusal.Refusal.TheVariants.{OutOfMemory};
-ghost use Rattle.stab_circuit.specs.Steps.{check_of, unroll};
+ghost use Rattle.stab_items.specs.Steps.{check_of, unroll};
 ghost use Rattle.stab_items.specs.Views.{circuit_items};
 ghost use Rattle.stab_report.specs.DoubtLines.{doubts_of};
 

@@ -3,23 +3,24 @@ ghost use Rattle.std.specs.Prelude.{◌≡◌, None, length, IfOk, IfErr};
 ghost use Rattle.stab_io.specs.Devices.{WritesAll};
 ghost use Rattle.stab_io.specs.declared.refusal.Refusal.TheVariants.{OutOfMemory};
 ghost use Rattle.stab_io.specs.Refusals.{whole};
-ghost use Rattle.stab_circuit.specs.Items.{Items};
-ghost use Rattle.stab_circuit.specs.Steps.{check_of};
+ghost use Rattle.stab_items.specs.Items.{Items};
+ghost use Rattle.stab_items.specs.Steps.{check_of};
 ghost use Rattle.stab_items.specs.Views.{circuit_items};
 ghost use Rattle.stab_error_model.specs.ErrorTables.{StepsInside};
-ghost use Rattle.stab_report.specs.FaultTables.{GoesOn, fault_of, random_of};
+ghost use Rattle.stab_report.specs.SingleErrorTables.{GoesOnWithItems, fault_of, random_of};
 ghost use Rattle.stab_report.specs.DoubtLines.{Warns};
-ghost use Rattle.stab_report.specs.Distances.{AreAnswers, AreErrorsOf, EndsEach, HearsErrors, IsDistanceOf, IsEachText, ReportsErrors, answer_texts, for_observable};
+ghost use Rattle.stab_report.specs.Distances.{AreDistanceAnswers, AreErrorsOf, EndsEach, HearsErrors, IsDistanceOf, IsEachText, ReportsErrors, answer_texts, for_observable};
 ghost use Rattle.stab_commands.specs.inner.Faults.{SendsAtOnce};
 
 use crate::distance::{search, write_answer};
 use crate::doubts::doubts_of;
 use crate::searched::searched_errors;
 use stab_circuit::{Circuit, read_circuit};
-use stab_error_model::{Answer, ErrorTable, Progress, Unwatched};
+use stab_error_model::ErrorTable;
 use stab_io::{Fault, Input, Output, Refusal};
 use stab_jobs::DistanceOptions;
 use stab_report::{FaultsRefused, finish, report_doubts};
+use stab_search::{Answer, Progress, Unwatched};
 use std::alloc::Global;
 
 /// The same options, for one observable.
@@ -61,7 +62,7 @@ fn answers_of(
     count: usize,
     options: DistanceOptions,
 ) -> Result<Vec<Answer>, Fault>
-    ensures found { IfOk result (λ v. (items : Items) → AreErrorsOf options items errors.now → AreAnswers options items errors.now 0 v.items) }
+    ensures found { IfOk result (λ v. (items : Items) → AreErrorsOf options items errors.now → AreDistanceAnswers options items errors.now 0 v.items) }
     ensures each { IfOk result (λ v. length v.items ≡ count) }
     ensures err { IfErr result (λ f. f ≡ whole OutOfMemory) }
 {
@@ -82,7 +83,7 @@ fn write_answers<O: Output>(
     options: DistanceOptions,
 ) -> Result<(), Refusal>
     requires checked { check_of (circuit_items circuit.now) ≡ None }
-    requires found { AreAnswers options (circuit_items circuit.now) errors.now 0 answers.now }
+    requires found { AreDistanceAnswers options (circuit_items circuit.now) errors.now 0 answers.now }
     requires steps { StepsInside (circuit_items circuit.now) errors.now.errors }
     ensures writes { WritesAll (O.seen out.old) (O.seen out.new) (answer_texts options (circuit_items circuit.now) errors.now 0 answers.now) result }
 {
@@ -102,7 +103,7 @@ fn send_answers<O: Output>(
     options: DistanceOptions,
 ) -> Result<(), Fault>
     requires checked { check_of (circuit_items circuit.now) ≡ None }
-    requires found { AreAnswers options (circuit_items circuit.now) errors.now 0 answers.now }
+    requires found { AreDistanceAnswers options (circuit_items circuit.now) errors.now 0 answers.now }
     requires steps { StepsInside (circuit_items circuit.now) errors.now.errors }
     ensures sends { SendsAtOnce (answer_texts options (circuit_items circuit.now) errors.now 0 answers.now) (O.seen out.old) (O.seen out.new) result }
 {
@@ -119,7 +120,7 @@ fn send_each_distance<O: Output, P: Progress>(
     progress: &mut P,
 ) -> Result<(), FaultsRefused>
     requires checked { check_of (circuit_items circuit.now) ≡ None }
-    ensures goes_on { GoesOn (IsEachText options (circuit_items circuit.now)) options.deterministic_only (circuit_items circuit.now) (random_of result) (O.seen out.old) (O.seen out.new) (fault_of result) }
+    ensures goes_on { GoesOnWithItems (IsEachText options (circuit_items circuit.now)) options.deterministic_only (circuit_items circuit.now) (random_of result) (O.seen out.old) (O.seen out.new) (fault_of result) }
     ensures reported { HearsErrors options (circuit_items circuit.now) (P.heard progress.old) (P.heard progress.new) }
 {
     let errors = searched_errors(alloc, circuit, options)?;

@@ -2,14 +2,14 @@
 ghost use Rattle.std.specs.Prelude.{◌≡◌, ◌<◌, ℕ, false, true, None, length, slice_index_or, IfOk, IfErr, IfSome, IfNone};
 ghost use Rattle.stab_io.specs.declared.refusal.Refusal.TheVariants.{OutOfMemory};
 ghost use Rattle.stab_io.specs.Refusals.{whole};
-ghost use Rattle.stab_circuit.specs.Steps.{check_of, qubits_of, unroll, is_detector, detectors_of};
-ghost use Rattle.stab_items.specs.Cursors.{step_shown};
+ghost use Rattle.stab_items.specs.Steps.{check_of, qubits_of, unroll, is_detector, detectors_of};
+ghost use Rattle.stab_items.specs.StepValues.{step_shown};
 ghost use Rattle.stab_items.specs.Views.{circuit_items};
-ghost use Rattle.stab_regions.specs.Faults.{AreDeterministic, IsFaultTable, IsDeterministic, bits_in};
+ghost use Rattle.stab_regions.specs.SingleErrors.{AreDeterministic, IsSingleErrorTable, IsDeterministic, bits_in};
 ghost use Rattle.stab_report.specs.Deterministic.{kinds_of};
 ghost use Rattle.stab_report.specs.declared.random.Bit.TheVariants.{Detector, Observable};
 ghost use Rattle.stab_jobs.specs.declared.job.FaultLayout.TheVariants.{Lines, Shots};
-ghost use Rattle.stab_report.specs.FaultTables.{EndsFaults, GoesOn, IsFirstDecider, IsFirstRandom, IsTableText, fault_of, table_text, random_of};
+ghost use Rattle.stab_report.specs.SingleErrorTables.{EndsFaults, GoesOnWithItems, IsFirstDecider, IsFirstRandom, IsTableText, fault_of, table_text, random_of};
 ghost use Rattle.stab_report.specs.DoubtLines.{Warns};
 ghost use Rattle.stab_report.specs.Places.{adds_to, bit_of, path_of_bit, steps_before_bit};
 ghost use Rattle.stab_commands.specs.inner.Faults.{PassesStep, SendsAtOnce};
@@ -22,7 +22,7 @@ use crate::doubts::doubts_of;
 use stab_circuit::{Circuit, Cursor, Path, Step, read_circuit};
 use stab_io::{Fault, Input, Output, Refusal};
 use stab_jobs::FaultLayout;
-use stab_regions::{FaultTable, faults};
+use stab_regions::{SingleErrorTable, single_errors};
 use stab_report::{
     Bit, Decider, FaultsRefused, Random, finish, report_doubts, write_lines, write_shots,
 };
@@ -216,12 +216,12 @@ fn send_lines<O: Output>(
     circuit: &Circuit,
     out: &mut O,
     kinds: Kinds,
-    table: &FaultTable,
+    table: &SingleErrorTable,
     everywhere: bool,
 ) -> Result<(), Fault>
     requires checked { check_of (circuit_items circuit.now) ≡ None }
     requires kinds { kinds ≡ kinds_of (circuit_items circuit.now) }
-    requires table { IsFaultTable (qubits_of (circuit_items circuit.now)) everywhere (circuit_items circuit.now) table.now.deterministic table.now.rows }
+    requires table { IsSingleErrorTable (qubits_of (circuit_items circuit.now)) everywhere (circuit_items circuit.now) table.now.deterministic table.now.rows }
     ensures sends { SendsAtOnce (table_text Lines everywhere (circuit_items circuit.now) table.now.rows) (O.seen out.old) (O.seen out.new) result }
 {
     let cursor = Cursor::at(alloc, circuit, 0).map_err(Fault::whole)?;
@@ -236,11 +236,11 @@ fn send_shots<O: Output>(
     out: &mut O,
     format: Format,
     kinds: Kinds,
-    table: &FaultTable,
+    table: &SingleErrorTable,
     everywhere: bool,
 ) -> Result<(), Fault>
     requires kinds { kinds ≡ kinds_of (circuit_items circuit.now) }
-    requires table { IsFaultTable (qubits_of (circuit_items circuit.now)) everywhere (circuit_items circuit.now) table.now.deterministic table.now.rows }
+    requires table { IsSingleErrorTable (qubits_of (circuit_items circuit.now)) everywhere (circuit_items circuit.now) table.now.deterministic table.now.rows }
     ensures sends { SendsAtOnce (table_text (Shots format) everywhere (circuit_items circuit.now) table.now.rows) (O.seen out.old) (O.seen out.new) result }
 {
     let mut bits = vec![in alloc; false; table.deterministic().len()]?;
@@ -248,17 +248,17 @@ fn send_shots<O: Output>(
     finish(out)
 }
 
-/// Sends a table of faults in a layout, and flushes.
+/// Sends a table of single errors in a layout, and flushes.
 fn send_table<O: Output>(
     alloc: Global,
     circuit: &Circuit,
     out: &mut O,
     layout: FaultLayout,
     everywhere: bool,
-    table: &FaultTable,
+    table: &SingleErrorTable,
 ) -> Result<(), Fault>
     requires checked { check_of (circuit_items circuit.now) ≡ None }
-    requires table { IsFaultTable (qubits_of (circuit_items circuit.now)) everywhere (circuit_items circuit.now) table.now.deterministic table.now.rows }
+    requires table { IsSingleErrorTable (qubits_of (circuit_items circuit.now)) everywhere (circuit_items circuit.now) table.now.deterministic table.now.rows }
     ensures sends { SendsAtOnce (table_text layout everywhere (circuit_items circuit.now) table.now.rows) (O.seen out.old) (O.seen out.new) result }
 {
     let kinds = kinds_of(circuit, table.deterministic().len());
@@ -290,7 +290,7 @@ pub(crate) fn refused_for(
     }
 }
 
-/// Writes the table of a circuit's faults, and flushes; or names a bit that is not deterministic.
+/// Writes the table of a circuit's single errors, and flushes; or names a bit that is not deterministic.
 fn send_faults<O: Output>(
     alloc: Global,
     circuit: &Circuit,
@@ -300,9 +300,9 @@ fn send_faults<O: Output>(
     deterministic_only: bool,
 ) -> Result<(), FaultsRefused>
     requires checked { check_of (circuit_items circuit.now) ≡ None }
-    ensures goes_on { GoesOn (IsTableText layout everywhere deterministic_only (circuit_items circuit.now)) deterministic_only (circuit_items circuit.now) (random_of result) (O.seen out.old) (O.seen out.new) (fault_of result) }
+    ensures goes_on { GoesOnWithItems (IsTableText layout everywhere deterministic_only (circuit_items circuit.now)) deterministic_only (circuit_items circuit.now) (random_of result) (O.seen out.old) (O.seen out.new) (fault_of result) }
 {
-    let table = faults(alloc, circuit, circuit.qubits(), everywhere)?;
+    let table = single_errors(alloc, circuit, circuit.qubits(), everywhere)?;
     match refused_for(alloc, circuit, table.deterministic(), deterministic_only) {
         Ok(None) => Ok(send_table(alloc, circuit, out, layout, everywhere, &table)?),
         Ok(Some(random)) => Err(FaultsRefused {
@@ -313,23 +313,23 @@ fn send_faults<O: Output>(
     }
 }
 
-/// Reads a circuit, and writes which of its detectors and observables each fault flips. A fault is a
+/// Reads a circuit, and writes which of its detectors and observables each single error flips: a
 /// Pauli X or Z that is put in between two steps. It flips a bit if the run without it gives the other
 /// bit, for all random bits. Runs are on as many qubits as the circuit names.
 ///
-/// The faults are those at the targets of the gate `I`; or, `everywhere`, those after each target of
+/// The single errors are those at the targets of the gate `I`; or, `everywhere`, those after each target of
 /// each gate and reset, and in front of each measured qubit and after it. They come in the order of
 /// the steps, and X before Z. With `FaultLayout::Lines` each has a line, such as `1207 3/0/2 X17 D24 L0`: how
 /// many steps are in front of it, the path of its item, its letter and qubit, and what it flips. With
-/// `FaultLayout::Shots` each has a shot, of all detectors and then all observables. Faults that go wrong
+/// `FaultLayout::Shots` each has a shot, of all detectors and then all observables. Single errors that go wrong
 /// in one run, in whatever order they are listed, flip what an odd number of their lines or shots name.
 ///
 /// If one of these is not the same for all coins, it has no such bit: refusal `NotDeterministic`,
 /// before anything is written, names the first, and the first coin that decides it. If `deterministic_only` asks
-/// for it, such ones are left out: no fault flips them. Reading, the flush and the other faults are
+/// for it, such ones are left out: no single error flips them. Reading, the flush and the other faults are
 /// those of `run_sample`, except that 20 comes before the first byte.
 ///
-/// Unless faults are `everywhere`, marks that may be meant in another way are reported on `err` after a call without a fault.
+/// Unless they are `everywhere`, marks that may be meant in another way are reported on `err` after a call without a fault.
 pub fn run_faults<I: Input, O: Output, E: Output>(
     alloc: Global,
     input: &mut I,

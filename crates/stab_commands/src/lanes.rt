@@ -1,12 +1,13 @@
 //! The bits of this many lanes, written one lane after another.
 ghost use Rattle.std.specs.Prelude.{◌≡◌, ℕ, ◌+◌, ◌<◌, ◌≤◌, length};
-ghost use Rattle.stab_results.specs.Formats.{detectors_of};
+ghost use Rattle.stab_results.specs.Formats.{detector_bits_of};
 ghost use Rattle.stab_run.specs.Runs.{State};
 ghost use Rattle.stab_sampler.specs.Words.{word_bit};
 ghost use Rattle.stab_sampler.specs.Lanes.{lane_bits};
 ghost use Rattle.stab_commands.specs.declared.bits.Shown.{Shown};
-ghost use Rattle.stab_commands.specs.Outputs.{of_shots};
-ghost use Rattle.stab_commands.specs.Sendings.{IsShown, SendsUnflushed, shown_bytes};
+ghost use Rattle.stab_report.specs.Texts.{texts_from as of_shots};
+ghost use Rattle.stab_commands.specs.Sendings.{IsShown, shown_bytes};
+ghost use Rattle.stab_report.specs.Endings.{SendsUnflushed};
 
 use crate::packed::{Packing, send_packed};
 use stab_io::{Fault, Output};
@@ -24,7 +25,7 @@ fn write_lanes<O: Output>(
     lanes: usize,
 ) -> Result<(), Fault>
     requires in_range { lanes ≤ 64 }
-    requires within { detectors_of kinds ≤ length words.now }
+    requires within { detector_bits_of kinds ≤ length words.now }
     ensures sends { (first : ℕ) (shown : Shown) (run : ℕ → State) → ((l : ℕ) → l < lanes → IsShown shown (run (first + l)) kinds (lane_bits word_bit l words.now)) → SendsUnflushed (of_shots (λ shot. shown_bytes format shown (run shot)) first lanes) (O.seen out.old) (O.seen out.new) result }
 {
     let mut bits = Vec::with_capacity(alloc, words.len())?;
@@ -46,7 +47,7 @@ fn write_parts<O: Output, W: Word>(
     lanes: usize,
 ) -> Result<(), Fault>
     requires in_range { lanes ≤ W.lanes }
-    requires within { detectors_of kinds ≤ length words.now }
+    requires within { detector_bits_of kinds ≤ length words.now }
     ensures sends { (first : ℕ) (shown : Shown) (run : ℕ → State) → ((l : ℕ) → l < lanes → IsShown shown (run (first + l)) kinds (lane_bits W.at l words.now)) → SendsUnflushed (of_shots (λ shot. shown_bytes format shown (run shot)) first lanes) (O.seen out.old) (O.seen out.new) result }
 {
     let mut part = vec![in alloc; 0; words.len()]?;
@@ -71,7 +72,7 @@ pub fn send_lanes<O: Output, W: Word>(
     lanes: usize,
 ) -> Result<(), Fault>
     requires in_range { lanes ≤ W.lanes }
-    requires within { detectors_of kinds ≤ length words.now }
+    requires within { detector_bits_of kinds ≤ length words.now }
     ensures sends { (first : ℕ) (shown : Shown) (run : ℕ → State) → ((l : ℕ) → l < lanes → IsShown shown (run (first + l)) kinds (lane_bits W.at l words.now)) → SendsUnflushed (of_shots (λ shot. shown_bytes format shown (run shot)) first lanes) (O.seen out.old) (O.seen out.new) result }
 {
     match format {

@@ -19,7 +19,7 @@
 //! - `deterministic`: the command that says which detectors and observables are the same for all random bits.
 //! - `coin_rows`: the rows of a table of coins.
 //! - `deciders`: the coins that decide each detector and observable.
-//! - `faults`: the command that writes which detectors and observables each fault flips.
+//! - `faults`: the command that writes which detectors and observables each single error flips.
 //! - `searched`: the errors that a distance is searched among, and the command that writes them.
 //! - `distance`: the command that finds the least number of errors that flip an observable and no detector.
 //! - `counted_distance`: the command that finds it of all errors, and how many least sets there are.
@@ -45,8 +45,8 @@
 //! Proved of the commands that find something out: a call ends by cases. The text was refused, by its own fault or unread, and the output is
 //! untouched; or it was given whole, and the output took what is written of its circuit, and one flush;
 //! or it failed once; or the answer is 20 before the first byte. So `run_deterministic`, `run_faults`
-//! and `run_distance` end, over the bits that are the same for all random bits; over what each fault flips, by
-//! runs with it and without it, for all random bits (`FaultTables.antt`); and over a least set of errors
+//! and `run_distance` end, over the bits that are the same for all random bits; over what each single error flips, by
+//! runs with it and without it, for all random bits (`SingleErrorTables.antt`); and over a least set of errors
 //! that no detector sees and an observable does, by runs with them and without them
 //! (`Distances.antt`). If a bit is not the same for all coins, `run_faults` and `run_distance` name the
 //! first such, and the first coin that decides it, before they write anything. These two and `run_check` report marks

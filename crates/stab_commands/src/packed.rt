@@ -5,8 +5,8 @@ ghost use Rattle.stab_results.specs.Formats.{f01_bytes, b8_bytes};
 ghost use Rattle.stab_sampler.specs.Words.{word_bit};
 ghost use Rattle.stab_sampler.specs.Lanes.{lane_bits};
 ghost use Rattle.stab_sampler.specs.Blocks.{row_bytes};
-ghost use Rattle.stab_commands.specs.Outputs.{of_shots};
-ghost use Rattle.stab_commands.specs.Sendings.{SendsUnflushed};
+ghost use Rattle.stab_report.specs.Texts.{texts_from as of_shots};
+ghost use Rattle.stab_report.specs.Endings.{SendsUnflushed};
 ghost use Rattle.stab_commands.specs.inner.Packings.{packed_bytes};
 
 use stab_io::{Fault, Output, write_all};

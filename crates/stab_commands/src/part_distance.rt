@@ -5,10 +5,10 @@ ghost use Rattle.stab_io.specs.Devices.{WritesAll};
 ghost use Rattle.stab_io.specs.declared.refusal.Refusal.TheVariants.{OutOfMemory};
 ghost use Rattle.stab_io.specs.Refusals.{whole};
 ghost use Rattle.stab_search.specs.SearchParts.{IsPartAnswer};
-ghost use Rattle.stab_circuit.specs.Steps.{check_of, qubits_of};
+ghost use Rattle.stab_items.specs.Steps.{check_of, qubits_of};
 ghost use Rattle.stab_items.specs.Views.{circuit_items};
 ghost use Rattle.stab_error_model.specs.ErrorTables.{IsErrorTable, StepsInside};
-ghost use Rattle.stab_report.specs.FaultTables.{GoesOn, fault_of, random_of};
+ghost use Rattle.stab_report.specs.SingleErrorTables.{GoesOnWithItems, fault_of, random_of};
 ghost use Rattle.stab_report.specs.DoubtLines.{Warns};
 ghost use Rattle.stab_report.specs.Distances.{HearsErrors, ReportsErrors, set_text};
 ghost use Rattle.stab_report.specs.PartTexts.{EndsPart, IsPartText, first_line, found_text, none_lines, none_of, of_part, part_head, part_text};
@@ -20,11 +20,11 @@ use crate::doubts::doubts_of;
 use crate::searched::searched_errors;
 use itoa::Buffer;
 use stab_circuit::{Circuit, read_circuit};
-use stab_error_model::{Answer, ErrorTable, Progress};
+use stab_error_model::ErrorTable;
 use stab_io::{Fault, Input, Output, Refusal, write_all};
 use stab_jobs::DistanceOptions;
 use stab_report::{FaultsRefused, finish, report_doubts, write_texts};
-use stab_search::{PartAnswer, SearchPart, least_in_part};
+use stab_search::{Answer, PartAnswer, Progress, SearchPart, least_in_part};
 use std::alloc::Global;
 
 /// The same options, for all errors and any observable.
@@ -207,7 +207,7 @@ fn send_part_distance<O: Output, P: Progress>(
     progress: &mut P,
 ) -> Result<(), FaultsRefused>
     requires checked { check_of (circuit_items circuit.now) ≡ None }
-    ensures goes_on { GoesOn (IsPartText part options (circuit_items circuit.now)) options.deterministic_only (circuit_items circuit.now) (random_of result) (O.seen out.old) (O.seen out.new) (fault_of result) }
+    ensures goes_on { GoesOnWithItems (IsPartText part options (circuit_items circuit.now)) options.deterministic_only (circuit_items circuit.now) (random_of result) (O.seen out.old) (O.seen out.new) (fault_of result) }
     ensures reported { HearsErrors (of_part options) (circuit_items circuit.now) (P.heard progress.old) (P.heard progress.new) }
 {
     let asked = of_part(options);

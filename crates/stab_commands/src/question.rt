@@ -1,5 +1,5 @@
 //! The command that answers a question about the errors of a circuit.
-ghost use Rattle.stab_report.specs.FaultTables.{fault_of, random_of};
+ghost use Rattle.stab_report.specs.SingleErrorTables.{fault_of, random_of};
 ghost use Rattle.stab_report.specs.Questions.{EndsQuestion, ReportsQuestion, WarnsOfQuestion};
 
 use crate::counted_distance::run_counted_distance;
@@ -7,10 +7,10 @@ use crate::distance::run_distance;
 use crate::each_distance::run_each_distance;
 use crate::part_distance::run_part_distance;
 use crate::searched::run_searched_errors;
-use stab_error_model::Progress;
 use stab_io::{Input, Output};
 use stab_jobs::{DistanceOptions, Question};
 use stab_report::FaultsRefused;
+use stab_search::Progress;
 use std::alloc::Global;
 
 /// Reads a circuit, and writes the answer to a question about its errors, as the call for that question does.

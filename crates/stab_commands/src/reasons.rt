@@ -3,23 +3,24 @@ ghost use Rattle.std.specs.Prelude.{◌≡◌, ℕ, ◌<◌, ◌++◌, true, Non
 ghost use Rattle.std.specs.List.{flat_map};
 ghost use Rattle.stab_io.specs.Devices.{WritesAll, WritesAllOrFault};
 ghost use Rattle.stab_items.specs.Paths.{path_text};
-ghost use Rattle.stab_circuit.specs.Steps.{check_of, qubits_of};
+ghost use Rattle.stab_items.specs.Steps.{check_of, qubits_of};
 ghost use Rattle.stab_items.specs.Views.{circuit_items};
-ghost use Rattle.stab_regions.specs.Faults.{bits_in, numbers_where};
+ghost use Rattle.stab_regions.specs.SingleErrors.{bits_in, numbers_where};
 ghost use Rattle.stab_commands.specs.CoinRuns.{AreCoinRuns};
 ghost use Rattle.stab_report.specs.Coins.{IsCoinTable, table_of};
 ghost use Rattle.stab_report.specs.Endings.{Sends, SendsUnflushed};
 ghost use Rattle.stab_report.specs.Reasons.{EndsExplain, bit_name, coordinates_at, decider_text, has_bit, number_of_bit, reason_text, reasons_text};
 ghost use Rattle.stab_commands.specs.inner.CoinRows.{coin_at, decides};
-ghost use Rattle.stab_search.specs.inner.Indexes.{listed};
+ghost use Rattle.stab_search.specs.inner.Indexes.{rows_listed};
 
 use crate::coin_rows::placed_coin;
 use crate::coin_runs::CoinRuns;
 use crate::deciders::deciders;
 use crate::faults::{bit_of, path_of_bit};
 use itoa::Buffer;
-use stab_circuit::{Circuit, Path, read_circuit, write_item_coordinates, write_path};
+use stab_circuit::{Circuit, Path, read_circuit};
 use stab_io::{Fault, Input, Output, Refusal, write_all};
+use stab_items::{write_item_coordinates, write_path};
 use stab_report::{Bit, finish, write_decider, write_texts};
 use std::alloc::Global;
 
@@ -205,7 +206,7 @@ fn write_reasons<O: Output>(
     requires checked { check_of (circuit_items circuit.now) ≡ None }
     requires runs { AreCoinRuns (qubits_of (circuit_items circuit.now)) (circuit_items circuit.now) runs.now }
     requires size { length lists.now ≡ bits_in (circuit_items circuit.now) }
-    requires are { (i : ℕ) → i < bits_in (circuit_items circuit.now) → listed lists.now i ≡ numbers_where (decides (circuit_items circuit.now) i) 0 (length runs.now.numbers.items) }
+    requires are { (i : ℕ) → i < bits_in (circuit_items circuit.now) → rows_listed lists.now i ≡ numbers_where (decides (circuit_items circuit.now) i) 0 (length runs.now.numbers.items) }
     ensures sends { SendsUnflushed (reasons_text (circuit_items circuit.now) (table_of (qubits_of (circuit_items circuit.now)) (circuit_items circuit.now))) (O.seen out.old) (O.seen out.new) result }
 {
     for number in 0..lists.len() {

@@ -1,6 +1,6 @@
 //! The commands that run a circuit, from its text to the bytes of its shots.
 ghost use Rattle.std.specs.Prelude.{◌≡◌, ◌≤◌, None};
-ghost use Rattle.stab_circuit.specs.Steps.{check_of};
+ghost use Rattle.stab_items.specs.Steps.{check_of};
 ghost use Rattle.stab_items.specs.Views.{circuit_items};
 ghost use Rattle.stab_jobs.specs.Limits.{most_shots};
 ghost use Rattle.stab_report.specs.Endings.{Sends};

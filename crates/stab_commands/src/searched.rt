@@ -1,9 +1,9 @@
 //! The errors that a distance is searched among, and the command that writes them.
 ghost use Rattle.std.specs.Prelude.{◌≡◌, None, IfOk, IfErr};
-ghost use Rattle.stab_circuit.specs.Steps.{check_of, qubits_of};
+ghost use Rattle.stab_items.specs.Steps.{check_of, qubits_of};
 ghost use Rattle.stab_items.specs.Views.{circuit_items};
 ghost use Rattle.stab_error_model.specs.ErrorTables.{IsErrorTable, StepsInside};
-ghost use Rattle.stab_report.specs.FaultTables.{GoesOn, fault_of, random_of};
+ghost use Rattle.stab_report.specs.SingleErrorTables.{GoesOnWithItems, fault_of, random_of};
 ghost use Rattle.stab_report.specs.DoubtLines.{Warns};
 ghost use Rattle.stab_report.specs.Distances.{AreErrorsOf, EndsSearched, HearsErrors, IsErrorsText, IsRefusedFor, IsSearchedText, ReportsErrors, error_lines};
 ghost use Rattle.stab_report.specs.Endings.{SendsFound};
@@ -16,11 +16,11 @@ use crate::deterministic::kinds_of;
 use crate::doubts::doubts_of;
 use crate::faults::refused_for;
 use stab_circuit::{Circuit, read_circuit};
-use stab_error_model::{ErrorTable, Progress, errors};
+use stab_error_model::{ErrorTable, errors};
 use stab_io::{Fault, Input, Output, Refusal};
 use stab_jobs::{DistanceOptions, SearchedLayout};
 use stab_report::{FaultsRefused, finish, report_doubts, write_all_errors};
-use stab_search::{Problem, write_problem};
+use stab_search::{Problem, Progress, write_problem};
 use std::alloc::Global;
 
 /// The errors of a circuit that are searched as the options ask for, and what each flips.
@@ -121,7 +121,7 @@ fn send_searched_errors<O: Output, P: Progress>(
     progress: &mut P,
 ) -> Result<(), FaultsRefused>
     requires checked { check_of (circuit_items circuit.now) ≡ None }
-    ensures goes_on { GoesOn (IsSearchedText layout options (circuit_items circuit.now)) options.deterministic_only (circuit_items circuit.now) (random_of result) (O.seen out.old) (O.seen out.new) (fault_of result) }
+    ensures goes_on { GoesOnWithItems (IsSearchedText layout options (circuit_items circuit.now)) options.deterministic_only (circuit_items circuit.now) (random_of result) (O.seen out.old) (O.seen out.new) (fault_of result) }
     ensures reported { HearsErrors options (circuit_items circuit.now) (P.heard progress.old) (P.heard progress.new) }
 {
     let errors = searched_errors(alloc, circuit, options)?;

@@ -4,15 +4,16 @@
 //! run by batches of lanes, all propagated over one run by its pivots. If these take too much memory, each batch has a run made for it,
 //! which is recorded in parts.
 ghost use Rattle.std.specs.Prelude.{◌≡◌, ℕ, ◌+◌, ◌*◌, ◌<◌, ◌≤◌, None, IfSome};
-ghost use Rattle.stab_circuit.specs.Items.{Items};
-ghost use Rattle.stab_circuit.specs.Steps.{check_of, qubits_of};
+ghost use Rattle.stab_items.specs.Items.{Items};
+ghost use Rattle.stab_items.specs.Steps.{check_of, qubits_of};
 ghost use Rattle.stab_items.specs.Views.{circuit_items};
 ghost use Rattle.stab_run.specs.Runs.{State, run_of};
 ghost use Rattle.stab_run.specs.Coins.{list_coin, seed_coin};
 ghost use Rattle.stab_sampler.specs.References.{IsReference};
 ghost use Rattle.stab_jobs.specs.Limits.{shots_of_seed};
-ghost use Rattle.stab_commands.specs.Outputs.{of_shots};
-ghost use Rattle.stab_commands.specs.Sendings.{SendsUnflushed, shots_of, shown_bytes};
+ghost use Rattle.stab_report.specs.Texts.{texts_from as of_shots};
+ghost use Rattle.stab_commands.specs.Sendings.{shots_of, shown_bytes};
+ghost use Rattle.stab_report.specs.Endings.{SendsUnflushed};
 
 use crate::bits::{Shown, write_shown};
 use crate::lanes::send_lanes;

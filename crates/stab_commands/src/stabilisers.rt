@@ -6,7 +6,7 @@ ghost use Rattle.stab_pauli.specs.Texts.{pauli_text};
 ghost use Rattle.stab_io.specs.declared.refusal.Refusal.TheVariants.{OutOfMemory};
 ghost use Rattle.stab_tableau.specs.Traces.{member};
 ghost use Rattle.stab_tableau.specs.Reduced.{AreReduced};
-ghost use Rattle.stab_circuit.specs.Steps.{check_of, qubits_of};
+ghost use Rattle.stab_items.specs.Steps.{check_of, qubits_of};
 ghost use Rattle.stab_items.specs.Views.{circuit_items};
 ghost use Rattle.stab_run.specs.Runs.{run_of};
 ghost use Rattle.stab_report.specs.Rows.{line_of, lines_of};

@@ -1,5 +1,5 @@
 -- Counts: how many logical errors of the least size a table has is how many least unseen sets its errors have.
-use Rattle.stab_error_model.proofs.Names.{◌≡◌, ℕ, ◌<◌, sym, subst, false, List, [], length, length-map, arith, Option, Some, None, Result, Ok, Err, IfOk, All-weaker, Items, Answer, NoneWithin, NoneAtAll, ErrorTableState, IsErrorTable, IsDistance, IsLeastSet, IsSetCount, IsWithin, error_at, errors_at_numbers, with_observable, HasNoneBelow, IsLogicalSetOf, AreAsMany, IsCount, IsLogicalError}
+use Rattle.stab_error_model.proofs.Names.{◌≡◌, ℕ, ◌<◌, sym, subst, false, List, [], length, length-map, arith, Option, Some, None, Result, Ok, Err, IfOk, All-weaker, Items, Answer, NoneWithin, NoneAtAll, ErrorTableState, IsErrorTable, IsDistance, IsLeastSet, IsSetCount, IsWithinAsked, error_at, errors_at_numbers, with_observable, HasNoneBelow, IsLogicalSetOf, AreAsMany, IsCountOfSets, IsLogicalError}
 use Rattle.stab_search.specs.Tables.{ErrorTable}
 use Rattle.stab_error_model.proofs.ObservedLemmas.{from-kept, to-kept}
 use Rattle.stab_error_model.proofs.UnseenLemmas.{as-many, logical-of, logical-unseen}
@@ -44,7 +44,7 @@ module _ (n : ℕ) (items : Items) (observable : Option ℕ) (t : ErrorTableStat
     to-least errors set =
         let logical = from-kept t.table observable errors set.logical in record {
           ascending = set.ascending;
-          within = subst (IsWithin most) (sym set.count) least.within;
+          within = subst (IsWithinAsked most) (sym set.count) least.within;
           inside = All-weaker (λ k. k < length t.table.rows) (λ k. k < length t.errors) (λ k less. omega (arith, less, as-many n items observable t table)) errors logical.inside;
           least = record {
             unseen = logical-unseen n items observable t table false errors logical (λ asked. absurd (cc));
@@ -63,7 +63,7 @@ module _ (n : ℕ) (items : Items) (observable : Option ℕ) (t : ErrorTableStat
           count = omega (arith, one, other, length-map ks (error_at t.errors), length-map errors (error_at t.errors));
         }
 
-    pub set-count : (count : Option ℕ) → IsCount sought (length ks) count → IsSetCount observable n items t.errors most count
+    pub set-count : (count : Option ℕ) → IsCountOfSets sought (length ks) count → IsSetCount observable n items t.errors most count
     set-count (Some count) are = as-many-alike count to-least from-least are
     set-count None are = (are.0, (are.1.0, as-many-alike are.0 to-least from-least are.1.1))
 
@@ -82,8 +82,8 @@ module _ (n : ℕ) (items : Items) (observable : Option ℕ) (t : ErrorTableStat
 -- what is counted of the rows that are searched is a count of the sets of which an answer is one
 pub counts-are : {E : Type 0} (t : ErrorTableState) (observable : Option ℕ) (answer : Answer) (ks : List ℕ) (size : ℕ) (r : Result (Option ℕ) E)
     → ((n : ℕ) (items : Items) (most : Option ℕ) → IsDistance false observable n items t.errors most answer → IsLeastSet false observable n items t.errors most ks) → size ≡ length ks
-    → IfOk r (IsCount (with_observable observable t.table) size)
+    → IfOk r (IsCountOfSets (with_observable observable t.table) size)
     → IfOk r (λ c. (n : ℕ) (items : Items) (most : Option ℕ) → IsErrorTable n items t → IsDistance false observable n items t.errors most answer → IsSetCount observable n items t.errors most c)
 counts-are t observable answer ks size (Ok c) least e is = λ n items most table distance.
-    set-count n items observable t table most ks (least n items most distance) c (subst (λ k. IsCount (with_observable observable t.table) k c) e is)
+    set-count n items observable t table most ks (least n items most distance) c (subst (λ k. IsCountOfSets (with_observable observable t.table) k c) e is)
 counts-are t observable answer ks size (Err x) least e is = tt

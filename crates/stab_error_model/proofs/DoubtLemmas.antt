@@ -1,8 +1,8 @@
 -- Doubtful marks: among items one after another, and where they are.
 use Rattle.stab_error_model.proofs.Names.{◌≡◌, ℕ, zero, suc, ◌+◌, ◌*◌, ◌<◌, ◌≤◌, sym, ap, ◌∙◌, Bool, true, false, List, [], ◌∷◌, ◌++◌, append_assoc, take, get_or, length, arith, All, Option, Some, None, if◌then◌else◌, length-append, length-map, All-append, All-cons, All-nil, Kind, Items, OneItem, next, block, join, one, steps_of, unroll, rounds, length-rounds, is_idle, marks_by, marks_of}
 use Rattle.stab_instructions.specs.declared.operation.Kind.TheVariants as kind
-use Rattle.stab_circuit.specs.Items.{done, before, listed}
-use Rattle.stab_circuit.specs.Steps.{most_steps}
+use Rattle.stab_items.specs.Items.{done, before, listed}
+use Rattle.stab_items.specs.Steps.{most_steps}
 use Rattle.stab_items.specs.declared.summary.Summary.{Summary}
 use Rattle.stab_items.specs.inner.Summaries.{summary_of}
 use Rattle.stab_error_model.specs.declared.doubts.Doubt.{Doubt}

@@ -1,8 +1,8 @@
--- Flips: what an error flips of a run, by the rows of a table of faults.
-use Rattle.stab_error_model.proofs.Names.{◌≡◌, ℕ, zero, suc, ◌+◌, ◌<◌, ◌≤◌, ◌⊎◌, inl, inr, refl, sym, ap, ◌∙◌, subst, Bool, true, false, List, [], ◌∷◌, map, length, drop, arith, All, ◌&&◌, None, slice_index_or, if◌then◌else◌, cases_lt, ne_eqb, get_or-map, get_or_past, length-map, drop-drop, All-nil, All-cons, All-head, All-tail, Letter, ◌⊕◌, letters_anticommute, parity-false, letter_of_string, one_letter-anticommute, Items, unroll, detectors_of, StepFits, row, bits_at, parity_region, FaultPlace, in_front, fault_on, faults_of, fault_at, numbers_where, bits_in, IsDeterministic, IsFaultTable, flips, flipped_by_fault, FaultFits, flips_together, FaultsAdd, DeterministicParities, SitesFlipDeterministicParities, bits-letter, long-parity, ascending-is, ascends-below, where-same, fault-fits, odd-where, row-names, faults_in, fault_of_letter, fault_shown, error_shown, IsErrorTable, flip_together, flipped_by, Stands, ErrorStands, letter_names, error_names, IsRowOf, AreRowsOf, Place, PlacedLetter, ErrorValue, observables_of}
+-- Flips: what an error flips of a run, by the rows of a table of single errors.
+use Rattle.stab_error_model.proofs.Names.{◌≡◌, ℕ, zero, suc, ◌+◌, ◌<◌, ◌≤◌, ◌⊎◌, inl, inr, refl, sym, ap, ◌∙◌, subst, Bool, true, false, List, [], ◌∷◌, map, length, drop, arith, All, ◌&&◌, None, slice_index_or, if◌then◌else◌, cases_lt, ne_eqb, get_or-map, get_or_past, length-map, drop-drop, All-nil, All-cons, All-head, All-tail, Letter, ◌⊕◌, letters_anticommute, parity-false, letter_of_string, one_letter-anticommute, Items, unroll, detectors_of, StepFits, row, bits_at, parity_region, SingleError, in_front, single_error_on, single_errors_of, single_error_at, numbers_where, bits_in, IsDeterministic, IsSingleErrorTable, flips, flipped_by_single_error, SingleErrorFits, flips_together, SingleErrorsAdd, DeterministicParities, SitesFlipDeterministicParities, bits-letter, long-parity, ascending-is, ascends-below, where-same, single_error-fits, odd-where, row-names, single_errors_in, single_error_of_letter, single_error_shown, error_shown, IsErrorTable, flip_together, flipped_by_error, Stands, ErrorStands, letter_flips, error_names, IsErrorRow, AreErrorRows, ErrorSite, PlacedLetter, ErrorValue, observables_of}
 use Rattle.std.specs.Prelude.{Some}
 use Rattle.stab_gates.specs.declared.letter.Letter.TheVariants as letter
-use Rattle.stab_regions.specs.Rows.{odd}
+use Rattle.stab_search.specs.Tables.{odd}
 use Rattle.stab_error_model.specs.declared.placed.Error.TheVariants as error
 use Rattle.stab_error_model.proofs.FitLemmas.{Fits, errors-add}
 
@@ -41,51 +41,51 @@ set b other e = ap (λ c. c && other) e
 -- letters at one site
 
 module _ (n : ℕ) (everywhere : Bool) (items : Items) (deterministic : List Bool) (rows : List (List ℕ)) (fits : All (StepFits n) (unroll items))
-    (table : IsFaultTable n everywhere items deterministic rows) (found : DeterministicParities) (sites : SitesFlipDeterministicParities) (adds : FaultsAdd) where
-  abbrev faults : List FaultPlace
-  faults = faults_of everywhere (unroll items)
+    (table : IsSingleErrorTable n everywhere items deterministic rows) (found : DeterministicParities) (sites : SitesFlipDeterministicParities) (adds : SingleErrorsAdd) where
+  abbrev single_errors : List SingleError
+  single_errors = single_errors_of everywhere (unroll items)
 
-  as-many : length rows ≡ length faults
-  as-many = ap length (table.are_flipped (λ t. false)) ∙ length-map faults (flipped_by_fault n items deterministic (λ t. false))
+  as-many : length rows ≡ length single_errors
+  as-many = ap length (table.are_flipped (λ t. false)) ∙ length-map single_errors (flipped_by_single_error n items deterministic (λ t. false))
 
   -- a site where X and Z are has its numbers
 
-  x-site : (p : Place) → Stands p faults → (p.row < length faults) × (fault_at everywhere (unroll items) p.row ≡ fault_of_letter p letter.X)
-  x-site p stands = dropped-first p.row faults (fault_of_letter p letter.X) (fault_on 0 (in_front 0) letter.X) (fault_of_letter p letter.Z ∷ stands.0) stands.1
+  x-site : (p : ErrorSite) → Stands p single_errors → (p.row < length single_errors) × (single_error_at everywhere (unroll items) p.row ≡ single_error_of_letter p letter.X)
+  x-site p stands = dropped-first p.row single_errors (single_error_of_letter p letter.X) (single_error_on 0 (in_front 0) letter.X) (single_error_of_letter p letter.Z ∷ stands.0) stands.1
 
-  z-site : (p : Place) → Stands p faults → (p.row + 1 < length faults) × (fault_at everywhere (unroll items) (p.row + 1) ≡ fault_of_letter p letter.Z)
+  z-site : (p : ErrorSite) → Stands p single_errors → (p.row + 1 < length single_errors) × (single_error_at everywhere (unroll items) (p.row + 1) ≡ single_error_of_letter p letter.Z)
   z-site p stands =
-      dropped-first (p.row + 1) faults (fault_of_letter p letter.Z) (fault_on 0 (in_front 0) letter.X) stands.0
-      (sym (drop-drop 1 p.row faults) ∙ ap (drop 1) stands.1)
+      dropped-first (p.row + 1) single_errors (single_error_of_letter p letter.Z) (single_error_on 0 (in_front 0) letter.X) stands.0
+      (sym (drop-drop 1 p.row single_errors) ∙ ap (drop 1) stands.1)
 
-  pub site-fits : (p : Place) (l : Letter) → Stands p faults → FaultFits n (unroll items) (fault_of_letter p l)
+  pub site-fits : (p : ErrorSite) (l : Letter) → Stands p single_errors → SingleErrorFits n (unroll items) (single_error_of_letter p l)
   site-fits p l stands =
       let x = x-site p stands in
-      let fit : FaultFits n (unroll items) (fault_of_letter p letter.X) = subst (FaultFits n (unroll items)) x.1 (fault-fits n everywhere (unroll items) p.row fits x.0) in
+      let fit : SingleErrorFits n (unroll items) (single_error_of_letter p letter.X) = subst (SingleErrorFits n (unroll items)) x.1 (single_error-fits n everywhere (unroll items) p.row fits x.0) in
       record { qubit = fit.qubit; before = fit.before }
 
   module _ (i : ℕ) (lt : i < bits_in items) (same : IsDeterministic n items i) (coins : ℕ → Bool) where
-    x-flips : (p : Place) → Stands p faults → flips n items coins (fault_of_letter p letter.X) i ≡ odd i (row rows p.row)
+    x-flips : (p : ErrorSite) → Stands p single_errors → flips n items coins (single_error_of_letter p letter.X) i ≡ odd i (row rows p.row)
     x-flips p stands =
         let x = x-site p stands in
         ap (λ f. flips n items coins f i) (sym x.1) ∙ row-names n everywhere items deterministic rows fits table i lt same coins p.row (omega (arith, x.0, as-many))
 
-    z-flips : (p : Place) → Stands p faults → flips n items coins (fault_of_letter p letter.Z) i ≡ odd i (row rows (p.row + 1))
+    z-flips : (p : ErrorSite) → Stands p single_errors → flips n items coins (single_error_of_letter p letter.Z) i ≡ odd i (row rows (p.row + 1))
     z-flips p stands =
         let z = z-site p stands in
         ap (λ f. flips n items coins f i) (sym z.1) ∙ row-names n everywhere items deterministic rows fits table i lt same coins (p.row + 1) (omega (arith, z.0, as-many))
 
     -- a letter flips the bit if it anticommutes with the region's letter there
-    letter-meets : (p : Place) (l : Letter) → Stands p faults
-        → flips n items coins (fault_of_letter p l) i
+    letter-meets : (p : ErrorSite) (l : Letter) → Stands p single_errors
+        → flips n items coins (single_error_of_letter p l) i
         ≡ letters_anticommute l (letter_of_string (parity_region n (detectors_of (unroll items)) i (drop p.before (unroll items))).string.letters p.qubit)
     letter-meets p l stands =
         let fit = site-fits p l stands in
-        sites n items i (fault_of_letter p l) fits lt fit.qubit ((found n (observables_of items) (unroll items) i fits lt).1 same) coins
+        sites n items i (single_error_of_letter p l) fits lt fit.qubit ((found n (observables_of items) (unroll items) i fits lt).1 same) coins
         ∙ one_letter-anticommute n p.qubit l (parity_region n (detectors_of (unroll items)) i (drop p.before (unroll items))).string.letters
         (long-parity n (detectors_of (unroll items)) i (drop p.before (unroll items))) fit.qubit
 
-    pub letter-flips : (p : Place) (l : Letter) → Stands p faults → flips n items coins (fault_of_letter p l) i ≡ bits_at i l (row rows p.row) (row rows (p.row + 1))
+    pub letter-flips : (p : ErrorSite) (l : Letter) → Stands p single_errors → flips n items coins (single_error_of_letter p l) i ≡ bits_at i l (row rows p.row) (row rows (p.row + 1))
     letter-flips p l stands =
         letter-meets p l stands
         ∙ sym (bits-letter i l (letter_of_string (parity_region n (detectors_of (unroll items)) i (drop p.before (unroll items))).string.letters p.qubit)
@@ -95,41 +95,41 @@ module _ (n : ℕ) (everywhere : Bool) (items : Items) (deterministic : List Boo
 
   -- errors
 
-  pub error-fits : (e : ErrorValue) → ErrorStands faults e → All (FaultFits n (unroll items)) (faults_in (error_shown e))
+  pub error-fits : (e : ErrorValue) → ErrorStands single_errors e → All (SingleErrorFits n (unroll items)) (single_errors_in (error_shown e))
   error-fits (error.Letter f) stands = one f stands
     where
-      one : (f : PlacedLetter) → Stands f.site faults → All (FaultFits n (unroll items)) (fault_shown f ∷ [])
-      one f stands = All-cons (FaultFits n (unroll items)) (fault_shown f) [] (site-fits f.site f.letter stands) (All-nil (FaultFits n (unroll items)))
+      one : (f : PlacedLetter) → Stands f.site single_errors → All (SingleErrorFits n (unroll items)) (single_error_shown f ∷ [])
+      one f stands = All-cons (SingleErrorFits n (unroll items)) (single_error_shown f) [] (site-fits f.site f.letter stands) (All-nil (SingleErrorFits n (unroll items)))
   error-fits (error.Letters f g) stands = two f g stands.0 stands.1
     where
-      two : (f g : PlacedLetter) → Stands f.site faults → Stands g.site faults → All (FaultFits n (unroll items)) (fault_shown f ∷ fault_shown g ∷ [])
+      two : (f g : PlacedLetter) → Stands f.site single_errors → Stands g.site single_errors → All (SingleErrorFits n (unroll items)) (single_error_shown f ∷ single_error_shown g ∷ [])
       two f g first second =
-          All-cons (FaultFits n (unroll items)) (fault_shown f) (fault_shown g ∷ []) (site-fits f.site f.letter first)
-          (All-cons (FaultFits n (unroll items)) (fault_shown g) [] (site-fits g.site g.letter second) (All-nil (FaultFits n (unroll items))))
+          All-cons (SingleErrorFits n (unroll items)) (single_error_shown f) (single_error_shown g ∷ []) (site-fits f.site f.letter first)
+          (All-cons (SingleErrorFits n (unroll items)) (single_error_shown g) [] (site-fits g.site g.letter second) (All-nil (SingleErrorFits n (unroll items))))
   error-fits (error.Record number f None) stands =
-      All-cons (FaultFits n (unroll items)) (fault_shown f) [] (site-fits f.site f.letter stands) (All-nil (FaultFits n (unroll items)))
+      All-cons (SingleErrorFits n (unroll items)) (single_error_shown f) [] (site-fits f.site f.letter stands) (All-nil (SingleErrorFits n (unroll items)))
   error-fits (error.Record number f (Some g)) stands =
-      All-cons (FaultFits n (unroll items)) (fault_shown f) (fault_shown g ∷ []) (site-fits f.site f.letter stands.0)
-      (All-cons (FaultFits n (unroll items)) (fault_shown g) [] (site-fits g.site g.letter stands.1) (All-nil (FaultFits n (unroll items))))
+      All-cons (SingleErrorFits n (unroll items)) (single_error_shown f) (single_error_shown g ∷ []) (site-fits f.site f.letter stands.0)
+      (All-cons (SingleErrorFits n (unroll items)) (single_error_shown g) [] (site-fits g.site g.letter stands.1) (All-nil (SingleErrorFits n (unroll items))))
 
   module _ (i : ℕ) (lt : i < bits_in items) (same : IsDeterministic n items i) (coins : ℕ → Bool) where
     -- letters at one and at two sites
-    one-flips : (f : PlacedLetter) → Stands f.site faults → flips_together (λ g. flips n items coins g i) (fault_shown f ∷ []) ≡ letter_names i rows f
-    one-flips f stands = parity-false (flips n items coins (fault_shown f) i) ∙ letter-flips i lt same coins f.site f.letter stands
+    one-flips : (f : PlacedLetter) → Stands f.site single_errors → flips_together (λ g. flips n items coins g i) (single_error_shown f ∷ []) ≡ letter_flips i rows f
+    one-flips f stands = parity-false (flips n items coins (single_error_shown f) i) ∙ letter-flips i lt same coins f.site f.letter stands
 
-    two-flip : (f g : PlacedLetter) → Stands f.site faults → Stands g.site faults
-        → flips_together (λ h. flips n items coins h i) (fault_shown f ∷ fault_shown g ∷ []) ≡ letter_names i rows f ⊕ letter_names i rows g
+    two-flip : (f g : PlacedLetter) → Stands f.site single_errors → Stands g.site single_errors
+        → flips_together (λ h. flips n items coins h i) (single_error_shown f ∷ single_error_shown g ∷ []) ≡ letter_flips i rows f ⊕ letter_flips i rows g
     two-flip f g first second = (λ t. letter-flips i lt same coins f.site f.letter first t ⊕ one-flips g second t)
 
-    together : (e : ErrorValue) → ErrorStands faults e → flips_together (λ f. flips n items coins f i) (faults_in (error_shown e)) ≡ error_names i rows e
+    together : (e : ErrorValue) → ErrorStands single_errors e → flips_together (λ f. flips n items coins f i) (single_errors_in (error_shown e)) ≡ error_names i rows e
     together (error.Letter f) stands = one-flips f stands
     together (error.Letters f g) stands = two-flip f g stands.0 stands.1
     together (error.Record number f None) stands = one-flips f stands
     together (error.Record number f (Some g)) stands = two-flip f g stands.0 stands.1
 
     -- an error flips the bit if its rows name it
-    pub error-flips : (e : ErrorValue) → ErrorStands faults e → flip_together n items coins (faults_in (error_shown e)) i ≡ error_names i rows e
-    error-flips e stands = adds n items i (faults_in (error_shown e)) fits lt (error-fits e stands) same coins ∙ together e stands
+    pub error-flips : (e : ErrorValue) → ErrorStands single_errors e → flip_together n items coins (single_errors_in (error_shown e)) i ≡ error_names i rows e
+    error-flips e stands = adds n items i (single_errors_in (error_shown e)) fits lt (error-fits e stands) same coins ∙ together e stands
 
   -- bits that are not deterministic, and numbers that are of no bit, are in no row
 
@@ -143,9 +143,9 @@ module _ (n : ℕ) (everywhere : Bool) (items : Items) (deterministic : List Boo
       by_site (inl less) =
           ap (odd i)
           (ap (λ rs. row rs k) (table.are_flipped coins)
-          ∙ get_or-map (flipped_by_fault n items deterministic coins) faults k (fault_on 0 (in_front 0) letter.X) [] (omega (arith, less, as-many)))
-          ∙ odd-without (λ m. slice_index_or deterministic m false && flips n items coins (fault_at everywhere (unroll items) k) m) (bits_in items) i
-          (λ inside. unset (slice_index_or deterministic i false) (flips n items coins (fault_at everywhere (unroll items) k) i) (without inside))
+          ∙ get_or-map (flipped_by_single_error n items deterministic coins) single_errors k (single_error_on 0 (in_front 0) letter.X) [] (omega (arith, less, as-many)))
+          ∙ odd-without (λ m. slice_index_or deterministic m false && flips n items coins (single_error_at everywhere (unroll items) k) m) (bits_in items) i
+          (λ inside. unset (slice_index_or deterministic i false) (flips n items coins (single_error_at everywhere (unroll items) k) i) (without inside))
       by_site (inr more) = ap (odd i) (get_or_past rows k [] more)
 
   bits-without : (i : ℕ) (l : Letter) (by_x by_z : List ℕ) → odd i by_x ≡ false → odd i by_z ≡ false → bits_at i l by_x by_z ≡ false
@@ -155,7 +155,7 @@ module _ (n : ℕ) (everywhere : Bool) (items : Items) (deterministic : List Boo
   bits-without i letter.Z by_x by_z x z = z
 
   module _ (i : ℕ) (without : i < bits_in items → slice_index_or deterministic i false ≡ false) where
-    letter-without : (f : PlacedLetter) → letter_names i rows f ≡ false
+    letter-without : (f : PlacedLetter) → letter_flips i rows f ≡ false
     letter-without f = bits-without i f.letter (row rows f.site.row) (row rows (f.site.row + 1)) (row-without i without f.site.row) (row-without i without (f.site.row + 1))
 
     error-without : (e : ErrorValue) → error_names i rows e ≡ false
@@ -166,41 +166,41 @@ module _ (n : ℕ) (everywhere : Bool) (items : Items) (deterministic : List Boo
 
   -- so the row of an error is what it flips
 
-  module _ (coins : ℕ → Bool) (e : ErrorValue) (stands : ErrorStands faults e) (r : List ℕ) (is : IsRowOf rows e r) where
+  module _ (coins : ℕ → Bool) (e : ErrorValue) (stands : ErrorStands single_errors e) (r : List ℕ) (is : IsErrorRow rows e r) where
     reports : (m : ℕ) → m < bits_in items → (b : Bool) → slice_index_or deterministic m false ≡ b
-        → odd m r ≡ (slice_index_or deterministic m false && flip_together n items coins (faults_in (error_shown e)) m)
+        → odd m r ≡ (slice_index_or deterministic m false && flip_together n items coins (single_errors_in (error_shown e)) m)
     reports m inside true e_deterministic =
         is.value m ∙ sym (error-flips m inside ((table.are_deterministic.exact m inside).0 e_deterministic) coins e stands)
-        ∙ sym (set (slice_index_or deterministic m false) (flip_together n items coins (faults_in (error_shown e)) m) e_deterministic)
+        ∙ sym (set (slice_index_or deterministic m false) (flip_together n items coins (single_errors_in (error_shown e)) m) e_deterministic)
     reports m inside false e_deterministic =
         is.value m ∙ error-without m (λ t. e_deterministic) e
-        ∙ sym (unset (slice_index_or deterministic m false) (flip_together n items coins (faults_in (error_shown e)) m) e_deterministic)
+        ∙ sym (unset (slice_index_or deterministic m false) (flip_together n items coins (single_errors_in (error_shown e)) m) e_deterministic)
 
     past : (m : ℕ) → bits_in items ≤ m → odd m r ≡ false
     past m ge = is.value m ∙ error-without m (λ inside. absurd (omega (arith, inside, ge))) e
 
-    row-is : r ≡ flipped_by n items deterministic coins (error_shown e)
+    row-is : r ≡ flipped_by_error n items deterministic coins (error_shown e)
     row-is =
         ascending-is (bits_in items) 0 r (ascends-below 0 (0 + bits_in items) r is.ascending (λ m ge. past m (omega (arith, ge))))
-        ∙ where-same (λ m. odd m r) (λ m. slice_index_or deterministic m false && flip_together n items coins (faults_in (error_shown e)) m) 0 (bits_in items)
+        ∙ where-same (λ m. odd m r) (λ m. slice_index_or deterministic m false && flip_together n items coins (single_errors_in (error_shown e)) m) 0 (bits_in items)
         (λ m ge inside. reports m (omega (arith, inside)) (slice_index_or deterministic m false) refl)
 
-  rows-are : (coins : ℕ → Bool) (errors : List ErrorValue) (made : List (List ℕ)) → All (ErrorStands faults) errors → AreRowsOf rows errors made
-      → made ≡ map (flipped_by n items deterministic coins) (map error_shown errors)
+  rows-are : (coins : ℕ → Bool) (errors : List ErrorValue) (made : List (List ℕ)) → All (ErrorStands single_errors) errors → AreErrorRows rows errors made
+      → made ≡ map (flipped_by_error n items deterministic coins) (map error_shown errors)
   rows-are coins [] [] stand are = refl
   rows-are coins [] (r ∷ rs) stand are = absurd are
   rows-are coins (e ∷ es) [] stand are = absurd are
   rows-are coins (e ∷ es) (r ∷ rs) stand are =
-      (λ t. row-is coins e (All-head (ErrorStands faults) e es stand) r are.0 t ∷ rows-are coins es rs (All-tail (ErrorStands faults) e es stand) are.1 t)
+      (λ t. row-is coins e (All-head (ErrorStands single_errors) e es stand) r are.0 t ∷ rows-are coins es rs (All-tail (ErrorStands single_errors) e es stand) are.1 t)
 
   -- errors fit, and with their rows they are a table
 
-  errors-fit : (errors : List ErrorValue) → All (ErrorStands faults) errors → All (Fits n items) (map error_shown errors)
+  errors-fit : (errors : List ErrorValue) → All (ErrorStands single_errors) errors → All (Fits n items) (map error_shown errors)
   errors-fit [] stand = All-nil (Fits n items)
   errors-fit (e ∷ es) stand =
-      All-cons (Fits n items) (error_shown e) (map error_shown es) (error-fits e (All-head (ErrorStands faults) e es stand)) (errors-fit es (All-tail (ErrorStands faults) e es stand))
+      All-cons (Fits n items) (error_shown e) (map error_shown es) (error-fits e (All-head (ErrorStands single_errors) e es stand)) (errors-fit es (All-tail (ErrorStands single_errors) e es stand))
 
-  pub table-is : (detectors : ℕ) → detectors ≡ detectors_of (unroll items) → (errors : List ErrorValue) (made : List (List ℕ)) → All (ErrorStands faults) errors → AreRowsOf rows errors made
+  pub table-is : (detectors : ℕ) → detectors ≡ detectors_of (unroll items) → (errors : List ErrorValue) (made : List (List ℕ)) → All (ErrorStands single_errors) errors → AreErrorRows rows errors made
       → IsErrorTable n items (record { deterministic = deterministic; errors = map error_shown errors; table = record { detectors = detectors; rows = made } })
   table-is detectors is errors made stand are = record {
     are_deterministic = table.are_deterministic;

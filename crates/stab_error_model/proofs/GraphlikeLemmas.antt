@@ -1,5 +1,5 @@
 -- Graph-like errors: those of a table are those that flip at most two detectors by runs, and their least sets.
-use Rattle.stab_error_model.proofs.Names.{◌≡◌, ℕ, ◌<◌, ◌⊎◌, refl, sym, ◌∙◌, subst, Bool, true, false, List, [], ◌∷◌, length, arith, Option, Some, All, unwrap_or, length-map, All-nil, All-cons, All-head, All-tail, All-weaker, parity-false, Items, bits_in, IsDeterministic, Answer, Least, NoneWithin, NoneAtAll, odd, IsGraphlike, IsGraphlikeError, IsLeastGraphlike, HasNoGraphlikeWithin, IsGraphlikeAnswer, graphlike-up_to, Error, faults_in, ErrorTableState, IsErrorTable, flip_together, AreUnseen, FlipsTwo, AreUnseenOf, NoneUnseenWithin, IsLeastSet, IsDistance, error_at, errors_at_numbers, with_observable, unroll, detectors_of, Result, Ok, Err, IfOk, Heard, ReportsSearch, ReportsUnseen}
+use Rattle.stab_error_model.proofs.Names.{◌≡◌, ℕ, ◌<◌, ◌⊎◌, refl, sym, ◌∙◌, subst, Bool, true, false, List, [], ◌∷◌, length, arith, Option, Some, All, unwrap_or, length-map, All-nil, All-cons, All-head, All-tail, All-weaker, parity-false, Items, bits_in, IsDeterministic, Answer, Least, NoneWithin, NoneAtAll, odd, IsGraphlike, IsGraphlikeError, IsLeastGraphlike, HasNoGraphlikeWithin, IsGraphlikeAnswer, graphlike-up_to, Error, single_errors_in, ErrorTableState, IsErrorTable, flip_together, AreUnseen, FlipsTwo, AreUnseenOf, NoneUnseenWithin, IsLeastSet, IsDistance, error_at, errors_at_numbers, with_observable, unroll, detectors_of, Result, Ok, Err, IfOk, Heard, ReportsSearch, ReportsUnseen}
 use Rattle.std.proofs.Common.{None}
 use Rattle.stab_search.specs.Tables.{ErrorTable, row}
 use Rattle.stab_error_model.proofs.ObservedLemmas.{as-many-kept, same-detectors, odd-detector, from-kept, to-kept}
@@ -30,7 +30,7 @@ module _ (n : ℕ) (items : Items) (observable : Option ℕ) (t : ErrorTableStat
 
   -- a deterministic detector that an error flips by runs is named by its row
   run-names : (coins : ℕ → Bool) (k d : ℕ) → Inside k → d < bits_in items → d < sought.detectors → IsDeterministic n items d
-      → odd d (row sought.rows k) ≡ flip_together n items coins (faults_in (error_at t.errors k)) d
+      → odd d (row sought.rows k) ≡ flip_together n items coins (single_errors_in (error_at t.errors k)) d
   run-names coins k d less inside before is_deterministic =
       in-table k d before ∙ row-names n items observable t table coins k d less inside ((table.are_deterministic.exact d inside).1 is_deterministic)
 

@@ -1,35 +1,35 @@
 -- Landings: a letter anywhere flips what letters of errors everywhere flip, at the next step on its qubit that has some.
-use Rattle.stab_error_model.proofs.Names.{◌≡◌, ℕ, ◌+◌, ◌≤◌, ◌<◌, ◌⊎◌, inl, inr, refl, sym, ap, ◌∙◌, subst, Bool, true, false, List, [], ◌∷◌, ◌++◌, map, length, drop, arith, All, Contains, ◌==◌, PairGate, ◌≢◌, cases_eq, eqb-true, drop-drop, get_or-map, length-map, All-head, All-tail, Contains-append_left, Contains-append_right, Letter, I, ◌⊕◌, letters_anticommute, Gate, letter_image, Factor, is_on, Step, one, two, controlled, collapse, product, detector, observable, makes, records_of, detectors_of, StepFits, FaultPlace, Site, in_front, following, fault_on, parity_kept, parity_flips, first_image, second_image, end-flips, one-flips, one-other, first-flips, second-flips, pair-other, controlled-passes, detector-passes, observable-passes, collapse-other, product-other, unrecorded-passes, reset-passes, reset-stops, kept-following, count-least, Error, letter, letters_asked, pairs_asked, each_letter, each_product, product_at, wrong_product, errors_at, errors_from, ErrorLetters, flat_map}
+use Rattle.stab_error_model.proofs.Names.{◌≡◌, ℕ, ◌+◌, ◌≤◌, ◌<◌, ◌⊎◌, inl, inr, refl, sym, ap, ◌∙◌, subst, Bool, true, false, List, [], ◌∷◌, ◌++◌, map, length, drop, arith, All, Contains, ◌==◌, PairGate, ◌≢◌, cases_eq, eqb-true, drop-drop, get_or-map, length-map, All-head, All-tail, Contains-append_left, Contains-append_right, Letter, I, ◌⊕◌, letters_anticommute, Gate, letter_image, Factor, is_on, Step, one, two, controlled, collapse, product, detector, observable, makes, records_of, detectors_of, StepFits, SingleError, Site, in_front, following, single_error_on, parity_kept, parity_flips, first_image, second_image, end-flips, one-flips, one-other, first-flips, second-flips, pair-other, controlled-passes, detector-passes, observable-passes, collapse-other, product-other, unrecorded-passes, reset-passes, reset-stops, kept-following, count-least, Error, letter, letters_asked, pairs_asked, each_letter, each_product, product_at, wrong_product, errors_at, errors_from, ErrorLetters, flat_map}
 use Rattle.std.specs.Prelude.{◌||◌}
 
 -- lists of errors
 
-contains-letter : (ls : List Letter) (at : Letter → FaultPlace) (l : Letter) → Contains ls l → Contains (each_letter ls at) (letter (at l))
+contains-letter : (ls : List Letter) (at : Letter → SingleError) (l : Letter) → Contains ls l → Contains (each_letter ls at) (letter (at l))
 contains-letter ls at l has =
     let f : Letter → Error = λ k. letter (at k) in
     (has.0, omega (arith, has.1, length-map ls f), get_or-map f ls has.0 l (letter (at l)) has.1 ∙ ap f has.2)
 
-contains-product : (ps : List (Letter × Letter)) (first second : Letter → FaultPlace) (p : Letter × Letter) → Contains ps p → Contains (map (λ r. product_at first second r.0 r.1) ps) (product_at first second p.0 p.1)
+contains-product : (ps : List (Letter × Letter)) (first second : Letter → SingleError) (p : Letter × Letter) → Contains ps p → Contains (map (λ r. product_at first second r.0 r.1) ps) (product_at first second p.0 p.1)
 contains-product ps first second p has =
     let f : Letter × Letter → Error = λ r. product_at first second r.0 r.1 in
     (has.0, omega (arith, has.1, length-map ps f), get_or-map f ps has.0 p (f p) has.1 ∙ ap f has.2)
 
 contains-factor : (ls : List Letter) (t q : ℕ) (factors : List Factor) (l : Letter) → is_on q factors ≡ true → Contains ls l
-    → Contains (flat_map (λ f. each_letter ls (fault_on t (in_front f.qubit))) factors) (letter (fault_on t (in_front q) l))
+    → Contains (flat_map (λ f. each_letter ls (single_error_on t (in_front f.qubit))) factors) (letter (single_error_on t (in_front q) l))
 contains-factor ls t q [] l on has = cc
 contains-factor ls t q (f ∷ fs) l on has = by_first (f.qubit == q) refl (λ rest. contains-factor ls t q fs l rest has)
   where
     here : List Error
-    here = each_letter ls (fault_on t (in_front f.qubit))
+    here = each_letter ls (single_error_on t (in_front f.qubit))
 
     later : List Error
-    later = flat_map (λ g. each_letter ls (fault_on t (in_front g.qubit))) fs
+    later = flat_map (λ g. each_letter ls (single_error_on t (in_front g.qubit))) fs
 
-    by_first : (b : Bool) → (f.qubit == q) ≡ b → (is_on q fs ≡ true → Contains later (letter (fault_on t (in_front q) l))) → Contains (here ++ later) (letter (fault_on t (in_front q) l))
+    by_first : (b : Bool) → (f.qubit == q) ≡ b → (is_on q fs ≡ true → Contains later (letter (single_error_on t (in_front q) l))) → Contains (here ++ later) (letter (single_error_on t (in_front q) l))
     by_first true e rest =
-        Contains-append_left here later (letter (fault_on t (in_front q) l))
-        (subst (λ p. Contains here (letter (fault_on t (in_front p) l))) (eqb-true f.qubit q e) (contains-letter ls (fault_on t (in_front f.qubit)) l has))
-    by_first false e rest = Contains-append_right here later (letter (fault_on t (in_front q) l)) (rest (sym (ap (λ b. b || is_on q fs) e) ∙ on))
+        Contains-append_left here later (letter (single_error_on t (in_front q) l))
+        (subst (λ p. Contains here (letter (single_error_on t (in_front p) l))) (eqb-true f.qubit q e) (contains-letter ls (single_error_on t (in_front f.qubit)) l has))
+    by_first false e rest = Contains-append_right here later (letter (single_error_on t (in_front q) l)) (rest (sym (ap (λ b. b || is_on q fs) e) ∙ on))
 
 -- errors after some steps are among those of all
 pub errors-following : (asked : ErrorLetters) (t m : ℕ) (front ys : List Step) (e : Error) → Contains (errors_from asked (t + length front) (m + records_of front) ys) e → Contains (errors_from asked t m (front ++ ys)) e
@@ -46,7 +46,7 @@ errors-following asked t m (x ∷ xs) ys e has =
     (subst (λ k. Contains (errors_from asked (t + length (x ∷ xs)) k ys) e) records has)))
 
 -- what a letter at a site of all steps flips of a parity, by the pass backwards
-abbrev pub there_flips : (n D : ℕ) → List Step → (i : ℕ) → FaultPlace → Bool
+abbrev pub there_flips : (n D : ℕ) → List Step → (i : ℕ) → SingleError → Bool
 there_flips n D xs i f = parity_flips n D i f.letter f.qubit (drop f.before xs)
 
 -- of these parities, the letter flips none
@@ -59,8 +59,8 @@ pub record LandsOnOne (n D : ℕ) (xs : List Step) (Is : ℕ → Type 0) (t m : 
   pub site : Site
   pub image : Letter
   pub inside : site.qubit < n
-  pub listed : (asked : ErrorLetters) (l : Letter) → Contains (letters_asked asked) l → Contains (errors_from asked t m ys) (letter (fault_on step site l))
-  pub flips : (i : ℕ) → Is i → parity_flips n D i k p ys ≡ there_flips n D xs i (fault_on step site image)
+  pub listed : (asked : ErrorLetters) (l : Letter) → Contains (letters_asked asked) l → Contains (errors_from asked t m ys) (letter (single_error_on step site l))
+  pub flips : (i : ℕ) → Is i → parity_flips n D i k p ys ≡ there_flips n D xs i (single_error_on step site image)
 
 -- it flips what letters at two sites flip, and each product there is an error, if it is asked for
 pub record LandsOnTwo (n D : ℕ) (xs : List Step) (Is : ℕ → Type 0) (t m : ℕ) (k : Letter) (p : ℕ) (ys : List Step) : Type 0 where
@@ -71,8 +71,8 @@ pub record LandsOnTwo (n D : ℕ) (xs : List Step) (Is : ℕ → Type 0) (t m : 
   pub other : Letter
   pub first_inside : first.qubit < n
   pub second_inside : second.qubit < n
-  pub listed : (asked : ErrorLetters) (r : Letter × Letter) → Contains (pairs_asked asked) r → Contains (errors_from asked t m ys) (product_at (fault_on step first) (fault_on step second) r.0 r.1)
-  pub flips : (i : ℕ) → Is i → parity_flips n D i k p ys ≡ there_flips n D xs i (fault_on step first image) ⊕ there_flips n D xs i (fault_on step second other)
+  pub listed : (asked : ErrorLetters) (r : Letter × Letter) → Contains (pairs_asked asked) r → Contains (errors_from asked t m ys) (product_at (single_error_on step first) (single_error_on step second) r.0 r.1)
+  pub flips : (i : ℕ) → Is i → parity_flips n D i k p ys ≡ there_flips n D xs i (single_error_on step first image) ⊕ there_flips n D xs i (single_error_on step second other)
 
 abbrev pub Lands : (n D : ℕ) → List Step → (ℕ → Type 0) → (t m : ℕ) → Letter → (qubit : ℕ) → List Step → Type 0
 Lands n D xs Is t m k p ys = LandsNowhere n D Is k p ys ⊎ (LandsOnOne n D xs Is t m k p ys ⊎ LandsOnTwo n D xs Is t m k p ys)
@@ -111,7 +111,7 @@ module _ (n D : ℕ) (xs : List Step) (Is : ℕ → Type 0) where
       site = on.site;
       image = on.image;
       inside = on.inside;
-      listed = λ asked l has. Contains-append_right (errors_at asked t m x) (errors_from asked (t + 1) (m + makes x) rest) (letter (fault_on on.step on.site l)) (on.listed asked l has);
+      listed = λ asked l has. Contains-append_right (errors_at asked t m x) (errors_from asked (t + 1) (m + makes x) rest) (letter (single_error_on on.step on.site l)) (on.listed asked l has);
       flips = λ i is. same i is ∙ on.flips i is;
     }))
     passed same (inr (inr on)) = inr (inr (record {
@@ -123,27 +123,27 @@ module _ (n D : ℕ) (xs : List Step) (Is : ℕ → Type 0) where
       first_inside = on.first_inside;
       second_inside = on.second_inside;
       listed = λ asked r has.
-          Contains-append_right (errors_at asked t m x) (errors_from asked (t + 1) (m + makes x) rest) (product_at (fault_on on.step on.first) (fault_on on.step on.second) r.0 r.1)
+          Contains-append_right (errors_at asked t m x) (errors_from asked (t + 1) (m + makes x) rest) (product_at (single_error_on on.step on.first) (single_error_on on.step on.second) r.0 r.1)
           (on.listed asked r has);
       flips = λ i is. same i is ∙ on.flips i is;
     }))
 
     -- one that has errors at a site
-    stays : (site : Site) (image : Letter) → site.qubit < n → ((asked : ErrorLetters) (l : Letter) → Contains (letters_asked asked) l → Contains (errors_at asked t m x) (letter (fault_on t site l)))
-        → ((i : ℕ) → Is i → parity_flips n D i k p (x ∷ rest) ≡ there_flips n D xs i (fault_on t site image)) → Here
+    stays : (site : Site) (image : Letter) → site.qubit < n → ((asked : ErrorLetters) (l : Letter) → Contains (letters_asked asked) l → Contains (errors_at asked t m x) (letter (single_error_on t site l)))
+        → ((i : ℕ) → Is i → parity_flips n D i k p (x ∷ rest) ≡ there_flips n D xs i (single_error_on t site image)) → Here
     stays site image inside listed flips = inr (inl (record {
       step = t;
       site = site;
       image = image;
       inside = inside;
-      listed = λ asked l has. Contains-append_left (errors_at asked t m x) (errors_from asked (t + 1) (m + makes x) rest) (letter (fault_on t site l)) (listed asked l has);
+      listed = λ asked l has. Contains-append_left (errors_at asked t m x) (errors_from asked (t + 1) (m + makes x) rest) (letter (single_error_on t site l)) (listed asked l has);
       flips = flips;
     }))
 
-    front-is : (l : Letter) (q i : ℕ) → parity_flips n D i l q (x ∷ rest) ≡ there_flips n D xs i (fault_on t (in_front q) l)
+    front-is : (l : Letter) (q i : ℕ) → parity_flips n D i l q (x ∷ rest) ≡ there_flips n D xs i (single_error_on t (in_front q) l)
     front-is l q i = ap (parity_flips n D i l q) (sym are.there)
 
-    following-is : (l : Letter) (q i : ℕ) → parity_flips n D i l q rest ≡ there_flips n D xs i (fault_on t (following q) l)
+    following-is : (l : Letter) (q i : ℕ) → parity_flips n D i l q rest ≡ there_flips n D xs i (single_error_on t (following q) l)
     following-is l q i = ap (parity_flips n D i l q) (sym (last-next t x rest are).there)
 
   -- at each step
@@ -152,7 +152,7 @@ module _ (n D : ℕ) (xs : List Step) (Is : ℕ → Type 0) where
     at-one : (g : Gate) (q : ℕ) → AreLast n D xs Is t (one g q ∷ rest) → (p ≡ q) ⊎ (p ≡ q → ⊥) → Lands n D xs Is (t + 1) (m + 0) k p rest → Lands n D xs Is t m k p (one g q ∷ rest)
     at-one g q are (inl e) later =
         stays t m k p lt (one g q) rest are (following p) (letter_image g k).letter lt
-        (λ asked l has. subst (λ r. Contains (errors_at asked t m (one g q)) (letter (fault_on t (following r) l))) (sym e) (contains-letter (letters_asked asked) (fault_on t (following q)) l has))
+        (λ asked l has. subst (λ r. Contains (errors_at asked t m (one g q)) (letter (single_error_on t (following r) l))) (sym e) (contains-letter (letters_asked asked) (single_error_on t (following q)) l has))
         (λ i is.
         ap (λ r. parity_flips n D i k p (one g r ∷ rest)) (sym e)
         ∙ one-flips n D i rest g k p lt (subst (λ r. detectors_of (one g r ∷ rest) ≤ D) (sym e) are.few)
@@ -165,12 +165,12 @@ module _ (n D : ℕ) (xs : List Step) (Is : ℕ → Type 0) where
         passed t m k p lt (collapse l q recorded inverted resets) rest are (λ i is. collapse-other n D i rest l q recorded inverted resets k p lt distinct are.few) later
     at-collapse l q true inverted resets are (inl e) later =
         stays t m k p lt (collapse l q true inverted resets) rest are (in_front p) k lt
-        (λ asked j has. subst (λ r. Contains (errors_at asked t m (collapse l q true inverted resets)) (letter (fault_on t (in_front r) j))) (sym e) (measured asked j resets has))
+        (λ asked j has. subst (λ r. Contains (errors_at asked t m (collapse l q true inverted resets)) (letter (single_error_on t (in_front r) j))) (sym e) (measured asked j resets has))
         (λ i is. front-is t m k p lt (collapse l q true inverted resets) rest are k p i)
       where
-        measured : (asked : ErrorLetters) (j : Letter) (resets : Bool) → Contains (letters_asked asked) j → Contains (errors_at asked t m (collapse l q true inverted resets)) (letter (fault_on t (in_front q) j))
-        measured asked j true has = Contains-append_left (each_letter (letters_asked asked) (fault_on t (in_front q))) _ (letter (fault_on t (in_front q) j)) (contains-letter (letters_asked asked) (fault_on t (in_front q)) j has)
-        measured asked j false has = Contains-append_left (each_letter (letters_asked asked) (fault_on t (in_front q))) _ (letter (fault_on t (in_front q) j)) (contains-letter (letters_asked asked) (fault_on t (in_front q)) j has)
+        measured : (asked : ErrorLetters) (j : Letter) (resets : Bool) → Contains (letters_asked asked) j → Contains (errors_at asked t m (collapse l q true inverted resets)) (letter (single_error_on t (in_front q) j))
+        measured asked j true has = Contains-append_left (each_letter (letters_asked asked) (single_error_on t (in_front q))) _ (letter (single_error_on t (in_front q) j)) (contains-letter (letters_asked asked) (single_error_on t (in_front q)) j has)
+        measured asked j false has = Contains-append_left (each_letter (letters_asked asked) (single_error_on t (in_front q))) _ (letter (single_error_on t (in_front q) j)) (contains-letter (letters_asked asked) (single_error_on t (in_front q)) j has)
     at-collapse l q false inverted false are (inl e) later =
         passed t m k p lt (collapse l q false inverted false) rest are
         (λ i is.
@@ -195,7 +195,7 @@ module _ (n D : ℕ) (xs : List Step) (Is : ℕ → Type 0) where
     at-product factors inverted are true on later =
         stays t m k p lt (product factors inverted) rest are (in_front p) k lt
         (λ asked l has.
-        Contains-append_left (flat_map (λ f. each_letter (letters_asked asked) (fault_on t (in_front f.qubit))) factors) (wrong_product t m factors) (letter (fault_on t (in_front p) l))
+        Contains-append_left (flat_map (λ f. each_letter (letters_asked asked) (single_error_on t (in_front f.qubit))) factors) (wrong_product t m factors) (letter (single_error_on t (in_front p) l))
         (contains-factor (letters_asked asked) t p factors l on has))
         (λ i is. front-is t m k p lt (product factors inverted) rest are k p i)
     at-product factors inverted are false off later =
@@ -208,7 +208,7 @@ module _ (n D : ℕ) (xs : List Step) (Is : ℕ → Type 0) where
         fit : (a < n) × (b < n) × (b ≢ a)
         fit = All-head (StepFits n) (two g a b) rest are.fits
 
-        following-are : (l j : Letter) (i : ℕ) → parity_flips n D i l a rest ⊕ parity_flips n D i j b rest ≡ there_flips n D xs i (fault_on t (following a) l) ⊕ there_flips n D xs i (fault_on t (following b) j)
+        following-are : (l j : Letter) (i : ℕ) → parity_flips n D i l a rest ⊕ parity_flips n D i j b rest ≡ there_flips n D xs i (single_error_on t (following a) l) ⊕ there_flips n D xs i (single_error_on t (following b) j)
         following-are l j i = (λ u. following-is t m k p lt (two g a b) rest are l a i u ⊕ following-is t m k p lt (two g a b) rest are j b i u)
 
         on-both : (image other : Letter) → ((i : ℕ) → Is i → parity_flips n D i k p (two g a b ∷ rest) ≡ parity_flips n D i image a rest ⊕ parity_flips n D i other b rest) → Lands n D xs Is t m k p (two g a b ∷ rest)
@@ -221,8 +221,8 @@ module _ (n D : ℕ) (xs : List Step) (Is : ℕ → Type 0) where
           first_inside = fit.0;
           second_inside = fit.1;
           listed = λ asked r has.
-              Contains-append_left (each_product asked (fault_on t (following a)) (fault_on t (following b))) (errors_from asked (t + 1) (m + 0) rest) (product_at (fault_on t (following a)) (fault_on t (following b)) r.0 r.1)
-              (contains-product (pairs_asked asked) (fault_on t (following a)) (fault_on t (following b)) r has);
+              Contains-append_left (each_product asked (single_error_on t (following a)) (single_error_on t (following b))) (errors_from asked (t + 1) (m + 0) rest) (product_at (single_error_on t (following a)) (single_error_on t (following b)) r.0 r.1)
+              (contains-product (pairs_asked asked) (single_error_on t (following a)) (single_error_on t (following b)) r has);
           flips = λ i is. flips i is ∙ following-are image other i;
         }))
 

@@ -1,5 +1,5 @@
 mod Names
-mod AddingLemmas
+mod ErrorListLemmas
 mod MarkLemmas
 mod MarkedLemmas
 mod DoubtLemmas

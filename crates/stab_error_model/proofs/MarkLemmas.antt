@@ -1,10 +1,10 @@
--- Marks: what items mark, one after another and in rounds, and which faults of the table are at marks.
-use Rattle.stab_error_model.proofs.Names.{◌≡◌, ℕ, zero, suc, ◌+◌, ◌*◌, ◌<◌, ◌≤◌, refl, sym, ap, ◌∙◌, Bool, true, List, [], ◌∷◌, ◌++◌, append_assoc, append-nil, map, take, drop, get_or, length, arith, false, take-append-drop, All, if◌then◌else◌, flat_map, length-append, length-map, take_more, flat_map-append, All-append, All-cons, All-head, All-nil, All-tail, Gate, ControlledPair, letter_of, Operation, Kind, Items, OneItem, next, block, join, listed-append, listed_pushed, Step, one, two, collapse, steps_of, unroll, rounds, controlled_step, measured, measured_product, length-rounds, unroll-join, FaultPlace, faults_from, faults_on, in_front, marked_at, Marks, instruction_rounds, instructions, is_idle, marks_by, marks_from, marks_of, target_faults, marked_faults}
+-- Marks: what items mark, one after another and in rounds, and which single errors of the table are at marks.
+use Rattle.stab_error_model.proofs.Names.{◌≡◌, ℕ, zero, suc, ◌+◌, ◌*◌, ◌<◌, ◌≤◌, refl, sym, ap, ◌∙◌, Bool, true, List, [], ◌∷◌, ◌++◌, append_assoc, append-nil, map, take, drop, get_or, length, arith, false, take-append-drop, All, if◌then◌else◌, flat_map, length-append, length-map, take_more, flat_map-append, All-append, All-cons, All-head, All-nil, All-tail, Gate, ControlledPair, letter_of, Operation, Kind, Items, OneItem, next, block, join, listed-append, listed_pushed, Step, one, two, collapse, steps_of, unroll, rounds, controlled_step, measured, measured_product, length-rounds, unroll-join, SingleError, single_errors_from, single_errors_on, in_front, marked_at, Marks, instruction_rounds, instructions, is_idle, marks_by, marks_from, marks_of, target_single_errors, marked_single_errors}
 use Rattle.stab_gates.specs.declared.gate.Gate.TheVariants as gate
 use Rattle.stab_gates.specs.declared.gate.PairGate.TheVariants as swap
 use Rattle.stab_instructions.specs.declared.control.ControlledPair.TheVariants as pair
 use Rattle.stab_instructions.specs.declared.operation.Kind.TheVariants as kind
-use Rattle.stab_circuit.specs.Items.{done, before, listed}
+use Rattle.stab_items.specs.Items.{done, before, listed}
 
 -- the steps of instructions
 abbrev pub steps_in : List Operation → List Step
@@ -95,7 +95,7 @@ no-marks t (op ∷ ops) none =
     ap (λ ms. ms ++ marks_from (t + length (steps_of op.kind)) ops) (no-targets t op.tag op.kind (omega (arith, both)))
     ∙ no-marks (t + length (steps_of op.kind)) ops (omega (arith, both))
 
--- faults at marks
+-- single errors at marks
 
 idle-marks : (g : Gate) (q : ℕ) → marked_at (one g q) ≡ (if is_idle g then in_front q ∷ [] else [])
 idle-marks gate.I q = refl
@@ -113,73 +113,73 @@ idle-marks gate.SqrtY q = refl
 idle-marks gate.SqrtYDag q = refl
 
 -- steps that mark nothing have none
-no-faults : (t : ℕ) (xs : List Step) → All (λ x. marked_at x ≡ []) xs → faults_from false t xs ≡ []
-no-faults t [] none = refl
-no-faults t (x ∷ xs) none =
-    ap (λ ss. flat_map (faults_on t) ss ++ faults_from false (t + 1) xs) (All-head (λ x. marked_at x ≡ []) x xs none)
-    ∙ no-faults (t + 1) xs (All-tail (λ x. marked_at x ≡ []) x xs none)
+no-single_errors : (t : ℕ) (xs : List Step) → All (λ x. marked_at x ≡ []) xs → single_errors_from false t xs ≡ []
+no-single_errors t [] none = refl
+no-single_errors t (x ∷ xs) none =
+    ap (λ ss. flat_map (single_errors_on t) ss ++ single_errors_from false (t + 1) xs) (All-head (λ x. marked_at x ≡ []) x xs none)
+    ∙ no-single_errors (t + 1) xs (All-tail (λ x. marked_at x ≡ []) x xs none)
 
 none-mapped : {A : Type 0} (f : A → Step) (xs : List A) → ((a : A) → marked_at (f a) ≡ []) → All (λ x. marked_at x ≡ []) (map f xs)
 none-mapped f [] none = All-nil (λ x. marked_at x ≡ [])
 none-mapped f (a ∷ xs) none = All-cons (λ x. marked_at x ≡ []) (f a) (map f xs) (none a) (none-mapped f xs none)
 
-gate-faults : (t : ℕ) (g : Gate) (qubits : List ℕ) → faults_from false t (map (one g) qubits) ≡ (if is_idle g then target_faults t qubits else [])
-gate-faults t g [] = nothing (is_idle g)
+gate-single_errors : (t : ℕ) (g : Gate) (qubits : List ℕ) → single_errors_from false t (map (one g) qubits) ≡ (if is_idle g then target_single_errors t qubits else [])
+gate-single_errors t g [] = nothing (is_idle g)
   where
-    nothing : (b : Bool) → [] ≡ (if b then target_faults t [] else [])
+    nothing : (b : Bool) → [] ≡ (if b then target_single_errors t [] else [])
     nothing true = refl
     nothing false = refl
-gate-faults t g (q ∷ qs) =
-    ap (λ ss. flat_map (faults_on t) ss ++ faults_from false (t + 1) (map (one g) qs)) (idle-marks g q)
-    ∙ ap (λ fs. flat_map (faults_on t) (if is_idle g then in_front q ∷ [] else []) ++ fs) (gate-faults (t + 1) g qs)
+gate-single_errors t g (q ∷ qs) =
+    ap (λ ss. flat_map (single_errors_on t) ss ++ single_errors_from false (t + 1) (map (one g) qs)) (idle-marks g q)
+    ∙ ap (λ fs. flat_map (single_errors_on t) (if is_idle g then in_front q ∷ [] else []) ++ fs) (gate-single_errors (t + 1) g qs)
     ∙ together (is_idle g)
   where
-    together : (b : Bool) → flat_map (faults_on t) (if b then in_front q ∷ [] else []) ++ (if b then target_faults (t + 1) qs else []) ≡ (if b then target_faults t (q ∷ qs) else [])
+    together : (b : Bool) → flat_map (single_errors_on t) (if b then in_front q ∷ [] else []) ++ (if b then target_single_errors (t + 1) qs else []) ≡ (if b then target_single_errors t (q ∷ qs) else [])
     together true = refl
     together false = refl
 
-marked-targets : (t : ℕ) (tag qubits : List ℕ) → flat_map marked_faults (marks_of t tag qubits) ≡ target_faults t qubits
+marked-targets : (t : ℕ) (tag qubits : List ℕ) → flat_map marked_single_errors (marks_of t tag qubits) ≡ target_single_errors t qubits
 marked-targets t tag [] = refl
-marked-targets t tag (q ∷ qs) = append-nil (target_faults t (q ∷ qs))
+marked-targets t tag (q ∷ qs) = append-nil (target_single_errors t (q ∷ qs))
 
-kind-faults : (t : ℕ) (tag : List ℕ) (k : Kind) → faults_from false t (steps_of k) ≡ flat_map marked_faults (marks_by t tag k)
-kind-faults t tag (kind.Gate g qubits) = gate-faults t g qubits ∙ marked (is_idle g)
+kind-single_errors : (t : ℕ) (tag : List ℕ) (k : Kind) → single_errors_from false t (steps_of k) ≡ flat_map marked_single_errors (marks_by t tag k)
+kind-single_errors t tag (kind.Gate g qubits) = gate-single_errors t g qubits ∙ marked (is_idle g)
   where
-    marked : (b : Bool) → (if b then target_faults t qubits else []) ≡ flat_map marked_faults (if b then marks_of t tag qubits else [])
+    marked : (b : Bool) → (if b then target_single_errors t qubits else []) ≡ flat_map marked_single_errors (if b then marks_of t tag qubits else [])
     marked true = sym (marked-targets t tag qubits)
     marked false = refl
-kind-faults t tag (kind.Controlled axis pairs) = no-faults t (map (controlled_step axis) pairs) (none-mapped (controlled_step axis) pairs each)
+kind-single_errors t tag (kind.Controlled axis pairs) = no-single_errors t (map (controlled_step axis) pairs) (none-mapped (controlled_step axis) pairs each)
   where
     each : (p : ControlledPair) → marked_at (controlled_step axis p) ≡ []
     each (pair.Qubits p) = refl
     each (pair.Record q k) = refl
-kind-faults t tag (kind.Swap pairs) = no-faults t (steps_of (kind.Swap pairs)) (none-mapped (λ p. two swap.Swap p.0 p.1) pairs (λ p. refl))
-kind-faults t tag (kind.Measure m targets) = no-faults t (map (measured m) targets) (none-mapped (measured m) targets (λ p. refl))
-kind-faults t tag (kind.Reset axis qubits) = no-faults t (steps_of (kind.Reset axis qubits)) (none-mapped (λ q. collapse (letter_of axis) q false false true) qubits (λ q. refl))
-kind-faults t tag (kind.MeasureProducts products) = no-faults t (map measured_product products) (none-mapped measured_product products (λ p. refl))
-kind-faults t tag (kind.Detector located) = refl
-kind-faults t tag (kind.ObservableInclude j ks) = refl
-kind-faults t tag kind.Tick = refl
-kind-faults t tag (kind.QubitCoords located) = refl
-kind-faults t tag (kind.ShiftCoords coordinates) = refl
+kind-single_errors t tag (kind.Swap pairs) = no-single_errors t (steps_of (kind.Swap pairs)) (none-mapped (λ p. two swap.Swap p.0 p.1) pairs (λ p. refl))
+kind-single_errors t tag (kind.Measure m targets) = no-single_errors t (map (measured m) targets) (none-mapped (measured m) targets (λ p. refl))
+kind-single_errors t tag (kind.Reset axis qubits) = no-single_errors t (steps_of (kind.Reset axis qubits)) (none-mapped (λ q. collapse (letter_of axis) q false false true) qubits (λ q. refl))
+kind-single_errors t tag (kind.MeasureProducts products) = no-single_errors t (map measured_product products) (none-mapped measured_product products (λ p. refl))
+kind-single_errors t tag (kind.Detector located) = refl
+kind-single_errors t tag (kind.ObservableInclude j ks) = refl
+kind-single_errors t tag kind.Tick = refl
+kind-single_errors t tag (kind.QubitCoords located) = refl
+kind-single_errors t tag (kind.ShiftCoords coordinates) = refl
 
-faults-append : (t : ℕ) (xs ys : List Step) → faults_from false t (xs ++ ys) ≡ faults_from false t xs ++ faults_from false (t + length xs) ys
-faults-append t [] ys = ap (λ k. faults_from false k ys) (omega arith)
-faults-append t (x ∷ xs) ys =
-    let here : List FaultPlace = flat_map (faults_on t) (marked_at x) in
-    ap (λ fs. here ++ fs) (faults-append (t + 1) xs ys ∙ ap (λ k. faults_from false (t + 1) xs ++ faults_from false k ys) (omega arith))
-    ∙ sym (append_assoc here (faults_from false (t + 1) xs) (faults_from false (t + length (x ∷ xs)) ys))
+single_errors-append : (t : ℕ) (xs ys : List Step) → single_errors_from false t (xs ++ ys) ≡ single_errors_from false t xs ++ single_errors_from false (t + length xs) ys
+single_errors-append t [] ys = ap (λ k. single_errors_from false k ys) (omega arith)
+single_errors-append t (x ∷ xs) ys =
+    let here : List SingleError = flat_map (single_errors_on t) (marked_at x) in
+    ap (λ fs. here ++ fs) (single_errors-append (t + 1) xs ys ∙ ap (λ k. single_errors_from false (t + 1) xs ++ single_errors_from false k ys) (omega arith))
+    ∙ sym (append_assoc here (single_errors_from false (t + 1) xs) (single_errors_from false (t + length (x ∷ xs)) ys))
 
-marked-from : (t : ℕ) (ops : List Operation) → faults_from false t (steps_in ops) ≡ flat_map marked_faults (marks_from t ops)
+marked-from : (t : ℕ) (ops : List Operation) → single_errors_from false t (steps_in ops) ≡ flat_map marked_single_errors (marks_from t ops)
 marked-from t [] = refl
 marked-from t (op ∷ ops) =
-    faults-append t (steps_of op.kind) (steps_in ops)
-    ∙ (λ i. kind-faults t op.tag op.kind i ++ marked-from (t + length (steps_of op.kind)) ops i)
-    ∙ sym (flat_map-append marked_faults (marks_by t op.tag op.kind) (marks_from (t + length (steps_of op.kind)) ops))
+    single_errors-append t (steps_of op.kind) (steps_in ops)
+    ∙ (λ i. kind-single_errors t op.tag op.kind i ++ marked-from (t + length (steps_of op.kind)) ops i)
+    ∙ sym (flat_map-append marked_single_errors (marks_by t op.tag op.kind) (marks_from (t + length (steps_of op.kind)) ops))
 
--- the faults of the table are those at marks
-pub marked-all : (items : Items) → faults_from false 0 (unroll items) ≡ flat_map marked_faults (marks_from 0 (instructions items))
-marked-all items = ap (faults_from false 0) (sym (steps-unrolled items)) ∙ marked-from 0 (instructions items)
+-- the single errors of the table are those at marks
+pub marked-all : (items : Items) → single_errors_from false 0 (unroll items) ≡ flat_map marked_single_errors (marks_from 0 (instructions items))
+marked-all items = ap (single_errors_from false 0) (sym (steps-unrolled items)) ∙ marked-from 0 (instructions items)
 
 -- marks are at steps
 

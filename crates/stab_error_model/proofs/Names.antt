@@ -12,18 +12,18 @@ pub use Rattle.std.specs.List.{flat_map}
 pub use Rattle.std.specs.Option.{unwrap_or}
 pub use Rattle.std.specs.Result.{IsErrAnd}
 pub use Rattle.std.specs.Prelude.{All, None, Result, IfOk, IfSome, Contains, ◌&&◌, ◌||◌, slice_index_or, ◌==◌, if◌then◌else◌, bytes_eq, codes}
-pub use Rattle.stab_items.specs.Cursors.{step_shown}
-pub use Rattle.stab_circuit.specs.Items.{Items, OneItem, next, block, join}
-pub use Rattle.stab_circuit.specs.Steps.{Step, one, two, controlled, collapse, product, detector, observable, makes, records_of, HasDistinctQubits, unroll, detectors_of, steps_of, rounds, controlled_step, measured, measured_product, check_of, most_steps, observables_of}
+pub use Rattle.stab_items.specs.StepValues.{step_shown}
+pub use Rattle.stab_items.specs.Items.{Items, OneItem, next, block, join, done, before, listed, repeat, depth_of as nested_in, depth}
+pub use Rattle.stab_items.specs.Steps.{Step, one, two, controlled, collapse, product, detector, observable, makes, records_of, HasDistinctQubits, unroll, detectors_of, steps_of, rounds, controlled_step, measured, measured_product, check_of, most_steps, observables_of}
 pub use Rattle.stab_items.specs.Views.{circuit_items}
 pub use Rattle.stab_search.proofs.PartLemmas.{graphlike-up_to}
 pub use Rattle.stab_search.proofs.ShortestLemmas.{none-up_to}
 pub use Rattle.stab_search.specs.Ascending.{AscendsFrom, IsAscending}
-pub use Rattle.stab_search.specs.Counts.{HasNoneBelow, IsLogicalSetOf, AreAsMany, IsCount}
+pub use Rattle.stab_search.specs.Counts.{HasNoneBelow, IsLogicalSetOf, AreAsMany, IsCountOfSets}
 pub use Rattle.stab_search.specs.Graphlike.{IsGraphlike, IsGraphlikeError, IsLeastGraphlike, HasNoGraphlikeWithin, IsGraphlikeAnswer}
-pub use Rattle.stab_search.specs.LogicalErrors.{HasNoneWithin, IsAnswer, IsLogicalError, IsLeast, HasNone, HasSome}
-pub use Rattle.stab_search.specs.Progress.{Heard, begins, Hears, up_to, IsExcludedBy, ReportsSearch}
-pub use Rattle.stab_search.specs.Tables.{odd}
+pub use Rattle.stab_search.specs.LogicalErrors.{HasNoneWithin, IsLeastAnswer, IsLogicalError, IsLeast, HasNone, HasSome}
+pub use Rattle.stab_search.specs.Progress.{Heard, begins, Hears, numbers_up_to, IsExcludedBy, ReportsSearch}
+pub use Rattle.stab_search.specs.Tables.{odd, row}
 pub use Rattle.stab_search.specs.declared.answer.Answer.{Answer}
 pub use Rattle.stab_search.specs.declared.answer.Answer.TheVariants.{Least, NoneWithin, NoneAtAll}
 pub use Rattle.stab_gates.proofs.ParityLemmas.{parity-assoc, parity-false}
@@ -35,7 +35,6 @@ pub use Rattle.stab_gates.specs.declared.letter.Letter.TheVariants.{I, X, Y, Z}
 pub use Rattle.stab_items.proofs.ItemLemmas.{listed-append, listed_pushed, depth_at}
 pub use Rattle.stab_items.proofs.StepLemmas.{length-rounds, unroll-join}
 pub use Rattle.stab_items.proofs.SummaryLemmas.{few_steps}
-pub use Rattle.stab_items.specs.Items.{done, before, listed, repeat, depth_of as nested_in, depth}
 pub use Rattle.stab_items.specs.inner.Parts.{part_of}
 pub use Rattle.stab_jobs.specs.declared.job.ErrorLetters.{ErrorLetters}
 pub use Rattle.stab_instructions.specs.Axes.{letter_of}
@@ -47,16 +46,16 @@ pub use Rattle.stab_instructions.specs.declared.operation.Operation.{Operation}
 pub use Rattle.stab_instructions.specs.declared.product.Factor.{Factor}
 pub use Rattle.stab_regions.proofs.AscentLemmas.{where-same, ascending-is, ascends-below}
 pub use Rattle.stab_regions.proofs.DetectorLemmas.{fits-front, fits-back}
-pub use Rattle.stab_regions.proofs.FaultSumLemmas.{fault-fits, odd-where, row-names}
-pub use Rattle.stab_regions.proofs.FaultTableLemmas.{deterministic-found}
+pub use Rattle.stab_regions.proofs.SingleErrorSumLemmas.{single_error-fits, odd-where, row-names}
+pub use Rattle.stab_regions.proofs.SingleErrorTableLemmas.{deterministic-found}
 pub use Rattle.stab_regions.proofs.MoveLemmas.{long-parity}
 pub use Rattle.stab_regions.proofs.PassLemmas.{first_image, second_image, none-flips, y-flips, end-flips, one-flips, one-other, first-flips, second-flips, pair-other, controlled-passes, detector-passes, observable-passes, collapse-other, product-other, unrecorded-passes, reset-passes, reset-stops, wrong-measured, wrong-reset, wrong-product}
 pub use Rattle.stab_regions.proofs.ShowLemmas.{bits-letter}
 pub use Rattle.stab_regions.proofs.NegatedLemmas.{AreNegated, collapse-negated, product-negated, negated-front, kept-last, kept-following, count-following, count-least, named_there}
-pub use Rattle.stab_regions.specs.FaultLaws.{FaultFits, flips_together, FaultsAdd, DeterministicParities, DeterministicParityBits, SitesFlipDeterministicParities}
-pub use Rattle.stab_regions.specs.Faults.{Site, FaultPlace, fault_on, faults_on, in_front, following, bits_in, IsDeterministic, AreDeterministic, flips, faults_of, fault_at, numbers_where, IsFaultTable, flipped_by_fault, faults_from, marked_at, sites_at, with_gates, bit}
+pub use Rattle.stab_regions.specs.SingleErrorLaws.{SingleErrorFits, flips_together, SingleErrorsAdd, DeterministicParities, DeterministicParityBits, SitesFlipDeterministicParities}
+pub use Rattle.stab_regions.specs.SingleErrors.{Site, SingleError, single_error_on, single_errors_on, in_front, following, bits_in, IsDeterministic, AreDeterministic, flips, single_errors_of, single_error_at, numbers_where, IsSingleErrorTable, flipped_by_single_error, single_errors_from, marked_at, sites_at, with_gates, bit}
 pub use Rattle.stab_regions.specs.Parities.{parity_region, parity_kept, parity_flips, parity_deterministic}
-pub use Rattle.stab_regions.specs.Rows.{row, bits_at}
+pub use Rattle.stab_regions.specs.Rows.{bits_at}
 pub use Rattle.stab_run.proofs.FitLemmas.{check-fits}
 pub use Rattle.stab_run.specs.ProgramStates.{StepFits}
 pub use Rattle.stab_run.specs.Runs.{flip_of}
@@ -64,19 +63,19 @@ pub use Rattle.stab_tableau.proofs.OneLetterLemmas.{one_letter-anticommute}
 pub use Rattle.stab_tableau.proofs.TestLemmas.{and-left}
 pub use Rattle.stab_tableau.specs.Gates.{letter_at as letter_of_string, letter_image}
 pub use Rattle.stab_tableau.specs.Traces.{diagonal}
-pub use Rattle.stab_error_model.specs.ErrorTables.{ErrorTableState, IsErrorTable, flip_together, flipped_by, flip_each, ErrorsAdd, StepsInside}
-pub use Rattle.stab_error_model.specs.Errors.{Error, each_letter, each_product, errors_at, letters_asked, wrong_record, faults_in, Marks, instruction_rounds, instructions, is_idle, marks_by, marks_from, marks_of, each_target, each_two_targets, letter, pairs_asked, product_at, wrong_product, errors_from, letters_left, errors_marked, errors_of, first_fault, letters}
+pub use Rattle.stab_error_model.specs.ErrorTables.{ErrorTableState, IsErrorTable, flip_together, flipped_by_error, flip_each, ErrorsAdd, StepsInside}
+pub use Rattle.stab_error_model.specs.Errors.{Error, each_letter, each_product, errors_at, letters_asked, wrong_record, single_errors_in, Marks, instruction_rounds, instructions, is_idle, marks_by, marks_from, marks_of, each_target, each_two_targets, letter, pairs_asked, product_at, wrong_product, errors_from, letters_left, errors_marked, errors_of, first_single_error, letters}
 pub use Rattle.stab_error_model.specs.EverywhereLaws.{inverted_once, with_inverted, FlipAlike}
-pub use Rattle.stab_error_model.specs.Parts.{letter_parts, GivesParts, AreSplit, AreSearched, parts_of, fault_parts}
-pub use Rattle.stab_error_model.specs.Placed.{fault_of_letter, error_shown, fault_shown, faults_shown}
-pub use Rattle.stab_error_model.specs.Unseen.{IsDistance, AreUnseen, FlipsTwo, AreUnseenOf, error_at, errors_at_numbers, NoneUnseen, NoneUnseenWithin, SomeUnseen, IsWithin, IsAskedFor, IsLeastSet, IsSetCount, ReportsUnseen}
+pub use Rattle.stab_error_model.specs.Parts.{letter_parts, GivesParts, AreSplit, AreSearched, parts_of_error, single_error_parts}
+pub use Rattle.stab_error_model.specs.Placed.{single_error_of_letter, error_shown, single_error_shown, single_errors_shown}
+pub use Rattle.stab_error_model.specs.Unseen.{IsDistance, AreUnseen, FlipsTwo, AreUnseenOf, error_at, errors_at_numbers, NoneUnseen, NoneUnseenWithin, SomeUnseen, IsWithinAsked, IsAskedFor, IsLeastSet, IsSetCount, ReportsUnseen}
 pub use Rattle.stab_error_model.specs.declared.marks.Marks.{Marks as MarksValue}
 pub use Rattle.stab_error_model.specs.declared.placed.Error.{Error as ErrorValue}
-pub use Rattle.stab_error_model.specs.declared.placed.Place.{Place}
+pub use Rattle.stab_error_model.specs.declared.placed.ErrorSite.{ErrorSite}
 pub use Rattle.stab_error_model.specs.declared.placed.PlacedLetter.{PlacedLetter}
-pub use Rattle.stab_error_model.specs.inner.Adding.{Stands, ErrorStands, Adds, HasFrom, IsUnderWay}
-pub use Rattle.stab_error_model.specs.inner.ErrorRows.{letter_names, error_names, IsRowOf, AreRowsOf, RowsAscend}
-pub use Rattle.stab_error_model.specs.inner.Everywhere.{factor_errors, factor_faults, measured_errors, back_of, reset_errors, step_faults}
-pub use Rattle.stab_error_model.specs.inner.Marked.{target_faults, marked_faults, marks_shown}
+pub use Rattle.stab_error_model.specs.inner.ErrorLists.{Stands, ErrorStands, AddsErrors, HasFrom, IsUnderWay}
+pub use Rattle.stab_error_model.specs.inner.ErrorRows.{letter_flips, error_names, IsErrorRow, AreErrorRows, RowsAscend}
+pub use Rattle.stab_error_model.specs.inner.Everywhere.{factor_errors, factor_single_errors, measured_errors, back_of, reset_errors, step_single_errors}
+pub use Rattle.stab_error_model.specs.inner.Marked.{target_single_errors, marked_single_errors, marks_shown}
 pub use Rattle.stab_error_model.specs.inner.RowParts.{IsSplitByRow, SplitByRows, AreSplitByRows, AreSearchedByRows}
-pub use Rattle.stab_error_model.specs.inner.Observed.{is_kept, kept_row, with_observable, IsLogicalOf}
+pub use Rattle.stab_error_model.specs.inner.Observed.{is_searched_number, kept_row, with_observable, IsLogicalOf}

@@ -1,5 +1,5 @@
 -- Observed rows: a table in which one observable alone counts has the logical errors that flip this observable.
-use Rattle.stab_error_model.proofs.Names.{◌≡◌, ℕ, ◌+◌, ◌-◌, ◌<◌, ◌≤◌, ◌==◌, ◌⊎◌, inl, inr, refl, sym, ap, ◌∙◌, subst, Bool, true, false, ◌||◌, List, [], ◌∷◌, length, arith, if◌then◌else◌, Option, Some, None, All, ne_eqb, eqb-true, lt-ltb, le-ltb, cases_lt, get_or-map, get_or_past, length-map, ◌⊕◌, true≢false, eq-eqb, odd, AscendsFrom, IsLogicalError, IsAskedFor, is_kept, kept_row, with_observable, IsLogicalOf}
+use Rattle.stab_error_model.proofs.Names.{◌≡◌, ℕ, ◌+◌, ◌-◌, ◌<◌, ◌≤◌, ◌==◌, ◌⊎◌, inl, inr, refl, sym, ap, ◌∙◌, subst, Bool, true, false, ◌||◌, List, [], ◌∷◌, length, arith, if◌then◌else◌, Option, Some, None, All, ne_eqb, eqb-true, lt-ltb, le-ltb, cases_lt, get_or-map, get_or_past, length-map, ◌⊕◌, true≢false, eq-eqb, odd, AscendsFrom, IsLogicalError, IsAskedFor, is_searched_number, kept_row, with_observable, IsLogicalOf}
 use Rattle.stab_error_model.proofs.RowLemmas.{ascends-weaker}
 use Rattle.stab_search.specs.Tables.{ErrorTable, row, flipped_by_rows}
 use Rattle.std.specs.List.{filter}
@@ -43,10 +43,10 @@ module _ (test : ℕ → Bool) where
 
 -- which numbers are kept
 
-kept-detector : (detectors j d : ℕ) → d < detectors → is_kept detectors j d ≡ true
+kept-detector : (detectors j d : ℕ) → d < detectors → is_searched_number detectors j d ≡ true
 kept-detector detectors j d less = ap (λ b. b || ((d - detectors) == j)) (lt-ltb d detectors less)
 
-kept-asked : (detectors j i : ℕ) → i ≡ detectors + j → is_kept detectors j i ≡ true
+kept-asked : (detectors j i : ℕ) → i ≡ detectors + j → is_searched_number detectors j i ≡ true
 kept-asked detectors j i is =
     ap (λ b. b || ((i - detectors) == j)) (le-ltb i detectors (omega (arith, is))) ∙ eq-eqb (i - detectors) j (omega (arith, is))
 
@@ -73,15 +73,15 @@ module _ (t : ErrorTable) where
 
   -- what is kept is flipped by the kept rows as by the rows, and nothing else is
 
-  flips-passes : (j i : ℕ) → is_kept t.detectors j i ≡ true → (errors : List ℕ) → flipped_by_rows (kept (Some j)) errors i ≡ flipped_by_rows t.rows errors i
+  flips-passes : (j i : ℕ) → is_searched_number t.detectors j i ≡ true → (errors : List ℕ) → flipped_by_rows (kept (Some j)) errors i ≡ flipped_by_rows t.rows errors i
   flips-passes j i passes [] = refl
   flips-passes j i passes (r ∷ errors) =
-      (λ m. (ap (odd i) (row-kept j r) ∙ odd-passes (is_kept t.detectors j) i passes (row t.rows r)) m ⊕ flips-passes j i passes errors m)
+      (λ m. (ap (odd i) (row-kept j r) ∙ odd-passes (is_searched_number t.detectors j) i passes (row t.rows r)) m ⊕ flips-passes j i passes errors m)
 
-  flips-dropped : (j i : ℕ) → is_kept t.detectors j i ≡ false → (errors : List ℕ) → flipped_by_rows (kept (Some j)) errors i ≡ false
+  flips-dropped : (j i : ℕ) → is_searched_number t.detectors j i ≡ false → (errors : List ℕ) → flipped_by_rows (kept (Some j)) errors i ≡ false
   flips-dropped j i drops [] = refl
   flips-dropped j i drops (r ∷ errors) =
-      (λ m. (ap (odd i) (row-kept j r) ∙ odd-dropped (is_kept t.detectors j) i drops (row t.rows r)) m ⊕ flips-dropped j i drops errors m)
+      (λ m. (ap (odd i) (row-kept j r) ∙ odd-dropped (is_searched_number t.detectors j) i drops (row t.rows r)) m ⊕ flips-dropped j i drops errors m)
 
   flips-detector : (observable : Option ℕ) (errors : List ℕ) (d : ℕ) → d < t.detectors → flipped_by_rows (kept observable) errors d ≡ flipped_by_rows t.rows errors d
   flips-detector None errors d less = refl
@@ -102,7 +102,7 @@ module _ (t : ErrorTable) where
       by_test : (b : Bool) → ((o - t.detectors) == j) ≡ b → o - t.detectors ≡ j
       by_test true e = eqb-true (o - t.detectors) j e
       by_test false e =
-          let drops : is_kept t.detectors j o ≡ false = ap (λ b. b || ((o - t.detectors) == j)) (le-ltb o t.detectors past) ∙ e in
+          let drops : is_searched_number t.detectors j o ≡ false = ap (λ b. b || ((o - t.detectors) == j)) (le-ltb o t.detectors past) ∙ e in
           absurd (true≢false (sym flipped ∙ flips-dropped j o drops errors))
 
   -- so the logical errors of the kept rows are those that flip an observable that is asked for
@@ -138,4 +138,4 @@ module _ (t : ErrorTable) where
 
   pub odd-detector : (observable : Option ℕ) (r d : ℕ) → d < t.detectors → odd d (row (kept observable) r) ≡ odd d (row t.rows r)
   odd-detector None r d less = refl
-  odd-detector (Some j) r d less = ap (odd d) (row-kept j r) ∙ odd-passes (is_kept t.detectors j) d (kept-detector t.detectors j d less) (row t.rows r)
+  odd-detector (Some j) r d less = ap (odd d) (row-kept j r) ∙ odd-passes (is_searched_number t.detectors j) d (kept-detector t.detectors j d less) (row t.rows r)

@@ -1,7 +1,6 @@
 -- Unseen sets: logical errors of a table of errors are sets of errors that are unseen together, and the other way round.
-use Rattle.stab_error_model.proofs.Names.{◌≡◌, ℕ, ◌+◌, ◌<◌, ◌≤◌, ◌⊎◌, inl, inr, refl, sym, ap, ◌∙◌, subst, Bool, true, false, List, [], ◌∷◌, length, arith, Option, Some, None, Result, Ok, Err, IfOk, IsErrAnd, unwrap_or, All, Contains, ◌&&◌, slice_index_or, flat_map, cases_lt, get_or-map, get_or_default, length-map, All-nil, All-cons, All-head, All-tail, All-map, All-weaker, Contains-get_or, ◌⊕◌, Items, unroll, detectors_of, I, bits_in, fault_on, in_front, odd-where, IsLogicalError, IsLeast, HasNoneWithin, HasNone, HasSome, Answer, Heard, begins, Hears, up_to, IsExcludedBy, ReportsSearch, Error, letter, faults_in, ErrorTableState, IsErrorTable, flip_together, flipped_by, flip_each, AreUnseen, FlipsTwo, AreUnseenOf, NoneUnseen, NoneUnseenWithin, SomeUnseen, IsWithin, IsLeastSet, ReportsUnseen, error_at, errors_at_numbers, with_observable, IsLogicalOf}
-use Rattle.stab_regions.specs.Rows.{odd}
-use Rattle.stab_search.specs.Tables.{ErrorTable, row, flipped_by_rows}
+use Rattle.stab_error_model.proofs.Names.{◌≡◌, ℕ, ◌+◌, ◌<◌, ◌≤◌, ◌⊎◌, inl, inr, refl, sym, ap, ◌∙◌, subst, Bool, true, false, List, [], ◌∷◌, length, arith, Option, Some, None, Result, Ok, Err, IfOk, IsErrAnd, unwrap_or, All, Contains, ◌&&◌, slice_index_or, flat_map, cases_lt, get_or-map, get_or_default, length-map, All-nil, All-cons, All-head, All-tail, All-map, All-weaker, Contains-get_or, ◌⊕◌, Items, unroll, detectors_of, I, bits_in, single_error_on, in_front, odd-where, IsLogicalError, IsLeast, HasNoneWithin, HasNone, HasSome, Answer, Heard, begins, Hears, numbers_up_to, IsExcludedBy, ReportsSearch, Error, letter, single_errors_in, ErrorTableState, IsErrorTable, flip_together, flipped_by_error, flip_each, AreUnseen, FlipsTwo, AreUnseenOf, NoneUnseen, NoneUnseenWithin, SomeUnseen, IsWithinAsked, IsLeastSet, ReportsUnseen, error_at, errors_at_numbers, with_observable, IsLogicalOf}
+use Rattle.stab_search.specs.Tables.{odd, ErrorTable, row, flipped_by_rows}
 use Rattle.stab_error_model.proofs.ObservedLemmas.{as-many-kept, from-kept, to-kept}
 use Rattle.stab_error_model.proofs.FlipLemmas.{odd-without, set, unset}
 
@@ -16,33 +15,33 @@ module _ (n : ℕ) (items : Items) (observable : Option ℕ) (t : ErrorTableStat
   D = detectors_of (unroll items)
 
   pub as-many : length rows ≡ length t.errors
-  as-many = ap length (table.are_flipped (λ k. false)) ∙ length-map t.errors (flipped_by n items t.deterministic (λ k. false))
+  as-many = ap length (table.are_flipped (λ k. false)) ∙ length-map t.errors (flipped_by_error n items t.deterministic (λ k. false))
 
   abbrev pub Inside : ℕ → Type 0
   Inside k = k < length rows
 
   abbrev property : (coins : ℕ → Bool) → ℕ → ℕ → Bool
-  property coins k i = slice_index_or t.deterministic i false && flip_together n items coins (faults_in (error_at t.errors k)) i
+  property coins k i = slice_index_or t.deterministic i false && flip_together n items coins (single_errors_in (error_at t.errors k)) i
 
-  row-of : (coins : ℕ → Bool) (k : ℕ) → Inside k → row rows k ≡ flipped_by n items t.deterministic coins (error_at t.errors k)
+  row-of : (coins : ℕ → Bool) (k : ℕ) → Inside k → row rows k ≡ flipped_by_error n items t.deterministic coins (error_at t.errors k)
   row-of coins k less =
       ap (λ rs. row rs k) (table.are_flipped coins)
-      ∙ get_or-map (flipped_by n items t.deterministic coins) t.errors k (letter (fault_on 0 (in_front 0) I)) [] (omega (arith, less, as-many))
+      ∙ get_or-map (flipped_by_error n items t.deterministic coins) t.errors k (letter (single_error_on 0 (in_front 0) I)) [] (omega (arith, less, as-many))
 
   -- what a row names
 
   pub row-names : (coins : ℕ → Bool) (k i : ℕ) → Inside k → i < bits_in items → slice_index_or t.deterministic i false ≡ true
-      → odd i (row rows k) ≡ flip_together n items coins (faults_in (error_at t.errors k)) i
+      → odd i (row rows k) ≡ flip_together n items coins (single_errors_in (error_at t.errors k)) i
   row-names coins k i less inside is_deterministic =
       ap (odd i) (row-of coins k less)
       ∙ odd-where (property coins k) 0 (bits_in items) i (omega arith) (omega (arith, inside))
-      ∙ set (slice_index_or t.deterministic i false) (flip_together n items coins (faults_in (error_at t.errors k)) i) is_deterministic
+      ∙ set (slice_index_or t.deterministic i false) (flip_together n items coins (single_errors_in (error_at t.errors k)) i) is_deterministic
 
   row-without : (k i : ℕ) → Inside k → (i < bits_in items → slice_index_or t.deterministic i false ≡ false) → odd i (row rows k) ≡ false
   row-without k i less without =
       ap (odd i) (row-of (λ j. false) k less)
       ∙ odd-without (property (λ j. false) k) (bits_in items) i
-      (λ inside. unset (slice_index_or t.deterministic i false) (flip_together n items (λ j. false) (faults_in (error_at t.errors k)) i) (without inside))
+      (λ inside. unset (slice_index_or t.deterministic i false) (flip_together n items (λ j. false) (single_errors_in (error_at t.errors k)) i) (without inside))
 
   -- and what rows name together
 
@@ -60,11 +59,11 @@ module _ (n : ℕ) (items : Items) (observable : Option ℕ) (t : ErrorTableStat
   numbers-of ks less =
       All-map (λ e. Contains t.errors e) (error_at t.errors) ks
       (All-weaker Inside (λ k. Contains t.errors (error_at t.errors k))
-      (λ k inside. Contains-get_or t.errors k (letter (fault_on 0 (in_front 0) I)) (omega (arith, inside, as-many))) ks less)
+      (λ k inside. Contains-get_or t.errors k (letter (single_error_on 0 (in_front 0) I)) (omega (arith, inside, as-many))) ks less)
 
   -- a deterministic bit is flipped by runs if the rows name it
   pub together : (coins : ℕ → Bool) (ks : List ℕ) (i : ℕ) → All Inside ks → i < bits_in items → slice_index_or t.deterministic i false ≡ true
-      → flip_together n items coins (flat_map faults_in (errors_at_numbers t.errors ks)) i ≡ flipped_by_rows rows ks i
+      → flip_together n items coins (flat_map single_errors_in (errors_at_numbers t.errors ks)) i ≡ flipped_by_rows rows ks i
   together coins ks i less inside is_deterministic =
       table.add (errors_at_numbers t.errors ks) i (numbers-of ks less) inside ((table.are_deterministic.exact i inside).0 is_deterministic) coins
       ∙ sym (each coins ks i less inside is_deterministic)
@@ -108,7 +107,7 @@ module _ (n : ℕ) (items : Items) (observable : Option ℕ) (t : ErrorTableStat
 
   number-of : (e : Error) → Contains t.errors e → (k : ℕ) × Inside k × (error_at t.errors k ≡ e)
   number-of e has =
-      (has.0, omega (arith, has.1, as-many), get_or_default t.errors has.0 (letter (fault_on 0 (in_front 0) I)) e has.1 ∙ has.2)
+      (has.0, omega (arith, has.1, as-many), get_or_default t.errors has.0 (letter (single_error_on 0 (in_front 0) I)) e has.1 ∙ has.2)
 
   pub numbers-at : (errors : List Error) → All (λ e. Contains t.errors e) errors → (ks : List ℕ) × All Inside ks × (errors_at_numbers t.errors ks ≡ errors) × (length ks ≡ length errors)
   numbers-at [] of = ([], All-nil Inside, refl, refl)
@@ -160,7 +159,7 @@ module _ (n : ℕ) (items : Items) (observable : Option ℕ) (t : ErrorTableStat
 
   -- answers
 
-  pub within-asked : (most : Option ℕ) (bound k : ℕ) → bound ≡ unwrap_or most (length rows) → k ≤ bound → IsWithin most k
+  pub within-asked : (most : Option ℕ) (bound k : ℕ) → bound ≡ unwrap_or most (length rows) → k ≤ bound → IsWithinAsked most k
   within-asked (Some w) bound k e le = omega (arith, e, le)
   within-asked None bound k e le = tt
 
@@ -198,7 +197,7 @@ module _ (n : ℕ) (items : Items) (observable : Option ℕ) (t : ErrorTableStat
           let same : bound ≡ unwrap_or most (length t.errors) = e ∙ ap (λ k. unwrap_or most k) as-many in record {
             last = reports.last;
             none = none reports.last reports.none;
-            heard = subst (λ k. Hears old new (begins k ∷ up_to reports.last)) (as-many-sought ∙ as-many) reports.heard;
+            heard = subst (λ k. Hears old new (begins k ∷ numbers_up_to reports.last)) (as-many-sought ∙ as-many) reports.heard;
             all = subst (λ k. IfOk r (λ a. IsExcludedBy k a reports.last)) same reports.all;
           }
 

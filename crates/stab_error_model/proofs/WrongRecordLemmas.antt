@@ -1,5 +1,5 @@
 -- Wrong records: the letters of one flip the bits that one more ! at the record flips.
-use Rattle.stab_error_model.proofs.Names.{◌≡◌, ℕ, zero, suc, ◌+◌, ◌-◌, ◌≤◌, ◌<◌, refl, sym, ap, ◌∙◌, subst, Bool, true, false, not, ◌&&◌, List, [], ◌∷◌, ◌++◌, append_assoc, length, drop, arith, All, lt-ltb, le-ltb, if◌then◌else◌, drop-drop, drop-append_seam, length-append, All-nil, All-cons, All-head, All-tail, All-append, All-map, Letter, I, X, Y, Z, Axis, ◌⊕◌, letters_anticommute, parity-false, Factor, letter_of, names_twice, ControlledPair, Kind, Items, done, next, block, Step, one, two, controlled, collapse, product, detector, observable, makes, records_of, HasDistinctQubits, steps_of, controlled_step, measured, rounds, unroll, detectors_of, observables_of, StepFits, flip_of, and-left, FaultPlace, in_front, following, fault_on, with_gates, bit, bits_in, IsDeterministic, flips, FaultFits, flips_together, FaultsAdd, DeterministicParities, DeterministicParityBits, SitesFlipDeterministicParities, parity_region, parity_kept, parity_flips, parity_deterministic, diagonal, AreNegated, collapse-negated, product-negated, negated-front, kept-last, count-following, named_there, wrong-measured, wrong-reset, wrong-product, fits-front, fits-back, Error, letter, letters, wrong_record, letters_asked, pairs_asked, each_letter, each_product, product_at, wrong_product, errors_at, errors_from, ErrorLetters, flat_map, inverted_once, with_inverted}
+use Rattle.stab_error_model.proofs.Names.{◌≡◌, ℕ, zero, suc, ◌+◌, ◌-◌, ◌≤◌, ◌<◌, refl, sym, ap, ◌∙◌, subst, Bool, true, false, not, ◌&&◌, List, [], ◌∷◌, ◌++◌, append_assoc, length, drop, arith, All, lt-ltb, le-ltb, if◌then◌else◌, drop-drop, drop-append_seam, length-append, All-nil, All-cons, All-head, All-tail, All-append, All-map, Letter, I, X, Y, Z, Axis, ◌⊕◌, letters_anticommute, parity-false, Factor, letter_of, names_twice, ControlledPair, Kind, Items, done, next, block, Step, one, two, controlled, collapse, product, detector, observable, makes, records_of, HasDistinctQubits, steps_of, controlled_step, measured, rounds, unroll, detectors_of, observables_of, StepFits, flip_of, and-left, SingleError, in_front, following, single_error_on, with_gates, bit, bits_in, IsDeterministic, flips, SingleErrorFits, flips_together, SingleErrorsAdd, DeterministicParities, DeterministicParityBits, SitesFlipDeterministicParities, parity_region, parity_kept, parity_flips, parity_deterministic, diagonal, AreNegated, collapse-negated, product-negated, negated-front, kept-last, count-following, named_there, wrong-measured, wrong-reset, wrong-product, fits-front, fits-back, Error, letter, letters, wrong_record, letters_asked, pairs_asked, each_letter, each_product, product_at, wrong_product, errors_at, errors_from, ErrorLetters, flat_map, inverted_once, with_inverted}
 use Rattle.stab_instructions.specs.declared.axis.Axis.TheVariants as axis
 use Rattle.stab_instructions.specs.declared.control.ControlledPair.TheVariants as pair
 use Rattle.stab_instructions.specs.declared.operation.Kind.TheVariants as kind
@@ -64,7 +64,7 @@ same-difference : (a b c d : Bool) → a ⊕ c ≡ d → b ≡ d ⊕ c → a ≡
 same-difference a b c d e f = grind arith
 
 module _ (n : ℕ) (items : Items) (fits : All (StepFits n) (unroll items)) (found : DeterministicParities) (bits : DeterministicParityBits) (sites : SitesFlipDeterministicParities)
-    (adds : FaultsAdd) where
+    (adds : SingleErrorsAdd) where
   abbrev xs : List Step
   xs = unroll items
 
@@ -74,12 +74,12 @@ module _ (n : ℕ) (items : Items) (fits : All (StepFits n) (unroll items)) (fou
   abbrev the_bit : (ℕ → Bool) → List Step → ℕ → Bool
   the_bit coins ys i = bit n (observables_of items) coins ys i
 
-  -- of a wrong record whose faults fit
+  -- of a wrong record whose single errors fit
   abbrev pub IsInverted : Error → Type 0
   IsInverted (letter f) = Unit {0}
   IsInverted (letters f g) = Unit {0}
   IsInverted (wrong_record m f back) =
-      All (FaultFits n xs) (f ∷ back) → (i : ℕ) → i < bits_in items → IsDeterministic n items i → (coins : ℕ → Bool) →
+      All (SingleErrorFits n xs) (f ∷ back) → (i : ℕ) → i < bits_in items → IsDeterministic n items i → (coins : ℕ → Bool) →
       the_bit coins (with_gates (f ∷ back) xs) i ≡ the_bit coins (with_inverted m xs) i
 
   -- where a step is
@@ -131,14 +131,14 @@ module _ (n : ℕ) (items : Items) (fits : All (StepFits n) (unroll items)) (fou
           ∙ ap (λ b. named ⊕ b) (sym (bits n (observables_of items) xs i fits lt whole coins))
 
       -- what a letter in front of the step flips, and one after it
-      flips-front : (k : Letter) (q : ℕ) (coins : ℕ → Bool) → q < n → flips n items coins (fault_on t (in_front q) k) i ≡ parity_flips n D i k q (x ∷ rest)
-      flips-front k q coins less = sites n items i (fault_on t (in_front q) k) fits lt less whole coins ∙ ap (parity_flips n D i k q) drop-here
+      flips-front : (k : Letter) (q : ℕ) (coins : ℕ → Bool) → q < n → flips n items coins (single_error_on t (in_front q) k) i ≡ parity_flips n D i k q (x ∷ rest)
+      flips-front k q coins less = sites n items i (single_error_on t (in_front q) k) fits lt less whole coins ∙ ap (parity_flips n D i k q) drop-here
 
-      flips-following : (k : Letter) (q : ℕ) (coins : ℕ → Bool) → q < n → flips n items coins (fault_on t (following q) k) i ≡ parity_flips n D i k q rest
-      flips-following k q coins less = sites n items i (fault_on t (following q) k) fits lt less whole coins ∙ ap (parity_flips n D i k q) drop-following
+      flips-following : (k : Letter) (q : ℕ) (coins : ℕ → Bool) → q < n → flips n items coins (single_error_on t (following q) k) i ≡ parity_flips n D i k q rest
+      flips-following k q coins less = sites n items i (single_error_on t (following q) k) fits lt less whole coins ∙ ap (parity_flips n D i k q) drop-following
 
-      -- so faults that flip what names the record are one more !
-      wrong-is : (fs : List FaultPlace) (y : Step) → All (FaultFits n xs) fs → y ≡ inverted_once x → makes x ≡ 1 → StepFits n y → AreNegated n D i named (y ∷ rest) (x ∷ rest)
+      -- so single errors that flip what names the record are one more !
+      wrong-is : (fs : List SingleError) (y : Step) → All (SingleErrorFits n xs) fs → y ≡ inverted_once x → makes x ≡ 1 → StepFits n y → AreNegated n D i named (y ∷ rest) (x ∷ rest)
           → (coins : ℕ → Bool) → flips_together (λ f. flips n items coins f i) fs ≡ named → the_bit coins (with_gates fs xs) i ≡ the_bit coins (with_inverted m xs) i
       wrong-is fs y fit is makes_one y_fits negated coins flip =
           same-difference (the_bit coins (with_gates fs xs) i) (the_bit coins (with_inverted m xs) i) (the_bit coins xs i) named
@@ -148,10 +148,10 @@ module _ (n : ℕ) (items : Items) (fits : All (StepFits n) (unroll items)) (fou
 
   -- letters and products are no records
 
-  letters-plain : (ls : List Letter) (at : Letter → FaultPlace) → All IsInverted (each_letter ls at)
+  letters-plain : (ls : List Letter) (at : Letter → SingleError) → All IsInverted (each_letter ls at)
   letters-plain ls at = All-map IsInverted (λ l. letter (at l)) ls (λ k l less. tt)
 
-  product-plain : (first second : Letter → FaultPlace) (l m : Letter) → IsInverted (product_at first second l m)
+  product-plain : (first second : Letter → SingleError) (l m : Letter) → IsInverted (product_at first second l m)
   product-plain first second I m = tt
   product-plain first second X I = tt
   product-plain first second X X = tt
@@ -166,38 +166,38 @@ module _ (n : ℕ) (items : Items) (fits : All (StepFits n) (unroll items)) (fou
   product-plain first second Z Y = tt
   product-plain first second Z Z = tt
 
-  products-plain : (asked : ErrorLetters) (first second : Letter → FaultPlace) → All IsInverted (each_product asked first second)
+  products-plain : (asked : ErrorLetters) (first second : Letter → SingleError) → All IsInverted (each_product asked first second)
   products-plain asked first second = All-map IsInverted (λ p. product_at first second p.0 p.1) (pairs_asked asked) (λ k p less. product-plain first second _ _)
 
-  factors-plain : (ls : List Letter) (t : ℕ) (factors : List Factor) → All IsInverted (flat_map (λ f. each_letter ls (fault_on t (in_front f.qubit))) factors)
+  factors-plain : (ls : List Letter) (t : ℕ) (factors : List Factor) → All IsInverted (flat_map (λ f. each_letter ls (single_error_on t (in_front f.qubit))) factors)
   factors-plain ls t [] = All-nil IsInverted
   factors-plain ls t (f ∷ fs) =
-      All-append IsInverted (each_letter ls (fault_on t (in_front f.qubit))) (flat_map (λ g. each_letter ls (fault_on t (in_front g.qubit))) fs)
-      (letters-plain ls (fault_on t (in_front f.qubit))) (factors-plain ls t fs)
+      All-append IsInverted (each_letter ls (single_error_on t (in_front f.qubit))) (flat_map (λ g. each_letter ls (single_error_on t (in_front g.qubit))) fs)
+      (letters-plain ls (single_error_on t (in_front f.qubit))) (factors-plain ls t fs)
 
   -- the wrong records at a step
 
   module _ (t m : ℕ) (front rest : List Step) where
     wrong-after : (l : Letter) (q : ℕ) (inverted : Bool) → StandsAt t m front (collapse l q true inverted false) rest → q < n → letters_anticommute (flip_of l) l ≡ true
-        → IsInverted (wrong_record m (fault_on t (in_front q) (flip_of l)) (fault_on t (following q) (flip_of l) ∷ []))
+        → IsInverted (wrong_record m (single_error_on t (in_front q) (flip_of l)) (single_error_on t (following q) (flip_of l) ∷ []))
     wrong-after l q inverted at less other fit i lt same coins =
         let x : Step = collapse l q true inverted false in
         let k : Letter = flip_of l in
-        wrong-is t m front x rest at i lt same (fault_on t (in_front q) k ∷ fault_on t (following q) k ∷ []) (collapse l q true (not inverted) false) fit refl refl less
+        wrong-is t m front x rest at i lt same (single_error_on t (in_front q) k ∷ single_error_on t (following q) k ∷ []) (collapse l q true (not inverted) false) fit refl refl less
         (collapse-negated n D i rest l q inverted false (few t m front x rest at) (kept-there t m front x rest at i lt same)) coins
         ((λ j.
         flips-front t m front x rest at i lt same k q coins less j
-        ⊕ (parity-false (flips n items coins (fault_on t (following q) k) i) ∙ flips-following t m front x rest at i lt same k q coins less) j)
+        ⊕ (parity-false (flips n items coins (single_error_on t (following q) k) i) ∙ flips-following t m front x rest at i lt same k q coins less) j)
         ∙ wrong-measured n D i rest l q less inverted other (few t m front x rest at))
 
     wrong-reset_too : (l : Letter) (q : ℕ) (inverted : Bool) → StandsAt t m front (collapse l q true inverted true) rest → q < n → letters_anticommute (flip_of l) l ≡ true
-        → IsInverted (wrong_record m (fault_on t (in_front q) (flip_of l)) [])
+        → IsInverted (wrong_record m (single_error_on t (in_front q) (flip_of l)) [])
     wrong-reset_too l q inverted at less other fit i lt same coins =
         let x : Step = collapse l q true inverted true in
         let k : Letter = flip_of l in
-        wrong-is t m front x rest at i lt same (fault_on t (in_front q) k ∷ []) (collapse l q true (not inverted) true) fit refl refl less
+        wrong-is t m front x rest at i lt same (single_error_on t (in_front q) k ∷ []) (collapse l q true (not inverted) true) fit refl refl less
         (collapse-negated n D i rest l q inverted true (few t m front x rest at) (kept-there t m front x rest at i lt same)) coins
-        (parity-false (flips n items coins (fault_on t (in_front q) k) i) ∙ flips-front t m front x rest at i lt same k q coins less
+        (parity-false (flips n items coins (single_error_on t (in_front q) k) i) ∙ flips-front t m front x rest at i lt same k q coins less
         ∙ wrong-reset n D i rest l q less inverted other (few t m front x rest at))
 
     wrong-of_product : (factors : List Factor) (inverted : Bool) → StandsAt t m front (product factors inverted) rest → All (λ f. f.qubit < n) factors → names_twice factors ≡ false
@@ -208,33 +208,33 @@ module _ (n : ℕ) (items : Items) (fits : All (StepFits n) (unroll items)) (fou
         let q : ℕ = g.qubit in
         let k : Letter = flip_of (letter_of g.letter) in
         let here : q < n = All-head (λ f. f.qubit < n) g gs less in
-        All-cons IsInverted (wrong_record m (fault_on t (in_front q) k) (fault_on t (following q) k ∷ [])) []
+        All-cons IsInverted (wrong_record m (single_error_on t (in_front q) k) (single_error_on t (following q) k ∷ [])) []
         (λ fit i lt same coins.
-        wrong-is t m front x rest at i lt same (fault_on t (in_front q) k ∷ fault_on t (following q) k ∷ []) (product (g ∷ gs) (not inverted)) fit refl refl less
+        wrong-is t m front x rest at i lt same (single_error_on t (in_front q) k ∷ single_error_on t (following q) k ∷ []) (product (g ∷ gs) (not inverted)) fit refl refl less
         (product-negated n D i rest (g ∷ gs) inverted (few t m front x rest at) (kept-there t m front x rest at i lt same)) coins
         ((λ j.
         flips-front t m front x rest at i lt same k q coins here j
-        ⊕ (parity-false (flips n items coins (fault_on t (following q) k) i) ∙ flips-following t m front x rest at i lt same k q coins here) j)
+        ⊕ (parity-false (flips n items coins (single_error_on t (following q) k) i) ∙ flips-following t m front x rest at i lt same k q coins here) j)
         ∙ wrong-product n D i rest g gs inverted here distinct (axis-flips g.letter) (few t m front x rest at)))
         (All-nil IsInverted)
 
     step-inverted : (asked : ErrorLetters) (x : Step) → StandsAt t m front x rest → StepFits n x → HasDistinctQubits x → IsFlippable x → All IsInverted (errors_at asked t m x)
-    step-inverted asked (one g q) at less distinct other = letters-plain (letters_asked asked) (fault_on t (following q))
-    step-inverted asked (two g a b) at less distinct other = products-plain asked (fault_on t (following a)) (fault_on t (following b))
-    step-inverted asked (controlled l k q) at less distinct other = letters-plain (letters_asked asked) (fault_on t (following q))
-    step-inverted asked (collapse l q false inverted resets) at less distinct other = letters-plain (letters_asked asked) (fault_on t (following q))
+    step-inverted asked (one g q) at less distinct other = letters-plain (letters_asked asked) (single_error_on t (following q))
+    step-inverted asked (two g a b) at less distinct other = products-plain asked (single_error_on t (following a)) (single_error_on t (following b))
+    step-inverted asked (controlled l k q) at less distinct other = letters-plain (letters_asked asked) (single_error_on t (following q))
+    step-inverted asked (collapse l q false inverted resets) at less distinct other = letters-plain (letters_asked asked) (single_error_on t (following q))
     step-inverted asked (collapse l q true inverted true) at less distinct other =
         let ls = letters_asked asked in
-        let wrong : Error = wrong_record m (fault_on t (in_front q) (flip_of l)) [] in
-        All-append IsInverted (each_letter ls (fault_on t (in_front q))) (wrong ∷ each_letter ls (fault_on t (following q))) (letters-plain ls (fault_on t (in_front q)))
-        (All-cons IsInverted wrong (each_letter ls (fault_on t (following q))) (wrong-reset_too l q inverted at less other) (letters-plain ls (fault_on t (following q))))
+        let wrong : Error = wrong_record m (single_error_on t (in_front q) (flip_of l)) [] in
+        All-append IsInverted (each_letter ls (single_error_on t (in_front q))) (wrong ∷ each_letter ls (single_error_on t (following q))) (letters-plain ls (single_error_on t (in_front q)))
+        (All-cons IsInverted wrong (each_letter ls (single_error_on t (following q))) (wrong-reset_too l q inverted at less other) (letters-plain ls (single_error_on t (following q))))
     step-inverted asked (collapse l q true inverted false) at less distinct other =
         let ls = letters_asked asked in
-        let wrong : Error = wrong_record m (fault_on t (in_front q) (flip_of l)) (fault_on t (following q) (flip_of l) ∷ []) in
-        All-append IsInverted (each_letter ls (fault_on t (in_front q))) (wrong ∷ []) (letters-plain ls (fault_on t (in_front q)))
+        let wrong : Error = wrong_record m (single_error_on t (in_front q) (flip_of l)) (single_error_on t (following q) (flip_of l) ∷ []) in
+        All-append IsInverted (each_letter ls (single_error_on t (in_front q))) (wrong ∷ []) (letters-plain ls (single_error_on t (in_front q)))
         (All-cons IsInverted wrong [] (wrong-after l q inverted at less other) (All-nil IsInverted))
     step-inverted asked (product factors inverted) at less distinct other =
-        All-append IsInverted (flat_map (λ f. each_letter (letters_asked asked) (fault_on t (in_front f.qubit))) factors) (wrong_product t m factors)
+        All-append IsInverted (flat_map (λ f. each_letter (letters_asked asked) (single_error_on t (in_front f.qubit))) factors) (wrong_product t m factors)
         (factors-plain (letters_asked asked) t factors) (wrong-of_product factors inverted at less distinct)
     step-inverted asked (detector ks) at less distinct other = All-nil IsInverted
     step-inverted asked (observable j ks) at less distinct other = All-nil IsInverted

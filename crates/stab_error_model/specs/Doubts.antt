@@ -3,8 +3,8 @@
 use Rattle.std.specs.Prelude.{ℕ, ◌+◌, ◌*◌, ◌==◌, ◌||◌, zero, suc, Bool, false, List, [], ◌∷◌, ◌++◌, length, map, codes, bytes_eq, if◌then◌else◌, Option, Some, None}
 use Rattle.std.specs.List.{flat_map, list_all, list_any}
 use Rattle.std.specs.Char.{to_ascii_lowercase}
-use Rattle.stab_circuit.specs.Items.{Items, done, next, block}
-use Rattle.stab_circuit.specs.Steps.{steps_of, unroll}
+use Rattle.stab_items.specs.Items.{Items, done, next, block}
+use Rattle.stab_items.specs.Steps.{steps_of, unroll}
 use Rattle.stab_error_model.specs.Errors.{Marks, marks_by}
 use Rattle.stab_error_model.specs.declared.doubts.Doubt.{Doubt}
 use Rattle.stab_error_model.specs.declared.doubts.Doubt.TheVariants.{Tag, LastTarget, SameQubit}

@@ -1,4 +1,4 @@
--- Errors: what goes wrong at once in a circuit, as faults that are put in as gates, and which errors a circuit has.
+-- Errors: what goes wrong at once in a circuit, as single errors that are put in as gates, and which errors a circuit has.
 -- Source: this project's own; products of two letters are those of noise channels on two qubits, in the order of C. Gidney, Stim: a
 -- fast stabilizer circuit simulator (2021).
 use Rattle.std.specs.Prelude.{ℕ, ◌+◌, zero, suc, Bool, true, false, List, [], ◌∷◌, ◌++◌, length, map, codes, bytes_eq, if◌then◌else◌}
@@ -12,31 +12,31 @@ use Rattle.stab_instructions.specs.declared.operation.Kind.{Kind}
 use Rattle.stab_instructions.specs.declared.operation.Kind.TheVariants as kind
 use Rattle.stab_instructions.specs.declared.product.Factor.{Factor}
 use Rattle.stab_instructions.specs.Axes.{letter_of}
-use Rattle.stab_circuit.specs.Items.{Items, done, next, block}
-use Rattle.stab_circuit.specs.Steps.{Step, one, two, controlled, collapse, product, detector, observable, steps_of, unroll, makes}
+use Rattle.stab_items.specs.Items.{Items, done, next, block}
+use Rattle.stab_items.specs.Steps.{Step, one, two, controlled, collapse, product, detector, observable, steps_of, unroll, makes}
 use Rattle.stab_run.specs.Runs.{flip_of}
-use Rattle.stab_regions.specs.Faults.{in_front, following, FaultPlace, fault_on}
+use Rattle.stab_regions.specs.SingleErrors.{in_front, following, SingleError, single_error_on}
 use Rattle.stab_jobs.specs.declared.job.ErrorLetters.{ErrorLetters}
 use Rattle.stab_jobs.specs.declared.job.ErrorLetters.TheVariants.{All, XAndZ}
 
 -- an error: a letter at a site; letters at two sites, both at once; or the record of this number by itself: a letter in front of its
 -- measurement flips the outcome, and if the qubit isn't reset the same letter after it takes the flip of the qubit back
 pub data Error : Type 0 where
-  letter : FaultPlace → Error
-  letters : (first second : FaultPlace) → Error
-  wrong_record : (number : ℕ) → (flip : FaultPlace) → (back : List FaultPlace) → Error
+  letter : SingleError → Error
+  letters : (first second : SingleError) → Error
+  wrong_record : (number : ℕ) → (flip : SingleError) → (back : List SingleError) → Error
 
--- the faults that go wrong at once
-abbrev pub faults_in : Error → List FaultPlace
-faults_in (letter f) = f ∷ []
-faults_in (letters f g) = f ∷ g ∷ []
-faults_in (wrong_record number f back) = f ∷ back
+-- the single errors that go wrong at once
+abbrev pub single_errors_in : Error → List SingleError
+single_errors_in (letter f) = f ∷ []
+single_errors_in (letters f g) = f ∷ g ∷ []
+single_errors_in (wrong_record number f back) = f ∷ back
 
 -- the first of them, if the error is said to be
-abbrev pub first_fault : Error → FaultPlace
-first_fault (letter f) = f
-first_fault (letters f g) = f
-first_fault (wrong_record number f back) = f
+abbrev pub first_single_error : Error → SingleError
+first_single_error (letter f) = f
+first_single_error (letters f g) = f
+first_single_error (wrong_record number f back) = f
 
 -- the letters of errors on one qubit
 abbrev pub letters_asked : ErrorLetters → List Letter
@@ -51,17 +51,17 @@ pairs_asked All =
 pairs_asked XAndZ = (I, X) ∷ (I, Z) ∷ (X, I) ∷ (X, X) ∷ (Z, I) ∷ (Z, Z) ∷ []
 
 -- each of some letters, at a site that takes a letter
-abbrev pub each_letter : List Letter → (Letter → FaultPlace) → List Error
+abbrev pub each_letter : List Letter → (Letter → SingleError) → List Error
 each_letter ls at = map (λ l. letter (at l)) ls
 
--- a product at two sites, in which I is no fault
-abbrev pub product_at : (first second : Letter → FaultPlace) → (l m : Letter) → Error
+-- a product at two sites, in which I is no single error
+abbrev pub product_at : (first second : Letter → SingleError) → (l m : Letter) → Error
 product_at first second I m = letter (second m)
 product_at first second l I = letter (first l)
 product_at first second l m = letters (first l) (second m)
 
 -- each product that is asked for, at two sites
-abbrev pub each_product : ErrorLetters → (first second : Letter → FaultPlace) → List Error
+abbrev pub each_product : ErrorLetters → (first second : Letter → SingleError) → List Error
 each_product ls first second = map (λ p. product_at first second p.0 p.1) (pairs_asked ls)
 
 -- errors everywhere
@@ -70,22 +70,22 @@ each_product ls first second = map (λ p. product_at first second p.0 p.1) (pair
 abbrev pub wrong_product : (t m : ℕ) → List Factor → List Error
 wrong_product t m [] = []
 wrong_product t m (f ∷ fs) =
-    wrong_record m (fault_on t (in_front f.qubit) (flip_of (letter_of f.letter))) (fault_on t (following f.qubit) (flip_of (letter_of f.letter)) ∷ []) ∷ []
+    wrong_record m (single_error_on t (in_front f.qubit) (flip_of (letter_of f.letter))) (single_error_on t (following f.qubit) (flip_of (letter_of f.letter)) ∷ []) ∷ []
 
 -- the errors at step number t, with m records before it: after a gate and a reset; in front of what is measured, and its record
 abbrev pub errors_at : ErrorLetters → (t m : ℕ) → Step → List Error
-errors_at ls t m (one g q) = each_letter (letters_asked ls) (fault_on t (following q))
-errors_at ls t m (two g a b) = each_product ls (fault_on t (following a)) (fault_on t (following b))
-errors_at ls t m (controlled l k q) = each_letter (letters_asked ls) (fault_on t (following q))
-errors_at ls t m (collapse l q false inverted resets) = each_letter (letters_asked ls) (fault_on t (following q))
+errors_at ls t m (one g q) = each_letter (letters_asked ls) (single_error_on t (following q))
+errors_at ls t m (two g a b) = each_product ls (single_error_on t (following a)) (single_error_on t (following b))
+errors_at ls t m (controlled l k q) = each_letter (letters_asked ls) (single_error_on t (following q))
+errors_at ls t m (collapse l q false inverted resets) = each_letter (letters_asked ls) (single_error_on t (following q))
 errors_at ls t m (collapse l q true inverted true) =
-    each_letter (letters_asked ls) (fault_on t (in_front q))
-    ++ wrong_record m (fault_on t (in_front q) (flip_of l)) [] ∷ each_letter (letters_asked ls) (fault_on t (following q))
+    each_letter (letters_asked ls) (single_error_on t (in_front q))
+    ++ wrong_record m (single_error_on t (in_front q) (flip_of l)) [] ∷ each_letter (letters_asked ls) (single_error_on t (following q))
 errors_at ls t m (collapse l q true inverted false) =
-    each_letter (letters_asked ls) (fault_on t (in_front q))
-    ++ wrong_record m (fault_on t (in_front q) (flip_of l)) (fault_on t (following q) (flip_of l) ∷ []) ∷ []
+    each_letter (letters_asked ls) (single_error_on t (in_front q))
+    ++ wrong_record m (single_error_on t (in_front q) (flip_of l)) (single_error_on t (following q) (flip_of l) ∷ []) ∷ []
 errors_at ls t m (product factors inverted) =
-    flat_map (λ f. each_letter (letters_asked ls) (fault_on t (in_front f.qubit))) factors ++ wrong_product t m factors
+    flat_map (λ f. each_letter (letters_asked ls) (single_error_on t (in_front f.qubit))) factors ++ wrong_product t m factors
 errors_at ls t m (detector ks) = []
 errors_at ls t m (observable j ks) = []
 
@@ -150,13 +150,13 @@ letters_left ls tag =
 -- letters at each of some targets, the first of which is at step number t
 abbrev pub each_target : List Letter → ℕ → (qubits : List ℕ) → List Error
 each_target ls t [] = []
-each_target ls t (q ∷ qs) = each_letter ls (fault_on t (in_front q)) ++ each_target ls (t + 1) qs
+each_target ls t (q ∷ qs) = each_letter ls (single_error_on t (in_front q)) ++ each_target ls (t + 1) qs
 
 -- products on each two targets, one pair after the other; a last target without another has letters by itself
 abbrev pub each_two_targets : ErrorLetters → ℕ → (qubits : List ℕ) → List Error
 each_two_targets ls t [] = []
-each_two_targets ls t (q ∷ []) = each_letter (letters_asked ls) (fault_on t (in_front q))
-each_two_targets ls t (a ∷ b ∷ qs) = each_product ls (fault_on t (in_front a)) (fault_on (t + 1) (in_front b)) ++ each_two_targets ls (t + 2) qs
+each_two_targets ls t (q ∷ []) = each_letter (letters_asked ls) (single_error_on t (in_front q))
+each_two_targets ls t (a ∷ b ∷ qs) = each_product ls (single_error_on t (in_front a)) (single_error_on (t + 1) (in_front b)) ++ each_two_targets ls (t + 2) qs
 
 -- the errors that an instruction marks
 abbrev pub errors_marked : ErrorLetters → Marks → List Error

@@ -3,14 +3,14 @@
 -- Source: this project's own.
 use Rattle.std.specs.Prelude.{◌≡◌, ℕ, ◌-◌, ◌<◌, nat_lt, ◌⊎◌, Bool, true, not, List, [], ◌∷◌, All, Contains, if◌then◌else◌}
 use Rattle.std.specs.List.{flat_map}
-use Rattle.stab_circuit.specs.Items.{Items}
-use Rattle.stab_circuit.specs.Steps.{Step, collapse, product, unroll, observables_of, makes, HasDistinctQubits}
+use Rattle.stab_items.specs.Items.{Items}
+use Rattle.stab_items.specs.Steps.{Step, collapse, product, unroll, observables_of, makes, HasDistinctQubits}
 use Rattle.stab_run.specs.ProgramStates.{StepFits}
-use Rattle.stab_regions.specs.Faults.{FaultPlace, with_gates, bit, bits_in, IsDeterministic}
-use Rattle.stab_regions.specs.FaultLaws.{FaultFits}
+use Rattle.stab_regions.specs.SingleErrors.{SingleError, with_gates, bit, bits_in, IsDeterministic}
+use Rattle.stab_regions.specs.SingleErrorLaws.{SingleErrorFits}
 use Rattle.stab_jobs.specs.declared.job.ErrorLetters.{ErrorLetters}
 use Rattle.stab_jobs.specs.declared.job.ErrorLetters.TheVariants as letters_of
-use Rattle.stab_error_model.specs.Errors.{Error, wrong_record, faults_in, errors_of}
+use Rattle.stab_error_model.specs.Errors.{Error, wrong_record, single_errors_in, errors_of}
 use Rattle.stab_error_model.specs.ErrorTables.{flip_together}
 
 -- a step with one more ! at the record that it makes
@@ -27,24 +27,24 @@ with_inverted m (x ∷ xs) = if nat_lt m (makes x) then inverted_once x ∷ xs e
 -- if a record goes wrong by itself, each bit that is the same for all random bits is what it is with one more ! at that record
 abbrev pub WrongRecordsAreInverted : Type 0
 WrongRecordsAreInverted =
-    (n : ℕ) (letters : ErrorLetters) (items : Items) (number : ℕ) (flip : FaultPlace) (back : List FaultPlace) (i : ℕ) →
+    (n : ℕ) (letters : ErrorLetters) (items : Items) (number : ℕ) (flip : SingleError) (back : List SingleError) (i : ℕ) →
     All (StepFits n) (unroll items) → All HasDistinctQubits (unroll items) → Contains (errors_of true letters items) (wrong_record number flip back) →
     i < bits_in items → IsDeterministic n items i → (coins : ℕ → Bool) →
     bit n (observables_of items) coins (with_gates (flip ∷ back) (unroll items)) i ≡ bit n (observables_of items) coins (with_inverted number (unroll items)) i
 
--- faults flip what others flip: each bit that is the same for all random bits, for all of them
-abbrev pub FlipAlike : (n : ℕ) → Items → (faults others : List FaultPlace) → Type 0
-FlipAlike n items faults others =
-    (i : ℕ) (coins : ℕ → Bool) → i < bits_in items → IsDeterministic n items i → flip_together n items coins faults i ≡ flip_together n items coins others i
+-- single errors flip what others flip: each bit that is the same for all random bits, for all of them
+abbrev pub FlipAlike : (n : ℕ) → Items → (single_errors others : List SingleError) → Type 0
+FlipAlike n items single_errors others =
+    (i : ℕ) (coins : ℕ → Bool) → i < bits_in items → IsDeterministic n items i → flip_together n items coins single_errors i ≡ flip_together n items coins others i
 
 -- a letter at any site flips nothing, or what one error flips, if there are those of all letters
 abbrev pub LettersAreErrors : Type 0
 LettersAreErrors =
-    (n : ℕ) (items : Items) (f : FaultPlace) → All (StepFits n) (unroll items) → FaultFits n (unroll items) f →
-    FlipAlike n items (f ∷ []) [] ⊎ ((e : Error) × Contains (errors_of true letters_of.All items) e × FlipAlike n items (f ∷ []) (faults_in e))
+    (n : ℕ) (items : Items) (f : SingleError) → All (StepFits n) (unroll items) → SingleErrorFits n (unroll items) f →
+    FlipAlike n items (f ∷ []) [] ⊎ ((e : Error) × Contains (errors_of true letters_of.All items) e × FlipAlike n items (f ∷ []) (single_errors_in e))
 
 -- letters at any sites, such as those of a Pauli string between two steps, flip what some errors flip together
 abbrev pub StringsAreErrors : Type 0
 StringsAreErrors =
-    (n : ℕ) (letters : ErrorLetters) (items : Items) (faults : List FaultPlace) → All (StepFits n) (unroll items) → All (FaultFits n (unroll items)) faults →
-    (errors : List Error) × All (λ e. Contains (errors_of true letters items) e) errors × FlipAlike n items faults (flat_map faults_in errors)
+    (n : ℕ) (letters : ErrorLetters) (items : Items) (single_errors : List SingleError) → All (StepFits n) (unroll items) → All (SingleErrorFits n (unroll items)) single_errors →
+    (errors : List Error) × All (λ e. Contains (errors_of true letters items) e) errors × FlipAlike n items single_errors (flat_map single_errors_in errors)

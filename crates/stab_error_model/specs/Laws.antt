@@ -1,8 +1,8 @@
 -- Laws of errors: each circuit has a table of errors, and an answer to how few of them are unseen together.
 -- Source: this project's own.
 use Rattle.std.specs.Prelude.{◌≡◌, ℕ, ◌<◌, ◌^◌, Bool, false, All, Some, None}
-use Rattle.stab_circuit.specs.Items.{Items}
-use Rattle.stab_circuit.specs.Steps.{unroll}
+use Rattle.stab_items.specs.Items.{Items}
+use Rattle.stab_items.specs.Steps.{unroll}
 use Rattle.stab_run.specs.ProgramStates.{StepFits}
 use Rattle.stab_jobs.specs.declared.job.ErrorLetters.{ErrorLetters}
 use Rattle.stab_search.specs.declared.answer.Answer.{Answer}

@@ -3,8 +3,8 @@
 use Rattle.std.specs.Prelude.{◌≡◌, ℕ, ◌⊎◌, Bool, true, false, List, [], ◌∷◌, ◌++◌}
 use Rattle.stab_gates.specs.declared.letter.Letter.{Letter}
 use Rattle.stab_gates.specs.declared.letter.Letter.TheVariants.{I, X, Y, Z}
-use Rattle.stab_circuit.specs.Items.{Items}
-use Rattle.stab_regions.specs.Faults.{FaultPlace}
+use Rattle.stab_items.specs.Items.{Items}
+use Rattle.stab_regions.specs.SingleErrors.{SingleError}
 use Rattle.stab_error_model.specs.Errors.{Error, letter, letters, wrong_record, each_letter}
 use Rattle.stab_error_model.specs.Unseen.{FlipsTwo}
 
@@ -16,18 +16,18 @@ letter_parts Y = X ∷ Z ∷ []
 letter_parts Z = Z ∷ []
 
 -- these at its site, each an error by itself
-abbrev pub fault_parts : FaultPlace → List Error
-fault_parts f = each_letter (letter_parts f.letter) (λ l. record f { letter = l })
+abbrev pub single_error_parts : SingleError → List Error
+single_error_parts f = each_letter (letter_parts f.letter) (λ l. record f { letter = l })
 
 -- the parts of an error: the X and the Z at each of its sites; a wrong record has none
-abbrev pub parts_of : Error → List Error
-parts_of (letter f) = fault_parts f
-parts_of (letters f g) = fault_parts f ++ fault_parts g
-parts_of (wrong_record number f back) = []
+abbrev pub parts_of_error : Error → List Error
+parts_of_error (letter f) = single_error_parts f
+parts_of_error (letters f g) = single_error_parts f ++ single_error_parts g
+parts_of_error (wrong_record number f back) = []
 
 -- an error that flips at most two detectors stays, and any other gives way to its parts
 abbrev pub GivesParts : (n : ℕ) → Items → Error → (given : List Error) → Type 0
-GivesParts n items e given = (FlipsTwo n items e × (given ≡ e ∷ [])) ⊎ ((FlipsTwo n items e → ⊥) × (given ≡ parts_of e))
+GivesParts n items e given = (FlipsTwo n items e × (given ≡ e ∷ [])) ⊎ ((FlipsTwo n items e → ⊥) × (given ≡ parts_of_error e))
 
 -- the same of errors, in order
 abbrev pub AreSplit : (n : ℕ) → Items → (whole given : List Error) → Type 0

@@ -4,15 +4,15 @@ use Rattle.std.specs.Prelude.{◌≡◌, ℕ, ◌+◌, ◌<◌, ◌≤◌, ◌^�
 use Rattle.std.specs.Option.{unwrap_or}
 use Rattle.std.specs.List.{flat_map}
 use Rattle.stab_gates.specs.declared.letter.Letter.TheVariants.{I}
-use Rattle.stab_circuit.specs.Items.{Items}
-use Rattle.stab_circuit.specs.Steps.{unroll, observables_of, detectors_of}
-use Rattle.stab_regions.specs.Faults.{IsDeterministic, fault_on, in_front}
+use Rattle.stab_items.specs.Items.{Items}
+use Rattle.stab_items.specs.Steps.{unroll, observables_of, detectors_of}
+use Rattle.stab_regions.specs.SingleErrors.{IsDeterministic, single_error_on, in_front}
 use Rattle.stab_search.specs.Ascending.{IsAscending}
 use Rattle.stab_search.specs.declared.answer.Answer.{Answer}
 use Rattle.stab_search.specs.declared.answer.Answer.TheVariants.{Least, NoneWithin, NoneAtAll}
 use Rattle.stab_search.specs.Counts.{AreAsMany}
 use Rattle.stab_search.specs.Progress.{Heard, ReportsSearch}
-use Rattle.stab_error_model.specs.Errors.{Error, letter, faults_in}
+use Rattle.stab_error_model.specs.Errors.{Error, letter, single_errors_in}
 use Rattle.stab_error_model.specs.ErrorTables.{flip_together}
 
 -- an observable is one that is asked for: any, or the one of a number
@@ -23,17 +23,17 @@ IsAskedFor (Some j) number = number ≡ j
 -- errors that go wrong together are unseen: for all random bits, they flip no deterministic detector, and a deterministic observable that is
 -- asked for
 pub record AreUnseen (n : ℕ) (items : Items) (observable : Option ℕ) (errors : List Error) : Type 0 where
-  pub detectors : (coins : ℕ → Bool) (d : ℕ) → d < detectors_of (unroll items) → IsDeterministic n items d → flip_together n items coins (flat_map faults_in errors) d ≡ false
+  pub detectors : (coins : ℕ → Bool) (d : ℕ) → d < detectors_of (unroll items) → IsDeterministic n items d → flip_together n items coins (flat_map single_errors_in errors) d ≡ false
   pub number : ℕ
   pub asked : IsAskedFor observable number
   pub in_range : number < observables_of items
   pub deterministic : IsDeterministic n items (detectors_of (unroll items) + number)
-  pub flipped : (coins : ℕ → Bool) → flip_together n items coins (flat_map faults_in errors) (detectors_of (unroll items) + number) ≡ true
+  pub flipped : (coins : ℕ → Bool) → flip_together n items coins (flat_map single_errors_in errors) (detectors_of (unroll items) + number) ≡ true
 
 -- a graph-like error flips at most two detectors: for all random bits, each deterministic detector that it flips is one of two
 abbrev pub FlipsTwo : (n : ℕ) → Items → Error → Type 0
 FlipsTwo n items e =
-    (a b : ℕ) × ((coins : ℕ → Bool) (d : ℕ) → d < detectors_of (unroll items) → IsDeterministic n items d → flip_together n items coins (faults_in e) d ≡ true → (d ≡ a) ⊎ (d ≡ b))
+    (a b : ℕ) × ((coins : ℕ → Bool) (d : ℕ) → d < detectors_of (unroll items) → IsDeterministic n items d → flip_together n items coins (single_errors_in e) d ≡ true → (d ≡ a) ⊎ (d ≡ b))
 
 -- some of these errors are unseen together, and graph-like if that is asked
 pub record AreUnseenOf (graphlike : Bool) (observable : Option ℕ) (n : ℕ) (items : Items) (all errors : List Error) : Type 0 where
@@ -60,20 +60,20 @@ NoneUnseen graphlike observable n items all = (others : List Error) → AreUnsee
 
 -- the errors of these numbers
 abbrev pub error_at : List Error → ℕ → Error
-error_at all k = slice_index_or all k (letter (fault_on 0 (in_front 0) I))
+error_at all k = slice_index_or all k (letter (single_error_on 0 (in_front 0) I))
 
 abbrev pub errors_at_numbers : List Error → List ℕ → List Error
 errors_at_numbers all numbers = map (error_at all) numbers
 
 -- at most as many as were asked for, if a number was
-abbrev pub IsWithin : (most : Option ℕ) → ℕ → Type 0
-IsWithin None k = Unit {0}
-IsWithin (Some most) k = k ≤ most
+abbrev pub IsWithinAsked : (most : Option ℕ) → ℕ → Type 0
+IsWithinAsked None k = Unit {0}
+IsWithinAsked (Some most) k = k ≤ most
 
 -- a least unseen set by its numbers: each once, in ascending order, and at most as many as were asked for
 pub record IsLeastSet (graphlike : Bool) (observable : Option ℕ) (n : ℕ) (items : Items) (all : List Error) (most : Option ℕ) (numbers : List ℕ) : Type 0 where
   pub ascending : IsAscending numbers
-  pub within : IsWithin most (length numbers)
+  pub within : IsWithinAsked most (length numbers)
   pub inside : All (λ k. k < length all) numbers
   pub least : AreLeastUnseen graphlike observable n items all (errors_at_numbers all numbers)
 

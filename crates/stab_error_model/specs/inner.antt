@@ -1,4 +1,4 @@
-pub mod Adding
+pub mod ErrorLists
 pub mod Marked
 pub mod Everywhere
 pub mod ErrorRows

@@ -4,15 +4,15 @@ ghost use Rattle.std.specs.List.{list_all, list_any};
 ghost use Rattle.std.specs.Char.{to_ascii_lowercase};
 ghost use Rattle.stab_io.specs.declared.refusal.Refusal.TheVariants.{OutOfMemory};
 ghost use Rattle.stab_items.specs.Items.{before, done, listed};
-ghost use Rattle.stab_circuit.specs.Steps.{check_of, most_steps, unroll};
+ghost use Rattle.stab_items.specs.Steps.{check_of, most_steps, unroll};
 ghost use Rattle.stab_items.specs.Views.{circuit_items};
 ghost use Rattle.stab_error_model.specs.Errors.{marks_by, marks_of};
 ghost use Rattle.stab_error_model.specs.Doubts.{doubt_about, doubt_about_pairs, doubtful, doubts_at, doubts_from, is_almost_plain, is_axis_byte, plain_tags};
 
 use crate::marks::is_idle;
 use crate::tags::is_pairs;
-use stab_circuit::{Circuit, Item, Qubit};
-use stab_instructions::Kind;
+use stab_circuit::{Circuit, Item};
+use stab_instructions::{Kind, Qubit};
 use stab_io::Refusal;
 use stab_items::Part;
 use std::alloc::{AllocError, Global};

@@ -3,17 +3,17 @@ ghost use Rattle.std.specs.Prelude.{◌≡◌, ◌≤◌, List, ◌∷◌, [], �
 ghost use Rattle.stab_io.specs.Refusals.{Refuses};
 ghost use Rattle.stab_io.specs.declared.refusal.Refusal.TheVariants.{OutOfMemory};
 ghost use Rattle.stab_gates.specs.Limits.{most_qubits};
-ghost use Rattle.stab_circuit.specs.Steps.{check_of, check_within, detectors_of, unroll};
+ghost use Rattle.stab_items.specs.Steps.{check_of, check_within, detectors_of, unroll};
 ghost use Rattle.stab_items.specs.Views.{circuit_items};
 ghost use Rattle.stab_run.specs.ProgramStates.{StepFits};
-ghost use Rattle.stab_regions.specs.Faults.{IsFaultTable, faults_of};
+ghost use Rattle.stab_regions.specs.SingleErrors.{IsSingleErrorTable, single_errors_of};
 ghost use Rattle.stab_error_model.specs.Errors.{errors_of};
 ghost use Rattle.stab_error_model.specs.Parts.{AreSearched};
 ghost use Rattle.stab_error_model.specs.ErrorTables.{IsErrorTable, StepsInside};
 ghost use Rattle.stab_error_model.specs.declared.placed.Error.{Error as ErrorValue};
 ghost use Rattle.stab_error_model.specs.Placed.{error_shown};
-ghost use Rattle.stab_error_model.specs.inner.Adding.{ErrorStands};
-ghost use Rattle.stab_error_model.specs.inner.ErrorRows.{AreRowsOf, RowsAscend};
+ghost use Rattle.stab_error_model.specs.inner.ErrorLists.{ErrorStands};
+ghost use Rattle.stab_error_model.specs.inner.ErrorRows.{AreErrorRows, RowsAscend};
 ghost use Rattle.stab_error_model.specs.inner.RowParts.{AreSearchedByRows};
 
 use crate::everywhere::errors_everywhere;
@@ -24,8 +24,10 @@ use crate::rows::error_row;
 use stab_circuit::Circuit;
 use stab_io::{Fault, Refusal};
 use stab_jobs::ErrorLetters;
-use stab_regions::fault_laws::{deterministic_parities, faults_add, faults_flip_parities};
-use stab_regions::{FaultTable, faults};
+use stab_regions::single_error_laws::{
+    deterministic_parities, single_errors_add, single_errors_flip_parities,
+};
+use stab_regions::{SingleErrorTable, single_errors};
 use stab_search::Table;
 use std::alloc::Global;
 use std::marker::Model;
@@ -92,59 +94,59 @@ impl ErrorTable {
     }
 }
 
-/// The errors of a circuit: everywhere, or those that it marks. The table has this number of faults.
+/// The errors of a circuit: everywhere, or those that it marks. The table has this number of single errors.
 fn errors_asked(
     alloc: Global,
     circuit: &Circuit,
     everywhere: bool,
     letters: ErrorLetters,
-    faults: usize,
+    single_errors: usize,
 ) -> Result<Vec<Error>, Refusal>
     requires checked { check_of (circuit_items circuit.now) ≡ None }
-    requires faults { faults ≡ length (faults_of everywhere (unroll (circuit_items circuit.now))) }
+    requires single_errors { single_errors ≡ length (single_errors_of everywhere (unroll (circuit_items circuit.now))) }
     ensures errors { IfOk result (λ v. map error_shown v.items ≡ errors_of everywhere letters (circuit_items circuit.now)) }
-    ensures stand { IfOk result (λ v. All (ErrorStands (faults_of everywhere (unroll (circuit_items circuit.now)))) v.items) }
+    ensures stand { IfOk result (λ v. All (ErrorStands (single_errors_of everywhere (unroll (circuit_items circuit.now)))) v.items) }
     ensures err { IfErr result (λ r. r ≡ OutOfMemory) }
 {
     if everywhere {
-        errors_everywhere(alloc, circuit, letters, faults)
+        errors_everywhere(alloc, circuit, letters, single_errors)
     } else {
-        errors_marked(alloc, circuit, letters, faults)
+        errors_marked(alloc, circuit, letters, single_errors)
     }
 }
 
 /// The errors that are searched: these themselves, or split if graph-like errors are asked for.
 fn searched_errors(
     alloc: Global,
-    faults: &FaultTable,
+    single_errors: &SingleErrorTable,
     whole: Vec<Error>,
     detectors: usize,
     graphlike: bool,
 ) -> Result<Vec<Error>, Refusal>
-    requires ascend { RowsAscend faults.now.rows }
-    ensures searched { IfOk result (λ v. AreSearchedByRows graphlike faults.now.rows detectors whole.items v.items) }
+    requires ascend { RowsAscend single_errors.now.rows }
+    ensures searched { IfOk result (λ v. AreSearchedByRows graphlike single_errors.now.rows detectors whole.items v.items) }
     ensures err { IfErr result (λ r. r ≡ OutOfMemory) }
 {
     if !graphlike {
         return Ok(whole);
     }
-    let split = split_errors(alloc, faults, whole.as_slice(), detectors)?;
+    let split = split_errors(alloc, single_errors, whole.as_slice(), detectors)?;
     Ok(split)
 }
 
 /// Adds the row of an error.
 fn add_row(
     alloc: Global,
-    faults: &FaultTable,
+    single_errors: &SingleErrorTable,
     error: Error,
     table: &mut Table,
 ) -> Result<(), Refusal>
-    requires ascend { RowsAscend faults.now.rows }
-    ensures rows { OnOk result ((errors : List ErrorValue) → AreRowsOf faults.now.rows errors table.old.rows → AreRowsOf faults.now.rows (errors ++ error ∷ []) table.new.rows) }
+    requires ascend { RowsAscend single_errors.now.rows }
+    ensures rows { OnOk result ((errors : List ErrorValue) → AreErrorRows single_errors.now.rows errors table.old.rows → AreErrorRows single_errors.now.rows (errors ++ error ∷ []) table.new.rows) }
     ensures detectors { table.new.detectors ≡ table.old.detectors }
     ensures err { IfErr result (λ r. r ≡ OutOfMemory) }
 {
-    let row = error_row(alloc, faults, error)?;
+    let row = error_row(alloc, single_errors, error)?;
     table.push(row.as_slice())?;
     Ok(())
 }
@@ -152,18 +154,18 @@ fn add_row(
 /// What each of some errors flips.
 fn rows_of(
     alloc: Global,
-    faults: &FaultTable,
+    single_errors: &SingleErrorTable,
     errors: &[Error],
     detectors: usize,
 ) -> Result<Table, Refusal>
-    requires ascend { RowsAscend faults.now.rows }
-    ensures rows { IfOk result (λ t. AreRowsOf faults.now.rows errors.now t.rows) }
+    requires ascend { RowsAscend single_errors.now.rows }
+    ensures rows { IfOk result (λ t. AreErrorRows single_errors.now.rows errors.now t.rows) }
     ensures detectors { IfOk result (λ t. t.detectors ≡ detectors) }
     ensures err { IfErr result (λ r. r ≡ OutOfMemory) }
 {
     let mut table = Table::new(alloc, detectors);
     'errors: for error in errors {
-        add_row(alloc, faults, *error, &mut table)?;
+        add_row(alloc, single_errors, *error, &mut table)?;
     }
     Ok(table)
 }
@@ -186,7 +188,7 @@ fn steps_fit(circuit: &Circuit, n: usize)
     circuit.items();
 }
 
-/// The table of the errors of a circuit with this table of faults.
+/// The table of the errors of a circuit with this table of single errors.
 fn table_of(
     alloc: Global,
     circuit: &Circuit,
@@ -194,24 +196,24 @@ fn table_of(
     everywhere: bool,
     letters: ErrorLetters,
     graphlike: bool,
-    faults: &FaultTable,
+    single_errors: &SingleErrorTable,
 ) -> Result<ErrorTable, Refusal>
     requires checked { check_within n (circuit_items circuit.now) ≡ None }
-    requires table { IsFaultTable n everywhere (circuit_items circuit.now) faults.now.deterministic faults.now.rows }
+    requires table { IsSingleErrorTable n everywhere (circuit_items circuit.now) single_errors.now.deterministic single_errors.now.rows }
     ensures errors { IfOk result (λ t. AreSearched graphlike n (circuit_items circuit.now) (errors_of everywhere letters (circuit_items circuit.now)) t.errors) }
     ensures table { IfOk result (IsErrorTable n (circuit_items circuit.now)) }
     ensures steps { IfOk result (λ t. StepsInside (circuit_items circuit.now) t.errors) }
     ensures err { IfErr result (λ r. r ≡ OutOfMemory) }
 {
-    let whole = errors_asked(alloc, circuit, everywhere, letters, faults.len())?;
-    let deterministic = copied(alloc, faults.deterministic())?;
+    let whole = errors_asked(alloc, circuit, everywhere, letters, single_errors.len())?;
+    let deterministic = copied(alloc, single_errors.deterministic())?;
     let detectors = deterministic.len() - circuit.observables();
-    let errors = searched_errors(alloc, faults, whole, detectors, graphlike)?;
-    let table = rows_of(alloc, faults, errors.as_slice(), detectors)?;
+    let errors = searched_errors(alloc, single_errors, whole, detectors, graphlike)?;
+    let table = rows_of(alloc, single_errors, errors.as_slice(), detectors)?;
     steps_fit(circuit, n);
     deterministic_parities();
-    faults_flip_parities();
-    faults_add();
+    single_errors_flip_parities();
+    single_errors_add();
     Ok(ErrorTable {
         deterministic,
         errors,
@@ -239,6 +241,15 @@ pub fn errors(
     ensures refused { Refuses result (check_within n (circuit_items circuit.now)) }
 {
     circuit.check(n)?;
-    let faults = faults(alloc, circuit, n, everywhere)?;
-    table_of(alloc, circuit, n, everywhere, letters, graphlike, &faults).map_err(Fault::whole)
+    let single_errors = single_errors(alloc, circuit, n, everywhere)?;
+    table_of(
+        alloc,
+        circuit,
+        n,
+        everywhere,
+        letters,
+        graphlike,
+        &single_errors,
+    )
+    .map_err(Fault::whole)
 }

@@ -2,7 +2,9 @@
 
 ghost use Rattle.stab_error_model.specs.EverywhereLaws.{LettersAreErrors, StringsAreErrors, WrongRecordsAreInverted};
 
-use stab_regions::fault_laws::{deterministic_parities, faults_add, faults_flip_parities};
+use stab_regions::single_error_laws::{
+    deterministic_parities, single_errors_add, single_errors_flip_parities,
+};
 
 /// If a record of `M`, `MR` or `MPP` goes wrong by itself, each detector and observable that is the same for
 /// all random bits is what it is with one more `!` at that record, also if later gates are controlled by it.
@@ -10,8 +12,8 @@ pub fn wrong_records_are_inverted()
     ensures law { WrongRecordsAreInverted }
 {
     deterministic_parities();
-    faults_flip_parities();
-    faults_add();
+    single_errors_flip_parities();
+    single_errors_add();
 }
 
 /// The errors everywhere leave no Pauli out: letters at any sites, such as a Pauli string between two steps, flip what
@@ -22,6 +24,6 @@ pub fn everywhere_is_everywhere()
     ensures strings { StringsAreErrors }
 {
     deterministic_parities();
-    faults_flip_parities();
-    faults_add();
+    single_errors_flip_parities();
+    single_errors_add();
 }

@@ -9,7 +9,7 @@
 //! - `tags`, `marks`, `marked`: the errors that a circuit marks.
 //! - `doubts`: marks that may be meant in another way.
 //! - `everywhere`: the errors at each step.
-//! - `rows`: what an error flips, by the table of faults.
+//! - `rows`: what an error flips, by the table of single errors.
 //! - `parts`: the parts of errors that flip more than two detectors.
 //! - `error_table`: the errors of a circuit, and their table.
 //! - `observed`: the table in which one observable alone counts.
@@ -22,7 +22,7 @@
 //!
 //! Proved: the errors are those of `specs/Errors.antt`, in order, split as `specs/Parts.antt` says if graph-like
 //! ones are asked for. Each one's row names exactly the bits that are the same whatever the coins and that the
-//! run with all of its faults put in has otherwise, whatever the coins (`specs/ErrorTables.antt`). Least sets are
+//! run with all of its single errors put in has otherwise, whatever the coins (`specs/ErrorTables.antt`). Least sets are
 //! unseen by runs, and no smaller ones are (`specs/Unseen.antt`). A record wrong by itself is one more `!`, and errors
 //! everywhere leave no Pauli out (`specs/EverywhereLaws.antt`).
 #![tactic(auto)]
@@ -47,5 +47,3 @@ pub use doubts::{Doubt, DoubtfulMark, doubtful_marks};
 pub use error_table::{ErrorTable, errors};
 pub use placed::{Error, PlacedLetter};
 pub use search::{count_distance, distance, graphlike_distance};
-pub use stab_jobs::ErrorLetters;
-pub use stab_search::{Answer, Progress, Unwatched};

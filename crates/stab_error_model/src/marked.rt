@@ -2,21 +2,22 @@
 ghost use Rattle.std.specs.Prelude.{◌≡◌, ◌≤◌, ◌<◌, ◌+◌, ◌*◌, ◌^◌, None, false, All, length, map, OnOk, IfOk, IfErr};
 ghost use Rattle.std.specs.List.{flat_map};
 ghost use Rattle.stab_io.specs.declared.refusal.Refusal.TheVariants.{OutOfMemory};
-ghost use Rattle.stab_circuit.specs.Steps.{check_of, most_steps, unroll};
+ghost use Rattle.stab_items.specs.Steps.{check_of, most_steps, unroll};
 ghost use Rattle.stab_items.specs.Views.{circuit_items};
-ghost use Rattle.stab_regions.specs.Faults.{faults_of};
+ghost use Rattle.stab_regions.specs.SingleErrors.{single_errors_of};
 ghost use Rattle.stab_error_model.specs.Errors.{each_target, each_two_targets, errors_marked, instructions, marks_from};
 ghost use Rattle.stab_error_model.specs.Placed.{error_shown};
-ghost use Rattle.stab_error_model.specs.inner.Adding.{Adds, ErrorStands, HasFrom};
-ghost use Rattle.stab_error_model.specs.inner.Marked.{marks_shown, target_faults, marked_faults};
+ghost use Rattle.stab_error_model.specs.inner.ErrorLists.{AddsErrors, ErrorStands, HasFrom};
+ghost use Rattle.stab_error_model.specs.inner.Marked.{marks_shown, target_single_errors, marked_single_errors};
 
 use crate::error_lists::{add_letters, add_products};
 use crate::letters::letters_asked;
 use crate::marks::{Marks, mark_items};
-use crate::placed::{Error, Place};
+use crate::placed::{Error, ErrorSite};
 use crate::tags::{is_pairs, letters_left};
-use stab_circuit::{Circuit, Qubit};
+use stab_circuit::Circuit;
 use stab_gates::Letter;
+use stab_instructions::Qubit;
 use stab_io::Refusal;
 use stab_jobs::ErrorLetters;
 use std::alloc::{AllocError, Global};
@@ -31,10 +32,10 @@ fn add_targets(
 ) -> Result<(), AllocError>
     requires few { step + length qubits.now ≤ most_steps }
     requires few_rows { row + 2 * length qubits.now < 2 ^ 64 }
-    ensures adds { OnOk result (Adds (HasFrom row (target_faults step qubits.now)) (each_target letters.now step qubits.now) errors.old.items errors.new.items) }
+    ensures adds { OnOk result (AddsErrors (HasFrom row (target_single_errors step qubits.now)) (each_target letters.now step qubits.now) errors.old.items errors.new.items) }
 {
     'targets: for k in 0..qubits.len() {
-        let site = Place::in_front(qubits[k].number(), step + k, row + 2 * k);
+        let site = ErrorSite::in_front(qubits[k].number(), step + k, row + 2 * k);
         add_letters(errors, letters, site)?;
     }
     Ok(())
@@ -50,16 +51,16 @@ fn add_pairs(
 ) -> Result<(), AllocError>
     requires few { step + length qubits.now ≤ most_steps }
     requires few_rows { row + 2 * length qubits.now < 2 ^ 64 }
-    ensures adds { OnOk result (Adds (HasFrom row (target_faults step qubits.now)) (each_two_targets letters step qubits.now) errors.old.items errors.new.items) }
+    ensures adds { OnOk result (AddsErrors (HasFrom row (target_single_errors step qubits.now)) (each_two_targets letters step qubits.now) errors.old.items errors.new.items) }
 {
     let mut k = 0;
     'pairs: while k < qubits.len() {
-        let first = Place::in_front(qubits[k].number(), step + k, row + 2 * k);
+        let first = ErrorSite::in_front(qubits[k].number(), step + k, row + 2 * k);
         if k + 1 == qubits.len() {
             add_letters(errors, letters_asked(letters), first)?;
             return Ok(());
         }
-        let second = Place::in_front(qubits[k + 1].number(), step + k + 1, row + 2 * k + 2);
+        let second = ErrorSite::in_front(qubits[k + 1].number(), step + k + 1, row + 2 * k + 2);
         add_products(errors, letters, first, second)?;
         k += 2;
     }
@@ -75,7 +76,7 @@ fn add_marked(
 ) -> Result<(), AllocError>
     requires few { marks.step + length marks.qubits.now ≤ most_steps }
     requires few_rows { row + 2 * length marks.qubits.now < 2 ^ 64 }
-    ensures adds { OnOk result (Adds (HasFrom row (marked_faults (marks_shown marks.entry))) (errors_marked letters (marks_shown marks.entry)) errors.old.items errors.new.items) }
+    ensures adds { OnOk result (AddsErrors (HasFrom row (marked_single_errors (marks_shown marks.entry))) (errors_marked letters (marks_shown marks.entry)) errors.old.items errors.new.items) }
 {
     if is_pairs(marks.tag) {
         add_pairs(errors, letters, marks.qubits, marks.step, row)
@@ -85,17 +86,17 @@ fn add_marked(
     }
 }
 
-/// The errors that a circuit marks, of which this many faults are in the table.
+/// The errors that a circuit marks, of which this many single errors are in the table.
 pub(crate) fn errors_marked(
     alloc: Global,
     circuit: &Circuit,
     letters: ErrorLetters,
-    faults: usize,
+    single_errors: usize,
 ) -> Result<Vec<Error>, Refusal>
     requires checked { check_of (circuit_items circuit.now) ≡ None }
-    requires faults { faults ≡ length (faults_of false (unroll (circuit_items circuit.now))) }
+    requires single_errors { single_errors ≡ length (single_errors_of false (unroll (circuit_items circuit.now))) }
     ensures errors { IfOk result (λ v. map error_shown v.items ≡ flat_map (errors_marked letters) (marks_from 0 (instructions (circuit_items circuit.now)))) }
-    ensures stand { IfOk result (λ v. All (ErrorStands (faults_of false (unroll (circuit_items circuit.now)))) v.items) }
+    ensures stand { IfOk result (λ v. All (ErrorStands (single_errors_of false (unroll (circuit_items circuit.now)))) v.items) }
     ensures err { IfErr result (λ r. r ≡ OutOfMemory) }
 {
     let mut all = Vec::new(alloc);

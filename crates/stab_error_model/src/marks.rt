@@ -1,13 +1,13 @@
 //! The instructions of a circuit that mark sites for errors, in the order in which they are carried out.
 ghost use Rattle.std.specs.Prelude.{◌≡◌, ◌≤◌, ◌+◌, ◌*◌, ◌++◌, [], map, length, OnOk, IfOk};
 ghost use Rattle.stab_items.specs.Items.{before, done, listed};
-ghost use Rattle.stab_circuit.specs.Steps.{unroll, steps_of, most_steps};
+ghost use Rattle.stab_items.specs.Steps.{unroll, steps_of, most_steps};
 ghost use Rattle.stab_error_model.specs.Errors.{instruction_rounds, instructions, is_idle, marks_by, marks_from, marks_of};
 ghost use Rattle.stab_error_model.specs.inner.Marked.{marks_shown};
 
-use stab_circuit::{Item, Qubit};
+use stab_circuit::Item;
 use stab_gates::Gate;
-use stab_instructions::Kind;
+use stab_instructions::{Kind, Qubit};
 use stab_items::Part;
 use std::alloc::AllocError;
 

@@ -3,7 +3,7 @@ ghost use Rattle.std.specs.Prelude.{◌≡◌, ◌<◌, [], ◌∷◌, ◌++◌,
 ghost use Rattle.stab_io.specs.declared.refusal.Refusal.TheVariants.{OutOfMemory};
 ghost use Rattle.stab_search.specs.Ascending.{IsAscending};
 ghost use Rattle.stab_search.specs.Tables.{row};
-ghost use Rattle.stab_error_model.specs.inner.Observed.{is_kept, kept_row, with_observable};
+ghost use Rattle.stab_error_model.specs.inner.Observed.{is_searched_number, kept_row, with_observable};
 
 use crate::rows::copied;
 use stab_io::Refusal;
@@ -11,8 +11,8 @@ use stab_search::Table;
 use std::alloc::{AllocError, Global};
 
 /// Whether a number is that of a detector, or of this observable.
-fn is_kept(detectors: usize, observable: usize, number: u32) -> bool
-    ensures value { result ≡ is_kept detectors observable number }
+fn is_searched_number(detectors: usize, observable: usize, number: u32) -> bool
+    ensures value { result ≡ is_searched_number detectors observable number }
 {
     let number = number as usize;
     number < detectors || number - detectors == observable
@@ -30,7 +30,7 @@ fn kept_row(
     ensures ascending { IfOk result (λ v. IsAscending v.items) }
 {
     let mut numbers = copied(alloc, row)?;
-    numbers.retain(|number| is_kept(detectors, observable, *number));
+    numbers.retain(|number| is_searched_number(detectors, observable, *number));
     Ok(numbers)
 }
 

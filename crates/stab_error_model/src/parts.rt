@@ -1,9 +1,9 @@
 //! Errors that flip more than two detectors, and the parts that replace them.
 ghost use Rattle.std.specs.Prelude.{◌≡◌, List, [], ◌∷◌, ◌++◌, IfOk, OnOk};
 ghost use Rattle.stab_error_model.specs.declared.placed.Error.{Error as ErrorValue};
-ghost use Rattle.stab_error_model.specs.Placed.{error_shown, fault_shown};
-ghost use Rattle.stab_error_model.specs.Parts.{fault_parts, letter_parts, parts_of};
-ghost use Rattle.stab_error_model.specs.inner.Adding.{Adds, ErrorStands, Stands};
+ghost use Rattle.stab_error_model.specs.Placed.{error_shown, single_error_shown};
+ghost use Rattle.stab_error_model.specs.Parts.{single_error_parts, letter_parts, parts_of_error};
+ghost use Rattle.stab_error_model.specs.inner.ErrorLists.{AddsErrors, ErrorStands, Stands};
 ghost use Rattle.stab_error_model.specs.inner.ErrorRows.{RowsAscend};
 ghost use Rattle.stab_error_model.specs.inner.RowParts.{AreSplitByRows};
 
@@ -11,7 +11,7 @@ use crate::error_lists::{add_error, add_letters};
 use crate::placed::{Error, PlacedLetter};
 use crate::rows::error_row;
 use stab_gates::Letter;
-use stab_regions::FaultTable;
+use stab_regions::SingleErrorTable;
 use stab_search::is_graphlike;
 use std::alloc::{AllocError, Global};
 
@@ -29,7 +29,7 @@ fn letter_parts(letter: Letter) -> &'static [Letter]
 
 /// Adds the X and the Z of a letter, at its site.
 fn add_letter_parts(errors: &mut Vec<Error>, placed: PlacedLetter) -> Result<(), AllocError>
-    ensures adds { OnOk result (Adds (Stands placed.site) (fault_parts (fault_shown placed)) errors.old.items errors.new.items) }
+    ensures adds { OnOk result (AddsErrors (Stands placed.site) (single_error_parts (single_error_shown placed)) errors.old.items errors.new.items) }
 {
     add_letters(errors, letter_parts(placed.letter), placed.site)?;
     Ok(())
@@ -37,7 +37,7 @@ fn add_letter_parts(errors: &mut Vec<Error>, placed: PlacedLetter) -> Result<(),
 
 /// Adds the parts of an error.
 fn add_parts(errors: &mut Vec<Error>, error: Error) -> Result<(), AllocError>
-    ensures adds { OnOk result (Adds (λ faults. ErrorStands faults error) (parts_of (error_shown error)) errors.old.items errors.new.items) }
+    ensures adds { OnOk result (AddsErrors (λ single_errors. ErrorStands single_errors error) (parts_of_error (error_shown error)) errors.old.items errors.new.items) }
 {
     match error {
         Error::Letter(placed) => {
@@ -57,14 +57,14 @@ fn add_parts(errors: &mut Vec<Error>, error: Error) -> Result<(), AllocError>
 fn add_split(
     alloc: Global,
     errors: &mut Vec<Error>,
-    faults: &FaultTable,
+    single_errors: &SingleErrorTable,
     detectors: usize,
     error: Error,
 ) -> Result<(), AllocError>
-    requires ascend { RowsAscend faults.now.rows }
-    ensures split { OnOk result ((whole : List ErrorValue) → AreSplitByRows faults.now.rows detectors whole errors.old.items → AreSplitByRows faults.now.rows detectors (whole ++ error ∷ []) errors.new.items) }
+    requires ascend { RowsAscend single_errors.now.rows }
+    ensures split { OnOk result ((whole : List ErrorValue) → AreSplitByRows single_errors.now.rows detectors whole errors.old.items → AreSplitByRows single_errors.now.rows detectors (whole ++ error ∷ []) errors.new.items) }
 {
-    let row = error_row(alloc, faults, error)?;
+    let row = error_row(alloc, single_errors, error)?;
     if is_graphlike(row.as_slice(), detectors) {
         add_error(errors, error)?;
         return Ok(());
@@ -76,16 +76,16 @@ fn add_split(
 /// The errors that flip at most two detectors, and the parts of the others.
 pub(crate) fn split_errors(
     alloc: Global,
-    faults: &FaultTable,
+    single_errors: &SingleErrorTable,
     whole: &[Error],
     detectors: usize,
 ) -> Result<Vec<Error>, AllocError>
-    requires ascend { RowsAscend faults.now.rows }
-    ensures split { IfOk result (λ v. AreSplitByRows faults.now.rows detectors whole.now v.items) }
+    requires ascend { RowsAscend single_errors.now.rows }
+    ensures split { IfOk result (λ v. AreSplitByRows single_errors.now.rows detectors whole.now v.items) }
 {
     let mut errors = Vec::new(alloc);
     'errors: for error in whole {
-        add_split(alloc, &mut errors, faults, detectors, *error)?;
+        add_split(alloc, &mut errors, single_errors, detectors, *error)?;
     }
     Ok(errors)
 }

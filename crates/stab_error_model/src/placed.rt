@@ -1,21 +1,21 @@
 //! Letters at sites between steps, and errors of them.
 ghost use Rattle.std.specs.Prelude.{◌≡◌, List};
-ghost use Rattle.stab_regions.specs.Faults.{FaultPlace};
-ghost use Rattle.stab_error_model.specs.inner.Adding.{ErrorStands, Stands};
-ghost use Rattle.stab_error_model.specs.Placed.{error_shown, fault_shown, fault_of_letter};
+ghost use Rattle.stab_regions.specs.SingleErrors.{SingleError};
+ghost use Rattle.stab_error_model.specs.inner.ErrorLists.{ErrorStands, Stands};
+ghost use Rattle.stab_error_model.specs.Placed.{error_shown, single_error_shown, single_error_of_letter};
 ghost use Rattle.stab_error_model.specs.Errors.{product_at};
 
 use stab_gates::Letter;
 
 /// A site for errors: a qubit in front of a step or after it.
 #[derive(Clone, Copy)]
-pub(crate) struct Place {
+pub(crate) struct ErrorSite {
     pub qubit: usize,
     /// How many steps are in front of it.
     pub before: usize,
     /// The number of its step.
     pub step: usize,
-    /// The row of X there, in the circuit's table of faults. That of Z is the next one.
+    /// The row of X there, in the circuit's table of single errors. That of Z is the next one.
     pub row: usize,
 }
 
@@ -23,7 +23,7 @@ pub(crate) struct Place {
 #[derive(Clone, Copy)]
 pub struct PlacedLetter {
     pub letter: Letter,
-    pub(crate) site: Place,
+    pub(crate) site: ErrorSite,
 }
 
 /// What goes wrong at once.
@@ -44,12 +44,12 @@ pub enum Error {
 
 impl Error {
     ghost use Rattle.std.specs.Prelude.{◌≡◌};
-    ghost use Rattle.stab_error_model.specs.Errors.{first_fault};
-    ghost use Rattle.stab_error_model.specs.Placed.{error_shown, fault_shown};
+    ghost use Rattle.stab_error_model.specs.Errors.{first_single_error};
+    ghost use Rattle.stab_error_model.specs.Placed.{error_shown, single_error_shown};
 
     /// The first of its letters.
     pub fn first(self) -> PlacedLetter
-        ensures value { fault_shown result ≡ first_fault (error_shown self) }
+        ensures value { single_error_shown result ≡ first_single_error (error_shown self) }
     {
         match self {
             Error::Letter(first) => first,
@@ -61,43 +61,43 @@ impl Error {
 
 impl PlacedLetter {
     ghost use Rattle.std.specs.Prelude.{◌≡◌};
-    ghost use Rattle.stab_error_model.specs.Placed.{fault_shown};
+    ghost use Rattle.stab_error_model.specs.Placed.{single_error_shown};
 
     /// The qubit that it is on.
     pub fn qubit(self) -> usize
-        ensures value { result ≡ (fault_shown self).qubit }
+        ensures value { result ≡ (single_error_shown self).qubit }
     {
         self.site.qubit
     }
 
     /// How many steps are in front of it.
     pub fn before(self) -> usize
-        ensures value { result ≡ (fault_shown self).before }
+        ensures value { result ≡ (single_error_shown self).before }
     {
         self.site.before
     }
 
     /// The number of the step that it is at.
     pub fn step(self) -> usize
-        ensures value { result ≡ (fault_shown self).step }
+        ensures value { result ≡ (single_error_shown self).step }
     {
         self.site.step
     }
 }
 
-impl Place {
+impl ErrorSite {
     ghost use Rattle.std.specs.Prelude.{◌≡◌, ◌≤◌};
     ghost use Rattle.stab_gates.specs.declared.letter.Letter.{Letter};
-    ghost use Rattle.stab_circuit.specs.Steps.{most_steps};
-    ghost use Rattle.stab_regions.specs.Faults.{fault_on, in_front as site_in_front, following as site_after};
-    ghost use Rattle.stab_error_model.specs.Placed.{fault_shown, fault_of_letter};
+    ghost use Rattle.stab_items.specs.Steps.{most_steps};
+    ghost use Rattle.stab_regions.specs.SingleErrors.{single_error_on, in_front as site_in_front, following as site_after};
+    ghost use Rattle.stab_error_model.specs.Placed.{single_error_shown, single_error_of_letter};
 
     /// A qubit in front of a step, with its row.
-    pub fn in_front(qubit: usize, step: usize, row: usize) -> Place
-        ensures value { (l : Letter) → fault_of_letter result l ≡ fault_on step (site_in_front qubit) l }
+    pub fn in_front(qubit: usize, step: usize, row: usize) -> ErrorSite
+        ensures value { (l : Letter) → single_error_of_letter result l ≡ single_error_on step (site_in_front qubit) l }
         ensures row { result.row ≡ row }
     {
-        Place {
+        ErrorSite {
             qubit,
             before: step,
             step,
@@ -106,12 +106,12 @@ impl Place {
     }
 
     /// A qubit after a step, with its row.
-    pub fn following(qubit: usize, step: usize, row: usize) -> Place
+    pub fn following(qubit: usize, step: usize, row: usize) -> ErrorSite
         requires few { step ≤ most_steps }
-        ensures value { (l : Letter) → fault_of_letter result l ≡ fault_on step (site_after qubit) l }
+        ensures value { (l : Letter) → single_error_of_letter result l ≡ single_error_on step (site_after qubit) l }
         ensures row { result.row ≡ row }
     {
-        Place {
+        ErrorSite {
             qubit,
             before: step + 1,
             step,
@@ -128,9 +128,9 @@ impl Place {
 }
 
 /// The error of a product at two sites, in which I is no letter.
-pub(crate) fn product_at(first: Place, second: Place, pair: (Letter, Letter)) -> Error
-    ensures value { error_shown result ≡ product_at (fault_of_letter first) (fault_of_letter second) pair.0 pair.1 }
-    ensures stands { (faults : List FaultPlace) → Stands first faults → Stands second faults → ErrorStands faults result }
+pub(crate) fn product_at(first: ErrorSite, second: ErrorSite, pair: (Letter, Letter)) -> Error
+    ensures value { error_shown result ≡ product_at (single_error_of_letter first) (single_error_of_letter second) pair.0 pair.1 }
+    ensures stands { (single_errors : List SingleError) → Stands first single_errors → Stands second single_errors → ErrorStands single_errors result }
 {
     match pair {
         (Letter::I, letter) => Error::Letter(second.with(letter)),

@@ -1,19 +1,18 @@
-//! What an error flips, by the table of faults.
+//! What an error flips, by the table of single errors.
 ghost use Rattle.std.specs.Prelude.{◌≡◌, ℕ, ◌+◌, IfOk};
 ghost use Rattle.stab_gates.specs.Letters.{◌⊕◌};
-ghost use Rattle.stab_regions.specs.Rows.{row};
+ghost use Rattle.stab_search.specs.Tables.{row, odd};
 ghost use Rattle.stab_search.specs.Ascending.{IsAscending};
-ghost use Rattle.stab_search.specs.Tables.{odd};
-ghost use Rattle.stab_error_model.specs.inner.ErrorRows.{RowsAscend, letter_names, error_names};
+ghost use Rattle.stab_error_model.specs.inner.ErrorRows.{RowsAscend, letter_flips, error_names};
 
-use crate::placed::{Error, Place, PlacedLetter};
+use crate::placed::{Error, ErrorSite, PlacedLetter};
 use stab_gates::Letter;
-use stab_regions::FaultTable;
+use stab_regions::SingleErrorTable;
 use stab_search::merge_into;
 use std::alloc::{AllocError, Global};
 
-/// A row of the table of faults, empty beyond the end.
-fn row_at(table: &FaultTable, number: usize) -> &[u32]
+/// A row of the table of single errors, empty beyond the end.
+fn row_at(table: &SingleErrorTable, number: usize) -> &[u32]
     ensures value { result.now ≡ row table.now.rows number }
 {
     if number < table.len() {
@@ -24,14 +23,14 @@ fn row_at(table: &FaultTable, number: usize) -> &[u32]
 }
 
 /// What X flips at a site.
-fn by_x(table: &FaultTable, site: Place) -> &[u32]
+fn by_x(table: &SingleErrorTable, site: ErrorSite) -> &[u32]
     ensures value { result.now ≡ row table.now.rows site.row }
 {
     row_at(table, site.row)
 }
 
 /// What Z flips at a site.
-fn by_z(table: &FaultTable, site: Place) -> &[u32]
+fn by_z(table: &SingleErrorTable, site: ErrorSite) -> &[u32]
     ensures value { result.now ≡ row table.now.rows (site.row + 1) }
 {
     if site.row < table.len() {
@@ -65,12 +64,12 @@ fn merged(alloc: Global, left: &[u32], right: &[u32]) -> Result<Vec<u32>, AllocE
 /// What a letter at a site flips.
 fn letter_row(
     alloc: Global,
-    table: &FaultTable,
+    table: &SingleErrorTable,
     placed: PlacedLetter,
 ) -> Result<Vec<u32>, AllocError>
     requires ascend { RowsAscend table.now.rows }
     ensures ascending { IfOk result (λ v. IsAscending v.items) }
-    ensures odd { IfOk result (λ v. (i : ℕ) → odd i v.items ≡ letter_names i table.now.rows placed) }
+    ensures odd { IfOk result (λ v. (i : ℕ) → odd i v.items ≡ letter_flips i table.now.rows placed) }
 {
     let site = placed.site;
     match placed.letter {
@@ -84,13 +83,13 @@ fn letter_row(
 /// What two letters at sites flip together.
 fn letters_row(
     alloc: Global,
-    table: &FaultTable,
+    table: &SingleErrorTable,
     first: PlacedLetter,
     second: PlacedLetter,
 ) -> Result<Vec<u32>, AllocError>
     requires ascend { RowsAscend table.now.rows }
     ensures ascending { IfOk result (λ v. IsAscending v.items) }
-    ensures odd { IfOk result (λ v. (i : ℕ) → odd i v.items ≡ letter_names i table.now.rows first ⊕ letter_names i table.now.rows second) }
+    ensures odd { IfOk result (λ v. (i : ℕ) → odd i v.items ≡ letter_flips i table.now.rows first ⊕ letter_flips i table.now.rows second) }
 {
     let by_first = letter_row(alloc, table, first)?;
     let by_second = letter_row(alloc, table, second)?;
@@ -100,7 +99,7 @@ fn letters_row(
 /// What an error flips.
 pub(crate) fn error_row(
     alloc: Global,
-    table: &FaultTable,
+    table: &SingleErrorTable,
     error: Error,
 ) -> Result<Vec<u32>, AllocError>
     requires ascend { RowsAscend table.now.rows }

@@ -1,10 +1,10 @@
 //! The least number of a circuit's errors that flip an observable and no detector.
 ghost use Rattle.std.specs.Prelude.{◌≡◌, ℕ, true, false, Option, IfOk, IfErr};
 ghost use Rattle.stab_io.specs.declared.refusal.Refusal.TheVariants.{OutOfMemory};
-ghost use Rattle.stab_circuit.specs.Items.{Items};
+ghost use Rattle.stab_items.specs.Items.{Items};
 ghost use Rattle.stab_error_model.specs.ErrorTables.{IsErrorTable};
 ghost use Rattle.stab_error_model.specs.Unseen.{IsDistance, IsSetCount, ReportsUnseen};
-ghost use Rattle.stab_search.specs.Counts.{HasNoneBelow, IsCount};
+ghost use Rattle.stab_search.specs.Counts.{HasNoneBelow, IsCountOfSets};
 ghost use Rattle.stab_error_model.specs.inner.Observed.{with_observable};
 
 use crate::error_table::ErrorTable;
@@ -77,7 +77,7 @@ fn count_sets(
     size: usize,
 ) -> Result<Option<u64>, Refusal>
     requires least { HasNoneBelow (with_observable observable errors.now.table) size }
-    ensures count { IfOk result (IsCount (with_observable observable errors.now.table) size) }
+    ensures count { IfOk result (IsCountOfSets (with_observable observable errors.now.table) size) }
     ensures err { IfErr result (λ r. r ≡ OutOfMemory) }
 {
     let table = errors.table();

@@ -1,10 +1,10 @@
 -- Edits that replace Pauli gates by others: the run of the edited circuit is the old one, flipped.
-use Rattle.stab_frames.proofs.Names.{◌≡◌, ℕ, ◌<◌, refl, ◌∙◌, ap, Bool, List, [], ◌∷◌, ◌++◌, map, All-nil, All-cons, All-head, All-tail, All-append, Letter, Step, one, gate_of, RunOutput, origin, nothing, joined, point_after, outputs, StepFits, lengths_of, Matches, flipped_output, unflipped, identity_frame, same_coins, changed, frame_over, flips_over, edit_frame, IsFlippedRun, FrontsFlip, FrontsGoOn, FrontsTakePaulis, PauliFronts, PauliEditsFlip, CoinsFlip, CheckpointsTakeFrames}
+use Rattle.stab_frames.proofs.Names.{◌≡◌, ℕ, ◌<◌, refl, ◌∙◌, ap, Bool, List, [], ◌∷◌, ◌++◌, map, All-nil, All-cons, All-head, All-tail, All-append, Letter, Step, one, gate_of, RunOutput, origin, nothing, joined, point_after, outputs, StepFits, lengths_of, Matches, flipped_output, unflipped, identity_frame, same_coins, coins_changed, frame_over, flips_over, edit_frame, IsFlippedRun, FrontsFlip, FrontsGoOn, FrontsTakePaulis, PauliFronts, PauliEditsFlip, CoinsFlip, CheckpointsTakeFrames}
 use Rattle.std.specs.Prelude.{All}
 use Rattle.stab_frames.proofs.FlipLemmas.{length-flipped, length-flipped_additions}
 use Rattle.stab_frames.proofs.StartLemmas.{by_frame-same}
 use Rattle.stab_frames.proofs.TableauLemmas.{conjugated-group}
-use Rattle.stab_frames.proofs.FrontLemmas.{fronts-outputs, fronts-matches, fronts-by_frame, paulis-front, paulis-given, paulis-match, gates-by_frame, gates-given, gates-match, records-flipped, flags-flipped, detectors-flipped, observables-flipped}
+use Rattle.stab_frames.proofs.TwoCircuitLemmas.{fronts-outputs, fronts-matches, fronts-by_frame, paulis-front, paulis-given, paulis-match, gates-by_frame, gates-given, gates-match, records-flipped, flags-flipped, detectors-flipped, observables-flipped}
 
 pub gates-fit : (n : ℕ) (l : Letter) (qs : List ℕ) → All (λ q. q < n) qs → All (StepFits n) (map (one (gate_of l)) qs)
 gates-fit n l [] fits = All-nil (StepFits n)
@@ -23,7 +23,7 @@ flipped-run n coins others xs ys flips given matches = record {
 
 pub fronts-flip : FrontsFlip
 fronts-flip n coins pivots us vs xs f flips fits later fronts enough = (
-  flipped-run n coins (changed coins pivots.changes) (us ++ xs) (vs ++ xs) (joined flips (flips_over n pivots xs (point_after n coins us origin).coin f))
+  flipped-run n coins (coins_changed coins pivots.changes) (us ++ xs) (vs ++ xs) (joined flips (flips_over n pivots xs (point_after n coins us origin).coin f))
       (fronts-outputs n coins pivots us vs xs f flips fits later fronts enough)
       (fronts-matches n coins pivots us vs xs f flips fits later fronts enough),
   fronts-by_frame n coins pivots us vs xs f flips fits later fronts enough,
@@ -80,7 +80,7 @@ same-lengths o flips = λ i. record {
 pub copies-conjugate : CheckpointsTakeFrames
 copies-conjugate n coins pivots us vs xs f flips fits later fronts enough t rows same = (
   conjugated-group n (frame_over n pivots xs (point_after n coins us origin).coin f) (point_after n coins (us ++ xs) origin)
-      (point_after n (changed coins pivots.changes) (vs ++ xs) origin) (fronts-by_frame n coins pivots us vs xs f flips fits later fronts enough) t rows same,
+      (point_after n (coins_changed coins pivots.changes) (vs ++ xs) origin) (fronts-by_frame n coins pivots us vs xs f flips fits later fronts enough) t rows same,
   ap lengths_of (fronts-outputs n coins pivots us vs xs f flips fits later fronts enough)
       ∙ same-lengths (outputs n coins (us ++ xs) origin) (joined flips (flips_over n pivots xs (point_after n coins us origin).coin f)),
 )

@@ -1,5 +1,5 @@
 -- Goes over: a frame over steps one after another, with what it has to know of their measurements.
-use Rattle.stab_frames.proofs.Names.{◌≡◌, ℕ, ◌+◌, ◌<◌, ◌≤◌, refl, sym, ◌∙◌, ap, subst, Bool, true, false, ◌&&◌, List, [], ◌∷◌, ◌++◌, length, take, map, get_or, All, arith, map_more, get_or-map, length-map, length-take-le, take-length, Letter, single, strings_anticommute, Gate, image, Axis, ControlledPair, Factor, MeasureTarget, Measurement, letter_of, Step, one, controlled, collapse, product, detector, controlled_step, measured, observable, looked_up, parity, string_of, flip_of, coins_of, all_coins_of, nothing, joined, StepFits, coins-measured, joined-nothing, coins-append, Frame, plus, times_where, RunPivots, pivots_of, frame_over, letters_after, flips_given, pivot_at, PropagationState, frame_at, IsPlaced, IsDrawn, AreDrawn, StepsWith, one_flipped, IsDetermined, AreDetermined, IsPropagated, GoesOver, GoesFreely, Goes}
+use Rattle.stab_frames.proofs.Names.{◌≡◌, ℕ, ◌+◌, ◌<◌, ◌≤◌, refl, sym, ◌∙◌, ap, subst, Bool, true, false, ◌&&◌, List, [], ◌∷◌, ◌++◌, length, take, map, get_or, All, arith, map_more, get_or-map, length-map, length-take-le, take-length, Letter, single, strings_anticommute, Gate, image, Axis, ControlledPair, Factor, MeasureTarget, Measurement, letter_of, Step, one, controlled, collapse, product, detector, controlled_step, measured, observable, looked_up, parity, string_of, flip_of, coins_of, all_coins_of, nothing, joined, StepFits, coins-measured, joined-nothing, coins-append, Frame, plus, times_where, RunPivots, pivots_of, frame_over, letters_after, flips_given, pivot_at, PropagationState, frame_at, IsPlaced, IsDrawn, AreDrawn, StepsWith, one_flipped, IsStepDetermined, AreDetermined, IsPropagated, GoesOver, GoesWithoutCoins, Goes}
 use Rattle.stab_instructions.specs.declared.control.ControlledPair.TheVariants as pair
 use Rattle.stab_frames.proofs.PropagatedLemmas.{over-none, over-step, over-append, determined-append}
 use Rattle.stab_frames.proofs.MeasuredPropagatedLemmas.{determined-unmeasured, determined-measured, passes-collapse, passes-product}
@@ -35,7 +35,7 @@ module _ (n : ℕ) (strings : List (List Letter)) (free : List Bool) (draw : ℕ
 
   pub goes-step : (x : Step) (old new : PropagationState)
       → ((changes : ℕ → Bool) → (0 < coins_of x → IsDrawn free draw changes old.coin) → StepsWith n (pivots_of (pivot_at strings free) changes) x old new)
-      → ((changes : ℕ → Bool) → (0 < coins_of x → IsDrawn free draw changes old.coin) → IsDetermined n strings free changes x old.coin old.letters)
+      → ((changes : ℕ → Bool) → (0 < coins_of x → IsDrawn free draw changes old.coin) → IsStepDetermined n strings free changes x old.coin old.letters)
       → new.coin ≡ old.coin + coins_of x → IsPlaced free new → length new.letters ≡ n → GoesOver n strings free draw (x ∷ []) old new
   goes-step x old new passes determined coin placed size = record {
     over = λ changes drawn. over-step n (pivots_of (pivot_at strings free) changes) x old new (passes changes drawn.0);
@@ -143,59 +143,59 @@ goes-measured n strings free draw how t u l q old new is el eq goes =
     (subst (λ k. GoesOver n strings free draw (collapse k q true u.inverted how.resets ∷ []) old new) el goes))
 
 -- a step that measures nothing and flips nothing that it gives
-pub freely-letters : (n : ℕ) (x : Step) (old new : PropagationState) (letters : List Letter) → new ≡ record old { letters = letters } → length new.letters ≡ n
+pub no_coins-letters : (n : ℕ) (x : Step) (old new : PropagationState) (letters : List Letter) → new ≡ record old { letters = letters } → length new.letters ≡ n
     → ((pivots : RunPivots) → letters ≡ letters_after n pivots x old.coin (frame_at 0 old)) → ((pivots : RunPivots) → flips_given n pivots x old.coin (frame_at 0 old) ≡ nothing)
-    → coins_of x ≡ 0 → GoesFreely n (x ∷ []) old new
-freely-letters n x old new letters e size el ef ec = λ strings free draw placed.
+    → coins_of x ≡ 0 → GoesWithoutCoins n (x ∷ []) old new
+no_coins-letters n x old new letters e size el ef ec = λ strings free draw placed.
     goes-unmeasured n strings free draw x old new ec (λ pivots. ap (λ (w : PropagationState). w.letters) e ∙ el pivots)
     (λ pivots. ap (λ (w : PropagationState). w.flips) e ∙ sym (joined-nothing old.flips) ∙ ap (joined old.flips) (sym (ef pivots)))
     (ap (λ (w : PropagationState). w.coin) e) (subst (IsPlaced free) (sym e) placed) size
 
-pub freely-gate : (n : ℕ) (g : Gate) (q r : ℕ) (old new : PropagationState) → q ≡ r → new ≡ record old { letters = (image g q (plus old.letters)).letters }
-    → length new.letters ≡ n → GoesFreely n (one g r ∷ []) old new
-freely-gate n g q r old new same e size =
-    subst (λ k. GoesFreely n (one g k ∷ []) old new) same
-    (freely-letters n (one g q) old new (image g q (plus old.letters)).letters e size (λ pivots. refl) (λ pivots. refl) refl)
+pub no_coins-gate : (n : ℕ) (g : Gate) (q r : ℕ) (old new : PropagationState) → q ≡ r → new ≡ record old { letters = (image g q (plus old.letters)).letters }
+    → length new.letters ≡ n → GoesWithoutCoins n (one g r ∷ []) old new
+no_coins-gate n g q r old new same e size =
+    subst (λ k. GoesWithoutCoins n (one g k ∷ []) old new) same
+    (no_coins-letters n (one g q) old new (image g q (plus old.letters)).letters e size (λ pivots. refl) (λ pivots. refl) refl)
 
-pub freely-controlled : (n : ℕ) (axis : Axis) (p : ControlledPair) (k q : ℕ) (l : Letter) (j r : ℕ) (old new : PropagationState) → p ≡ pair.Record q k → l ≡ letter_of axis → j ≡ k → r ≡ q
+pub no_coins-controlled : (n : ℕ) (axis : Axis) (p : ControlledPair) (k q : ℕ) (l : Letter) (j r : ℕ) (old new : PropagationState) → p ≡ pair.Record q k → l ≡ letter_of axis → j ≡ k → r ≡ q
     → new ≡ record old { letters = times_where (looked_up old.flips.records j) (single (length old.letters) r l).letters old.letters }
-    → length old.letters ≡ n → length new.letters ≡ n → GoesFreely n (controlled_step axis p ∷ []) old new
-freely-controlled n axis p k q l j r old new is el ej er e size size_new =
-    subst (λ x. GoesFreely n (controlled_step axis x ∷ []) old new) (sym is)
-    (freely-letters n (controlled (letter_of axis) k q) old new (times_where (looked_up old.flips.records k) (single n q (letter_of axis)).letters old.letters)
+    → length old.letters ≡ n → length new.letters ≡ n → GoesWithoutCoins n (controlled_step axis p ∷ []) old new
+no_coins-controlled n axis p k q l j r old new is el ej er e size size_new =
+    subst (λ x. GoesWithoutCoins n (controlled_step axis x ∷ []) old new) (sym is)
+    (no_coins-letters n (controlled (letter_of axis) k q) old new (times_where (looked_up old.flips.records k) (single n q (letter_of axis)).letters old.letters)
     (e ∙ (λ i. record old { letters = times_where (looked_up old.flips.records (ej i)) (single (size i) (er i) (el i)).letters old.letters }))
     size_new (λ pivots. refl) (λ pivots. refl) refl)
 
 -- a detector, which measures nothing
-pub freely-detector : (n : ℕ) (ks : List ℕ) (old new : PropagationState) → new ≡ record old { flips = joined old.flips (record nothing { detectors = parity old.flips.records ks ∷ [] }) }
-    → length new.letters ≡ n → GoesFreely n (detector ks ∷ []) old new
-freely-detector n ks old new e size = λ strings free draw placed.
+pub no_coins-detector : (n : ℕ) (ks : List ℕ) (old new : PropagationState) → new ≡ record old { flips = joined old.flips (record nothing { detectors = parity old.flips.records ks ∷ [] }) }
+    → length new.letters ≡ n → GoesWithoutCoins n (detector ks ∷ []) old new
+no_coins-detector n ks old new e size = λ strings free draw placed.
     goes-unmeasured n strings free draw (detector ks) old new refl (λ pivots. ap (λ (w : PropagationState). w.letters) e) (λ pivots. ap (λ (w : PropagationState). w.flips) e)
     (ap (λ (w : PropagationState). w.coin) e) (subst (IsPlaced free) (sym e) placed) size
 
 -- an addition to an observable, which measures nothing either
-pub freely-observable : (n j : ℕ) (ks : List ℕ) (old new : PropagationState)
+pub no_coins-observable : (n j : ℕ) (ks : List ℕ) (old new : PropagationState)
     → new ≡ record old { flips = joined old.flips (record nothing { additions = record { observable = j; bit = parity old.flips.records ks } ∷ [] }) }
-    → length new.letters ≡ n → GoesFreely n (observable j ks ∷ []) old new
-freely-observable n j ks old new e size = λ strings free draw placed.
+    → length new.letters ≡ n → GoesWithoutCoins n (observable j ks ∷ []) old new
+no_coins-observable n j ks old new e size = λ strings free draw placed.
     goes-unmeasured n strings free draw (observable j ks) old new refl (λ pivots. ap (λ (w : PropagationState). w.letters) e) (λ pivots. ap (λ (w : PropagationState). w.flips) e)
     (ap (λ (w : PropagationState). w.coin) e) (subst (IsPlaced free) (sym e) placed) size
 
 -- steps that need no strings, one after another
 
-pub freely-none : (n : ℕ) (w : PropagationState) → length w.letters ≡ n → GoesFreely n [] w w
-freely-none n w size = λ strings free draw placed. goes-none n strings free draw w placed size
+pub no_coins-none : (n : ℕ) (w : PropagationState) → length w.letters ≡ n → GoesWithoutCoins n [] w w
+no_coins-none n w size = λ strings free draw placed. goes-none n strings free draw w placed size
 
-pub freely-further : {X : Type 0} (n m : ℕ) (f : X → Step) (xs : List X) (i : ℕ) (d : X) (old now new : PropagationState)
-    → i < length xs → GoesFreely n (map f (take i xs)) old now → m ≡ n → GoesFreely m (f (get_or xs i d) ∷ []) now new → GoesFreely n (map f (take (i + 1) xs)) old new
-freely-further n m f xs i d old now new lt front same next = λ strings free draw placed.
+pub no_coins-further : {X : Type 0} (n m : ℕ) (f : X → Step) (xs : List X) (i : ℕ) (d : X) (old now new : PropagationState)
+    → i < length xs → GoesWithoutCoins n (map f (take i xs)) old now → m ≡ n → GoesWithoutCoins m (f (get_or xs i d) ∷ []) now new → GoesWithoutCoins n (map f (take (i + 1) xs)) old new
+no_coins-further n m f xs i d old now new lt front same next = λ strings free draw placed.
     let here = front strings free draw placed in
     goes-further n strings free draw f xs i d old now new lt here
     (subst (λ k. GoesOver k strings free draw (f (get_or xs i d) ∷ []) now new) same (next strings free draw here.placed))
 
-pub freely-all : {X : Type 0} (n : ℕ) (f : X → Step) (xs : List X) (i : ℕ) (old new : PropagationState) → i ≡ length xs → GoesFreely n (map f (take i xs)) old new
-    → GoesFreely n (map f xs) old new
-freely-all n f xs i old new e goes = λ strings free draw placed. goes-all n strings free draw f xs i old new e (goes strings free draw placed)
+pub no_coins-all : {X : Type 0} (n : ℕ) (f : X → Step) (xs : List X) (i : ℕ) (old new : PropagationState) → i ≡ length xs → GoesWithoutCoins n (map f (take i xs)) old new
+    → GoesWithoutCoins n (map f xs) old new
+no_coins-all n f xs i old new e goes = λ strings free draw placed. goes-all n strings free draw f xs i old new e (goes strings free draw placed)
 
 -- steps of an instruction, all of them or a single one
 

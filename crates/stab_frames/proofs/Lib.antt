@@ -10,7 +10,7 @@ pub mod PropagatedCoinLemmas
 pub mod StartLemmas
 pub mod EndLemmas
 pub mod TableauLemmas
-pub mod FrontLemmas
+pub mod TwoCircuitLemmas
 pub mod EditLemmas
 pub mod SumLemmas
 pub mod WeightLemmas
@@ -20,7 +20,7 @@ pub mod TreatedLemmas
 pub mod AlikeLemmas
 pub mod TrueLemmas
 pub mod PivotAtLemmas
-pub mod FreeLemmas
+pub mod RandomLemmas
 pub mod PropagatedLemmas
 pub mod PropagationLemmas
 pub mod ProductLemmas
@@ -34,7 +34,7 @@ pub mod StepsPropagatedLemmas
 pub mod GoesOverLemmas
 pub mod TouchLemmas
 pub mod StillPropagationLemmas
-pub mod AgainLemmas
+pub mod RepeatedStepLemmas
 pub mod OtherCoinLemmas
 pub mod FlippedListLemmas
 pub mod PropagatedRepeatLemmas

@@ -1,21 +1,21 @@
 -- Measured tests: what a measurement answers and leaves by two tests that differ by the letters of a frame, with a pivot of it.
-use Rattle.stab_frames.proofs.Names.{◌≡◌, ℕ, refl, sym, ◌∙◌, ap, subst, Bool, true, false, not, ◌&&◌, ◌||◌, List, length, arith, Option, Some, None, if◌then◌else◌, Letter, ◌⊕◌, Signed, minus, with_sign, anticommute, strings_anticommute, string_product, strings_anticommute-product_right, length-string_product, outcome_by, is_free_by, projected_by, IsStabiliserGroup, IsConjugated, IsPivot, not-true, not_both, both_false, both_true, times_where, IsPivotOf, IsEnough, flipped_by, letters_by}
+use Rattle.stab_frames.proofs.Names.{◌≡◌, ℕ, refl, sym, ◌∙◌, ap, subst, Bool, true, false, not, ◌&&◌, ◌||◌, List, length, arith, Option, Some, None, if◌then◌else◌, Letter, ◌⊕◌, Signed, minus, with_sign, anticommute, strings_anticommute, string_product, strings_anticommute-product_right, length-string_product, outcome_by, is_random_by, projected_by, IsStabiliserGroup, IsConjugated, IsPivot, not-true, not_both, both_false, both_true, times_where, IsPivotOf, IsEnough, flipped_by, letters_by}
 use Rattle.stab_pauli.specs.Paulis.{product}
 use Rattle.stab_frames.proofs.SignLemmas.{sign-sign, sign-twice, product-sign_left, product-sign_right}
 use Rattle.stab_frames.proofs.PropagatedPointLemmas.{conjugated-over, conjugated-comm, conjugated-stabiliser}
 
 -- what is random stays random
-free-sides : (u v : Signed → Bool) (q : Signed) (x : Bool) → v q ≡ u (with_sign x q) → v (minus q) ≡ u (with_sign x (minus q)) → is_free_by v q ≡ is_free_by u q
-free-sides u v q false e g = λ i. not (e i) && not (g i)
-free-sides u v q true e g =
+random-sides : (u v : Signed → Bool) (q : Signed) (x : Bool) → v q ≡ u (with_sign x q) → v (minus q) ≡ u (with_sign x (minus q)) → is_random_by v q ≡ is_random_by u q
+random-sides u v q false e g = λ i. not (e i) && not (g i)
+random-sides u v q true e g =
     (λ i. not (e i) && not ((g ∙ ap u (sign-twice true q)) i)) ∙ swapped (u (minus q)) (u q)
   where
     swapped : (a b : Bool) → (not a && not b) ≡ (not b && not a)
     swapped a b = grind arith
 
-pub conjugated-free : (n : ℕ) (f : List Letter) (u v : Signed → Bool) → IsConjugated n f u v → (q : Signed) → length q.letters ≡ n
-    → is_free_by v q ≡ is_free_by u q
-conjugated-free n f u v h q l = free-sides u v q (strings_anticommute f q.letters) (h q l) (h (minus q) l)
+pub conjugated-random : (n : ℕ) (f : List Letter) (u v : Signed → Bool) → IsConjugated n f u v → (q : Signed) → length q.letters ≡ n
+    → is_random_by v q ≡ is_random_by u q
+conjugated-random n f u v h q l = random-sides u v q (strings_anticommute f q.letters) (h q l) (h (minus q) l)
 
 -- on the other coin each outcome is flipped, fixed or random, if the letters anticommute with what is measured
 
@@ -71,9 +71,9 @@ conjugated-pivoted n f s u v h group q lq e o =
     (conjugated-projected n f u v h q lq (not o)))
 
 -- if there is a pivot, the outcome is random
-pub pivoted-free : (n : ℕ) (u : Signed → Bool) → IsStabiliserGroup n u → (q : Signed) → length q.letters ≡ n → (s : List Letter) → IsPivot n u q s
-    → is_free_by u q ≡ true
-pivoted-free n u group q lq s e = λ i. not (out q lq e.anticommutes i) && not (out (minus q) lq e.anticommutes i)
+pub pivoted-random : (n : ℕ) (u : Signed → Bool) → IsStabiliserGroup n u → (q : Signed) → length q.letters ≡ n → (s : List Letter) → IsPivot n u q s
+    → is_random_by u q ≡ true
+pivoted-random n u group q lq s e = λ i. not (out q lq e.anticommutes i) && not (out (minus q) lq e.anticommutes i)
   where
     out : (r : Signed) → length r.letters ≡ n → strings_anticommute s r.letters ≡ true → u r ≡ false
     out r lr distinct = not-true (u r) (λ m. not_both _ (group.commuting (record { negative = e.negative; letters = s }) r e.size lr e.stabilises m) distinct)
@@ -98,13 +98,13 @@ module _ (n : ℕ) (f : List Letter) (u v : Signed → Bool) (h : IsConjugated n
       ∙ opposite (u q) (u (minus q)) coin (group.one_sign q lq)
 
   -- a random outcome is the coin in both
-  outcome-free : (s : List Letter) → IsPivot n u q s → (coin other : Bool) → (outcome_by u q coin ≡ coin) × (outcome_by v q other ≡ other)
-  outcome-free s e coin other =
-      let free : is_free_by u q ≡ true = pivoted-free n u group q lq s e in
-      (both_true (u q) (u (minus q)) coin free, both_true (v q) (v (minus q)) other (conjugated-free n f u v h q lq ∙ free))
+  outcome-random : (s : List Letter) → IsPivot n u q s → (coin other : Bool) → (outcome_by u q coin ≡ coin) × (outcome_by v q other ≡ other)
+  outcome-random s e coin other =
+      let free : is_random_by u q ≡ true = pivoted-random n u group q lq s e in
+      (both_true (u q) (u (minus q)) coin free, both_true (v q) (v (minus q)) other (conjugated-random n f u v h q lq ∙ free))
 
   -- and a fixed outcome depends on no coin
-  outcome-fixed : (coin other b : Bool) → strings_anticommute f q.letters ≡ b → is_free_by u q ≡ false → outcome_by v q other ≡ b ⊕ outcome_by u q coin
+  outcome-fixed : (coin other b : Bool) → strings_anticommute f q.letters ≡ b → is_random_by u q ≡ false → outcome_by v q other ≡ b ⊕ outcome_by u q coin
   outcome-fixed coin other false e fixed = outcome-commuting other e ∙ both_false (u q) (u (minus q)) other coin fixed
   outcome-fixed coin other true e fixed =
       ap (outcome_by v q) (sym (not-twice other))
@@ -120,7 +120,7 @@ module _ (n : ℕ) (f : List Letter) (u v : Signed → Bool) (h : IsConjugated n
       → outcome_by v q (change ⊕ coin) ≡ flipped_by pivot change q f ⊕ outcome_by u q coin
   outcome-has_pivots None change right coin = outcome-fixed coin (change ⊕ coin) (strings_anticommute f q.letters) refl right
   outcome-has_pivots (Some s) change right coin =
-      let free = outcome-free s right coin (change ⊕ coin) in
+      let free = outcome-random s right coin (change ⊕ coin) in
       free.1 ∙ ap (λ o. change ⊕ o) (sym free.0)
 
   outcome-enough : (pivot : Option (List Letter)) (change b : Bool) → strings_anticommute f q.letters ≡ b → (change ⊕ b ≡ true → IsPivotOf n u q pivot) → (coin : Bool)

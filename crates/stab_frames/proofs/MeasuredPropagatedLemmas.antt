@@ -1,7 +1,7 @@
 -- Measured passes: what a frame's way over one step, as programs go it, comes to.
-use Rattle.stab_frames.proofs.Names.{◌≡◌, ℕ, ◌+◌, ◌<◌, refl, sym, ◌∙◌, ap, subst, Bool, true, false, ◌&&◌, List, [], length, get_or, Option, Some, None, IfSome, beq, Letter, ◌⊕◌, Signed, single, string_product, strings_anticommute, Factor, Step, collapse, product, string_of, flip_of, measured_by, joined, coins_of, times_where, RunPivots, flipped_by, letters_by, pivot_at, PropagationState, IsPlaced, StepsWith, IsPropagated, IsPropagatedWith, IsDetermined, IsDeterminedBy, flip_by, letters_for, one_flipped}
+use Rattle.stab_frames.proofs.Names.{◌≡◌, ℕ, ◌+◌, ◌<◌, refl, sym, ◌∙◌, ap, subst, Bool, true, false, ◌&&◌, List, [], length, get_or, Option, Some, None, IfSome, beq, Letter, ◌⊕◌, Signed, single, string_product, strings_anticommute, Factor, Step, collapse, product, string_of, flip_of, measured_by, joined, coins_of, times_where, RunPivots, flipped_by, letters_by, pivot_at, PropagationState, IsPlaced, StepsWith, IsPropagated, IsPropagatedWith, IsStepDetermined, IsDeterminedBy, flip_by, letters_for, one_flipped}
 use Rattle.stab_frames.proofs.RunPivotLemmas.{unmeasured}
-use Rattle.stab_frames.proofs.FreeLemmas.{pivot-none, pivot-some, some-none}
+use Rattle.stab_frames.proofs.RandomLemmas.{pivot-none, pivot-some, some-none}
 
 -- measurements
 
@@ -94,11 +94,11 @@ passed-times strings free draw anticommuting flip old new e placed lt is differs
 -- at a step that measures nothing, and at one that measures something
 
 pub determined-unmeasured : (n : ℕ) (strings : List (List Letter)) (free : List Bool) (changes : ℕ → Bool) (x : Step) (coin : ℕ) (f : List Letter) → coins_of x ≡ 0
-    → IsDetermined n strings free changes x coin f
+    → IsStepDetermined n strings free changes x coin f
 determined-unmeasured n strings free changes x coin f e = unmeasured n (λ m. IsDeterminedBy strings free coin (changes coin) (strings_anticommute f m.letters)) x e
 
 pub determined-measured : (n : ℕ) (strings : List (List Letter)) (free : List Bool) (changes : ℕ → Bool) (x : Step) (m : Signed) (coin : ℕ) (anticommuting : Bool) (f : List Letter)
-    → measured_by n x ≡ Some m → strings_anticommute f m.letters ≡ anticommuting → IsDeterminedBy strings free coin (changes coin) anticommuting → IsDetermined n strings free changes x coin f
+    → measured_by n x ≡ Some m → strings_anticommute f m.letters ≡ anticommuting → IsDeterminedBy strings free coin (changes coin) anticommuting → IsStepDetermined n strings free changes x coin f
 determined-measured n strings free changes x m coin anticommuting f measured e determined =
     subst (λ o. IfSome o (λ q. IsDeterminedBy strings free coin (changes coin) (strings_anticommute f q.letters))) (sym measured)
     (subst (IsDeterminedBy strings free coin (changes coin)) (sym e) determined)

@@ -43,7 +43,7 @@ pub use Rattle.stab_run.proofs.ProductLemmas.{length-string_of}
 pub use Rattle.stab_run.proofs.RecordLemmas.{ones-append}
 pub use Rattle.stab_run.proofs.RunLemmas.{joined-nothing, after-append, outputs-append, joined-assoc, IsRun-none, IsRun-append}
 pub use Rattle.stab_run.proofs.SoundLemmas.{IsGood, good-next}
-pub use Rattle.stab_run.proofs.StateLemmas.{run-state, both_false, both_true, free-outcome}
+pub use Rattle.stab_run.proofs.StateLemmas.{run-state, both_false, both_true, random-outcome}
 pub use Rattle.stab_run.proofs.TargetLemmas.{coins-measured, fits-target}
 pub use Rattle.stab_run.specs.Cuts.{lengths_of}
 pub use Rattle.stab_run.specs.Ends.{AgreeBack, with_coin}
@@ -54,11 +54,11 @@ pub use Rattle.stab_run.specs.Runs.{measured_by, gate_of, with_factors, string_o
 pub use Rattle.stab_run.specs.StepPivots.{HasPivot}
 pub use Rattle.stab_run.specs.declared.records.Addition.{Addition}
 pub use Rattle.stab_tableau.proofs.FrameLemmas.{differ}
-pub use Rattle.stab_tableau.proofs.FreeLemmas.{anticommuting-member_of_free}
+pub use Rattle.stab_tableau.proofs.RandomLemmas.{anticommuting-member_of_random}
 pub use Rattle.stab_tableau.proofs.GroupLemmas.{group-zeros, group-back, group-projected}
-pub use Rattle.stab_tableau.proofs.MemberLemmas.{same-free}
+pub use Rattle.stab_tableau.proofs.MemberLemmas.{same-random}
 pub use Rattle.stab_tableau.proofs.OneLetterLemmas.{one_letter-anticommute, length-one_letter}
-pub use Rattle.stab_tableau.proofs.PlaceLemmas.{get_or-blank, string_product-set}
+pub use Rattle.stab_tableau.proofs.OtherLetterLemmas.{get_or-blank, string_product-set}
 pub use Rattle.stab_tableau.proofs.SignFrameLemmas.{frame-stabilises}
 pub use Rattle.stab_tableau.proofs.SymmetryLemmas.{IsSymmetry, IsSymmetry-image, IsSymmetry-pair, image-length, pair-length, back-image, pair-undone}
 pub use Rattle.stab_tableau.proofs.TestLemmas.{not-true, not_both}
@@ -67,19 +67,19 @@ pub use Rattle.stab_tableau.specs.Conjugations.{IsConjugated}
 pub use Rattle.stab_tableau.specs.Gates.{inverse, image, image_pair, back, back_pair, letter_at, letter_image, pair_letters, put_letter}
 pub use Rattle.stab_tableau.specs.Groups.{IsStabiliserGroup, SameGroup}
 pub use Rattle.stab_tableau.specs.Pivots.{IsPivot}
-pub use Rattle.stab_tableau.specs.Rules.{outcome_by, is_free_by, projected_by}
+pub use Rattle.stab_tableau.specs.Rules.{outcome_by, is_random_by, projected_by}
 pub use Rattle.stab_tableau.specs.Tableaus.{TableauState, stabilises}
-pub use Rattle.stab_tableau.specs.Traces.{member, Event, is_free, projected}
+pub use Rattle.stab_tableau.specs.Traces.{member, Event, is_random, projected}
 pub use Rattle.stab_tableau.specs.inner.ColumnLetters.{letter_anticommuting}
 pub use Rattle.stab_tableau.specs.inner.Frames.{SameLetters, sign_frame}
 pub use Rattle.stab_tableau.specs.inner.InverseRows.{InverseRows}
-pub use Rattle.stab_frames.specs.AgainLaws.{DiffersBack, ArePropagatedOver, StepsComePropagated}
+pub use Rattle.stab_frames.specs.RepeatedStepLaws.{DiffersBack, ArePropagatedOver, StepsComePropagated}
 pub use Rattle.stab_frames.specs.Flips.{flipped_output, Matches, unflipped, flipped, flipped_additions}
 pub use Rattle.stab_frames.specs.FrameSteps.{flip_by, letters_for, one_flipped, frame_over, flips_over, frame_after, letters_after, flips_given, flipped_by, letters_by, flips_outcome, letters_measured}
 pub use Rattle.stab_frames.specs.PropagatedTableaus.{propagated_rows, propagated_tableau}
 pub use Rattle.stab_frames.specs.Frames.{Frame, PointsDifferBy, identity_frame, plus, times_where, frame_of, frame_product}
 pub use Rattle.stab_frames.specs.Images.{letter_where, controlled_letter}
-pub use Rattle.stab_frames.specs.Fronts.{edit_frame, IsFlippedRun, AreFronts}
+pub use Rattle.stab_frames.specs.FirstSteps.{edit_frame, IsFlippedRun, AreFronts}
 pub use Rattle.stab_frames.specs.Limits.{bytes_of, most_strings}
 pub use Rattle.stab_frames.specs.OtherCoins.{coins_from, pivots_between, HasGoneOver, PropagatesToOthers}
 pub use Rattle.stab_frames.specs.PivotLaws.{FramesHaveCoins, RightPivotsAreEnough, FlippedCoinsNeedNoPivots, PivotsAreEnoughBefore, MeasurementsHavePivots, FlagsDeterminePivots, RunsHavePivots}
@@ -87,12 +87,12 @@ pub use Rattle.stab_frames.specs.Pivots.{IsTrueAt, AreTrue, pivot_at, PivotsStat
 pub use Rattle.stab_frames.specs.PivotsOfSteps.{AreEnough, AreFlippedPivots, IsRightAt, IsEnoughAt, AreRight}
 pub use Rattle.stab_frames.specs.Propagations.{PropagationState, IsPlaced, frame_at, PropagatesWith, PropagatesOver, IsGone}
 pub use Rattle.stab_frames.specs.RunLaws.{FrontsFlip, FrontsGoOn, FrontsTakePaulis, PauliFronts, PauliEditsFlip, CoinsFlip, CheckpointsTakeFrames}
-pub use Rattle.stab_frames.specs.RunPivots.{RunPivots, changed, same_coins, no_strings, pivots_of, IsPivotOf, IsEnough}
+pub use Rattle.stab_frames.specs.RunPivots.{RunPivots, coins_changed, same_coins, no_strings, pivots_of, IsPivotOf, IsEnough}
 pub use Rattle.stab_frames.specs.Starts.{letters_on}
 pub use Rattle.stab_frames.specs.StepLaws.{FramesEnd, StepsKeepFrames, RunsKeepFrames, AreStrings, FramesAdd}
-pub use Rattle.stab_frames.specs.inner.Draws.{AsksFree, IsDrawn, AreDrawn, outcome_of, differing, never}
+pub use Rattle.stab_frames.specs.inner.Draws.{AsksRandom, IsDrawn, AreDrawn, outcome_of, differing, never}
 pub use Rattle.stab_frames.specs.inner.Products.{AreMultiplied}
-pub use Rattle.stab_frames.specs.inner.Propagates.{factors_anticommute, IsMissing, StepsWith, IsDetermined, AreDetermined, IsPropagated, GoesOver, GoesFreely, Goes, IsPropagatedWith, IsDeterminedBy, none_flipped}
+pub use Rattle.stab_frames.specs.inner.Propagates.{factors_anticommute, IsMissing, StepsWith, IsStepDetermined, AreDetermined, IsPropagated, GoesOver, GoesWithoutCoins, Goes, IsPropagatedWith, IsDeterminedBy, none_flipped}
 pub use Rattle.stab_frames.specs.inner.RecordedPivots.{KeepsPivotsOf, KeepsPivots, PivotsSteps, IsAdded}
 pub use Rattle.stab_frames.specs.inner.Touches.{touches_target, acts, PairFits, touches_pair}
 pub use Rattle.stab_frames.specs.inner.Weights.{string_weight, letter_weight}

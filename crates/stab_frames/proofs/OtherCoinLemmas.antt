@@ -1,13 +1,13 @@
 -- Other coins: a frame on its way to a run with other coins, from each run that had the outcomes there.
-use Rattle.stab_frames.proofs.Names.{◌≡◌, ℕ, ◌+◌, ◌-◌, ◌<◌, ◌≤◌, refl, sym, ◌∙◌, ap, subst, Bool, false, List, [], ◌∷◌, ◌++◌, append_assoc, drop, get_or, arith, take-append-drop, Letter, ◌⊕◌, parity-comm, Signed, single, Event, is_free, Step, one, two, controlled, collapse, product, detector, observable, string_of, outcome_at, Point, coins_of, all_coins_of, given, next_point, outputs, free-outcome, pivot_at, PropagationState, frame_at, PropagatesToOthers, outcome_of, differing, IsDrawn, AreDrawn, AreDetermined, GoesOver}
+use Rattle.stab_frames.proofs.Names.{◌≡◌, ℕ, ◌+◌, ◌-◌, ◌<◌, ◌≤◌, refl, sym, ◌∙◌, ap, subst, Bool, false, List, [], ◌∷◌, ◌++◌, append_assoc, drop, get_or, arith, take-append-drop, Letter, ◌⊕◌, parity-comm, Signed, single, Event, is_random, Step, one, two, controlled, collapse, product, detector, observable, string_of, outcome_at, Point, coins_of, all_coins_of, given, next_point, outputs, random-outcome, pivot_at, PropagationState, frame_at, PropagatesToOthers, outcome_of, differing, IsDrawn, AreDrawn, AreDetermined, GoesOver}
 use Rattle.stab_frames.proofs.PropagatedLemmas.{first-flag, determined-enough}
 
 -- an outcome gives the coin of a random one
 
-measured-determined : (coins others olds : ℕ → Bool) (free : List Bool) (m : Signed) (trace : List Event) (c : ℕ) → get_or free c false ≡ is_free trace m
+measured-determined : (coins others olds : ℕ → Bool) (free : List Bool) (m : Signed) (trace : List Event) (c : ℕ) → get_or free c false ≡ is_random trace m
     → olds c ≡ outcome_at coins m trace c → IsDrawn free (differing olds others) (λ t. others t ⊕ coins t) c
 measured-determined coins others olds free m trace c flag outcome_is = λ is.
-    parity-comm (others c) (coins c) ∙ ap (λ b. b ⊕ others c) (sym (outcome_is ∙ free-outcome trace m (sym flag ∙ is) (coins c)))
+    parity-comm (others c) (coins c) ∙ ap (λ b. b ⊕ others c) (sym (outcome_is ∙ random-outcome trace m (sym flag ∙ is) (coins c)))
 
 -- so the outcomes and the new coins say which coins differ
 
@@ -30,11 +30,11 @@ module _ (n : ℕ) (coins others : ℕ → Bool) (free outcomes : List Bool) (st
       let same : c + k ≡ c = omega (arith, e) in
       (λ lt. absurd (omega (arith, e, lt)), ap (λ j. drop j free) same ∙ flags, ap (λ j. drop (j - start) outcomes) same ∙ bits)
 
-  measured-step : (m : Signed) (trace : List Event) (c : ℕ) (rest later : List Bool) → start ≤ c → drop c free ≡ is_free trace m ∷ rest
+  measured-step : (m : Signed) (trace : List Event) (c : ℕ) (rest later : List Bool) → start ≤ c → drop c free ≡ is_random trace m ∷ rest
       → drop (c - start) outcomes ≡ outcome_at coins m trace c ∷ later
       → (0 < 1 → IsDrawn free draw changes c) × (drop (c + 1) free ≡ rest) × (drop ((c + 1) - start) outcomes ≡ later)
   measured-step m trace c rest later le flags bits =
-      let flag = first-flag free c (is_free trace m) rest flags in
+      let flag = first-flag free c (is_random trace m) rest flags in
       let bit = first-flag outcomes (c - start) (outcome_at coins m trace c) later bits in
       (λ lt. measured-determined coins others olds free m trace c flag.0 bit.0, flag.1, ap (λ j. drop j outcomes) (further c start 1 le) ∙ bit.1)
 

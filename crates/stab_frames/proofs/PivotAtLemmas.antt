@@ -84,9 +84,9 @@ pivot-fixed strings free =
     ap (λ b. if b then slice_get strings (ones (take (length free) (free ++ false ∷ []))) else None) (flag-here free false)
 
 -- and if it was random the string that was put after the others, or none if no more are kept
-pub pivot-free : (P : List Letter → Type 0) (most : ℕ) (strings : List (List Letter)) (s : List Letter) (free : List Bool)
+pub pivot-random : (P : List Letter → Type 0) (most : ℕ) (strings : List (List Letter)) (s : List Letter) (free : List Bool)
     → length strings ≡ min (ones free) most → P s → IfSome (pivot_at (take most (strings ++ s ∷ [])) (free ++ true ∷ []) (length free)) P
-pivot-free P most strings s free e is =
+pivot-random P most strings s free e is =
     subst (λ o. IfSome o P) (sym (ap (λ b. if b then slice_get (take most (strings ++ s ∷ [])) (ones (take (length free) (free ++ true ∷ []))) else None) (flag-here free true)
     ∙ ap (λ bits. slice_get (take most (strings ++ s ∷ [])) (ones bits)) (front-here free true))) (by_position (cases_lt (length strings) most))
   where
@@ -128,7 +128,7 @@ numbered-fixed most strings free e = e ∙ ap (λ k. min k most) (sym (ones-appe
     none : ones free + 0 ≡ ones free
     none = omega arith
 
-pub numbered-free : (most : ℕ) (strings : List (List Letter)) (s : List Letter) (free : List Bool) → length strings ≡ min (ones free) most
+pub numbered-random : (most : ℕ) (strings : List (List Letter)) (s : List Letter) (free : List Bool) → length strings ≡ min (ones free) most
     → length (take most (strings ++ s ∷ [])) ≡ min (ones (free ++ true ∷ [])) most
-numbered-free most strings s free e =
+numbered-random most strings s free e =
     omega (arith, length-take most (strings ++ s ∷ []), length-append strings (s ∷ []), ones-append free (true ∷ []), e)

@@ -1,6 +1,6 @@
 -- Pivots: which are enough for a frame, and what a trace, flags and a tableau say of a measurement.
-use Rattle.stab_frames.proofs.Names.{◌≡◌, ℕ, zero, suc, ◌+◌, ◌<◌, ◌≤◌, refl, sym, ◌∙◌, ap, subst, Bool, true, false, List, [], ◌∷◌, ◌++◌, length, replicate, get_or, arith, Option, Some, None, is_some, take_all, All-head, All-tail, IfSome_then, Letter, ◌⊕◌, Signed, single, anticommute, strings_anticommute, parity-self, strings_anticommute-comm, is_free_by, member, is_free, IsStabiliserGroup, IsPivot, not_both, length-one_letter, anticommuting-member_of_free, Step, one, two, controlled, collapse, product, detector, observable, string_of, measured_by, Point, given, coins_of, all_coins_of, next_point, outputs, StepFits, length-string_of, coins-one, no_strings, IsPivotOf, frame_after, IsRightAt, AreEnough, RightPivotsAreEnough, FlippedCoinsNeedNoPivots, PivotsAreEnoughBefore, MeasurementsHavePivots, FlagsDeterminePivots}
-use Rattle.stab_frames.proofs.MeasuredLemmas.{pivoted-free}
+use Rattle.stab_frames.proofs.Names.{◌≡◌, ℕ, zero, suc, ◌+◌, ◌<◌, ◌≤◌, refl, sym, ◌∙◌, ap, subst, Bool, true, false, List, [], ◌∷◌, ◌++◌, length, replicate, get_or, arith, Option, Some, None, is_some, take_all, All-head, All-tail, IfSome_then, Letter, ◌⊕◌, Signed, single, anticommute, strings_anticommute, parity-self, strings_anticommute-comm, is_random_by, member, is_random, IsStabiliserGroup, IsPivot, not_both, length-one_letter, anticommuting-member_of_random, Step, one, two, controlled, collapse, product, detector, observable, string_of, measured_by, Point, given, coins_of, all_coins_of, next_point, outputs, StepFits, length-string_of, coins-one, no_strings, IsPivotOf, frame_after, IsRightAt, AreEnough, RightPivotsAreEnough, FlippedCoinsNeedNoPivots, PivotsAreEnoughBefore, MeasurementsHavePivots, FlagsDeterminePivots}
+use Rattle.stab_frames.proofs.MeasuredLemmas.{pivoted-random}
 use Rattle.stab_frames.proofs.StepLemmas.{group-next}
 
 -- which pivots are enough for a frame
@@ -41,20 +41,20 @@ member-pivot n u q s size is distinct = record {
 
 -- each measurement in a sound trace has a pivot
 pub measurement-pivot : MeasurementsHavePivots
-measurement-pivot n t fits sound q lq = by_flag (is_free t q) refl
+measurement-pivot n t fits sound q lq = by_flag (is_random t q) refl
   where
-    by_flag : (b : Bool) → is_free t q ≡ b → (o : Option (List Letter)) × IsPivotOf n (member t) q o
+    by_flag : (b : Bool) → is_random t q ≡ b → (o : Option (List Letter)) × IsPivotOf n (member t) q o
     by_flag false e = (None, e)
     by_flag true e =
-        let h = anticommuting-member_of_free n t fits sound q lq e in
+        let h = anticommuting-member_of_random n t fits sound q lq e in
         (Some (h.0).letters, member-pivot n (member t) q h.0 h.1 h.2 h.3)
 
 -- right pivots, and the flags that steps give
 
-pivot-free : (n : ℕ) (u : Signed → Bool) → IsStabiliserGroup n u → (m : Signed) → length m.letters ≡ n → (pivot : Option (List Letter))
-    → IsPivotOf n u m pivot → is_free_by u m ≡ is_some pivot
-pivot-free n u group m size None right = right
-pivot-free n u group m size (Some s) right = pivoted-free n u group m size s right
+pivot-random : (n : ℕ) (u : Signed → Bool) → IsStabiliserGroup n u → (m : Signed) → length m.letters ≡ n → (pivot : Option (List Letter))
+    → IsPivotOf n u m pivot → is_random_by u m ≡ is_some pivot
+pivot-random n u group m size None right = right
+pivot-random n u group m size (Some s) right = pivoted-random n u group m size s right
 
 flags-given : (n : ℕ) (coins : ℕ → Bool) (strings : ℕ → Option (List Letter)) (x : Step) (a : Point) → IsStabiliserGroup n (member a.trace)
     → IsRightAt n strings x a → (given n coins x a).free ≡ replicate (coins_of x) (is_some (strings a.coin))
@@ -62,9 +62,9 @@ flags-given n coins strings (one g q) a group right = refl
 flags-given n coins strings (two g p q) a group right = refl
 flags-given n coins strings (controlled l k q) a group right = refl
 flags-given n coins strings (collapse l q recorded inverted resets) a group right =
-    ap (λ b. b ∷ []) (pivot-free n (member a.trace) group (single n q l) (length-one_letter n q l) (strings a.coin) right)
+    ap (λ b. b ∷ []) (pivot-random n (member a.trace) group (single n q l) (length-one_letter n q l) (strings a.coin) right)
 flags-given n coins strings (product factors inverted) a group right =
-    ap (λ b. b ∷ []) (pivot-free n (member a.trace) group (string_of n factors) (length-string_of n factors) (strings a.coin) right)
+    ap (λ b. b ∷ []) (pivot-random n (member a.trace) group (string_of n factors) (length-string_of n factors) (strings a.coin) right)
 flags-given n coins strings (detector ks) a group right = refl
 flags-given n coins strings (observable j ks) a group right = refl
 

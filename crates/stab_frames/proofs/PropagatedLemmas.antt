@@ -1,5 +1,5 @@
 -- Passes: a frame over one step, and over steps one after another.
-use Rattle.stab_frames.proofs.Names.{◌≡◌, ℕ, zero, suc, ◌+◌, refl, sym, ◌∙◌, ap, subst, Bool, false, List, [], ◌∷◌, ◌++◌, append_assoc, drop, replicate, get_or, arith, Option, Some, None, IfSome, Letter, Signed, single, Event, member, is_free, IsPivot, Step, one, two, controlled, collapse, product, detector, observable, string_of, Point, RunOutput, nothing, joined, coins_of, all_coins_of, given, next_point, outputs, joined-nothing, joined-assoc, coins-append, Frame, times_where, RunPivots, pivots_of, IsPivotOf, letters_after, flips_given, frame_after, frame_over, flips_over, IsEnoughAt, AreEnough, pivot_at, IsTrueAt, AreTrue, PropagationState, frame_at, PropagatesWith, StepsWith, IsDetermined, AreDetermined, IsDeterminedBy, IsEnough, measured_by, strings_anticommute}
+use Rattle.stab_frames.proofs.Names.{◌≡◌, ℕ, zero, suc, ◌+◌, refl, sym, ◌∙◌, ap, subst, Bool, false, List, [], ◌∷◌, ◌++◌, append_assoc, drop, replicate, get_or, arith, Option, Some, None, IfSome, Letter, Signed, single, Event, member, is_random, IsPivot, Step, one, two, controlled, collapse, product, detector, observable, string_of, Point, RunOutput, nothing, joined, coins_of, all_coins_of, given, next_point, outputs, joined-nothing, joined-assoc, coins-append, Frame, times_where, RunPivots, pivots_of, IsPivotOf, letters_after, flips_given, frame_after, frame_over, flips_over, IsEnoughAt, AreEnough, pivot_at, IsTrueAt, AreTrue, PropagationState, frame_at, PropagatesWith, StepsWith, IsStepDetermined, AreDetermined, IsDeterminedBy, IsEnough, measured_by, strings_anticommute}
 use Rattle.stab_frames.proofs.StillLemmas.{looked_up-base, parity-base}
 use Rattle.stab_frames.proofs.OverLemmas.{frame-append, flips-append}
 
@@ -103,7 +103,7 @@ none k = omega arith
 -- what is said, strings that are true and the run's flags are enough
 
 pub pivot-enough : (n : ℕ) (trace : List Event) (m : Signed) (pivot : Option (List Letter)) (flag : Bool) → (pivot ≡ None → flag ≡ false)
-    → flag ≡ is_free trace m → IfSome pivot (λ s. IsPivot n (member trace) m s) → IsPivotOf n (member trace) m pivot
+    → flag ≡ is_random trace m → IfSome pivot (λ s. IsPivot n (member trace) m s) → IsPivotOf n (member trace) m pivot
 pivot-enough n trace m None flag determined e is = sym e ∙ determined refl
 pivot-enough n trace m (Some s) flag determined e is = is
 
@@ -127,16 +127,16 @@ kept-pivot n coins strings free (one g q) a is rest flags = (tt, ap (λ k. drop 
 kept-pivot n coins strings free (two g p q) a is rest flags = (tt, ap (λ k. drop k free) (none a.coin) ∙ flags)
 kept-pivot n coins strings free (controlled l k q) a is rest flags = (tt, ap (λ k. drop k free) (none a.coin) ∙ flags)
 kept-pivot n coins strings free (collapse l q recorded inverted resets) a is rest flags =
-    let first = first-flag free a.coin (is_free a.trace (single n q l)) rest flags in
+    let first = first-flag free a.coin (is_random a.trace (single n q l)) rest flags in
     ((λ fixed. pivot-enough n a.trace (single n q l) (pivot_at strings free a.coin) (get_or free a.coin false) fixed first.0 is), first.1)
 kept-pivot n coins strings free (product factors inverted) a is rest flags =
-    let first = first-flag free a.coin (is_free a.trace (string_of n factors)) rest flags in
+    let first = first-flag free a.coin (is_random a.trace (string_of n factors)) rest flags in
     ((λ fixed. pivot-enough n a.trace (string_of n factors) (pivot_at strings free a.coin) (get_or free a.coin false) fixed first.0 is), first.1)
 kept-pivot n coins strings free (detector ks) a is rest flags = (tt, ap (λ k. drop k free) (none a.coin) ∙ flags)
 kept-pivot n coins strings free (observable j ks) a is rest flags = (tt, ap (λ k. drop k free) (none a.coin) ∙ flags)
 
 step-enough : (n : ℕ) (coins : ℕ → Bool) (strings : List (List Letter)) (free : List Bool) (changes : ℕ → Bool) (x : Step) (f : List Letter) (a : Point)
-    → IsDetermined n strings free changes x a.coin f → IsTrueAt n (pivot_at strings free) x a → (rest : List Bool) → drop a.coin free ≡ (given n coins x a).free ++ rest
+    → IsStepDetermined n strings free changes x a.coin f → IsTrueAt n (pivot_at strings free) x a → (rest : List Bool) → drop a.coin free ≡ (given n coins x a).free ++ rest
     → IsEnoughAt n (pivots_of (pivot_at strings free) changes) x f a × (drop (a.coin + coins_of x) free ≡ rest)
 step-enough n coins strings free changes x f a determined is rest flags =
     let here = kept-pivot n coins strings free x a is rest flags in

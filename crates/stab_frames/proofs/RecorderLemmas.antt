@@ -1,9 +1,9 @@
 -- Noted: a run that records pivots on its way keeps them numbered and true.
-use Rattle.stab_frames.proofs.Names.{◌≡◌, ℕ, ◌+◌, min, refl, sym, ◌∙◌, ap, subst, Bool, true, false, List, [], ◌∷◌, ◌++◌, append_assoc, append-nil, length, take, arith, Option, Some, IfSome, take_all, Letter, Signed, single, member, is_free, is_free_by, IsPivot, length-one_letter, same-free, Step, one, two, controlled, collapse, product, detector, observable, ones, string_of, measured_by, Point, origin, given, next_point, point_after, outputs, all_coins_of, ProgramState, IsAt, IsRun, after-append, length-string_of, coins-are, PivotsState, pivot_at, IsNumbered, IsTrueAt, AreTrue, KeepsTrue, IsAdded, KeepsPivotsOf, KeepsPivots}
+use Rattle.stab_frames.proofs.Names.{◌≡◌, ℕ, ◌+◌, min, refl, sym, ◌∙◌, ap, subst, Bool, true, false, List, [], ◌∷◌, ◌++◌, append_assoc, append-nil, length, take, arith, Option, Some, IfSome, take_all, Letter, Signed, single, member, is_random, is_random_by, IsPivot, length-one_letter, same-random, Step, one, two, controlled, collapse, product, detector, observable, ones, string_of, measured_by, Point, origin, given, next_point, point_after, outputs, all_coins_of, ProgramState, IsAt, IsRun, after-append, length-string_of, coins-are, PivotsState, pivot_at, IsNumbered, IsTrueAt, AreTrue, KeepsTrue, IsAdded, KeepsPivotsOf, KeepsPivots}
 use Rattle.std.proofs.Common.{length-append}
 use Rattle.stab_frames.proofs.RunPivotLemmas.{unmeasured}
 use Rattle.stab_frames.proofs.TrueLemmas.{true-append, true-same, true-none, pivot-same_group}
-use Rattle.stab_frames.proofs.PivotAtLemmas.{pivot-before, pivot-fixed, pivot-free, pivot-past, numbered-fixed, numbered-free, numbered-full}
+use Rattle.stab_frames.proofs.PivotAtLemmas.{pivot-before, pivot-fixed, pivot-random, pivot-past, numbered-fixed, numbered-random, numbered-full}
 
 -- the strings of earlier steps stay true with more after them and after the flags
 module _ (n : ℕ) (coins : ℕ → Bool) (xs : List Step) (kept : PivotsState) (free flags : List Bool) (more : List (List Letter)) (numbered : IsNumbered kept free)
@@ -69,9 +69,9 @@ keeps-full n coins xs kept old new full run ys at numbered is =
 
 -- a measurement whose outcome is fixed, and one whose outcome is random
 module _ (n : ℕ) (coins : ℕ → Bool) (x : Step) (m : Signed) (kept following : PivotsState) (old new : ProgramState) (measured : measured_by n x ≡ Some m)
-    (size : length m.letters ≡ n) (gives : (p : Point) → (given n coins x p).free ≡ is_free p.trace m ∷ []) (most : following.most ≡ kept.most)
+    (size : length m.letters ≡ n) (gives : (p : Point) → (given n coins x p).free ≡ is_random p.trace m ∷ []) (most : following.most ≡ kept.most)
     (run : IsRun n coins (x ∷ []) old new) where
-  flags-of : (xs : List Step) (flag : Bool) → IsAt n old (point_after n coins xs origin) → is_free (point_after n coins xs origin).trace m ≡ flag
+  flags-of : (xs : List Step) (flag : Bool) → IsAt n old (point_after n coins xs origin) → is_random (point_after n coins xs origin).trace m ≡ flag
       → new.output.free ≡ old.output.free ++ flag ∷ []
   flags-of xs flag at e =
       ap (λ o. o.free) (run (point_after n coins xs origin) at).output
@@ -81,7 +81,7 @@ module _ (n : ℕ) (coins : ℕ → Bool) (x : Step) (m : Signed) (kept followin
   true-of strings p is = subst (λ o. IfSome o (λ q. IfSome (strings p.coin) (λ s. IsPivot n (member p.trace) q s))) (sym measured) is
 
   keeps-fixed : (xs : List Step) → IsAt n old (point_after n coins xs origin) → IsNumbered kept old.output.free
-      → is_free (point_after n coins xs origin).trace m ≡ false → following.strings ≡ kept.strings
+      → is_random (point_after n coins xs origin).trace m ≡ false → following.strings ≡ kept.strings
       → AreTrue n coins (pivot_at kept.strings old.output.free) xs origin
       → IsNumbered following new.output.free × AreTrue n coins (pivot_at following.strings new.output.free) (xs ++ x ∷ []) origin
   keeps-fixed xs at numbered fixed same is =
@@ -101,42 +101,42 @@ module _ (n : ℕ) (coins : ℕ → Bool) (x : Step) (m : Signed) (kept followin
             ))),
       )
 
-  keeps-free : (xs : List Step) → IsAt n old (point_after n coins xs origin) → IsNumbered kept old.output.free
-      → is_free (point_after n coins xs origin).trace m ≡ true → IsAdded n old.stabilised m kept following
+  keeps-random : (xs : List Step) → IsAt n old (point_after n coins xs origin) → IsNumbered kept old.output.free
+      → is_random (point_after n coins xs origin).trace m ≡ true → IsAdded n old.stabilised m kept following
       → AreTrue n coins (pivot_at kept.strings old.output.free) xs origin
       → IsNumbered following new.output.free × AreTrue n coins (pivot_at following.strings new.output.free) (xs ++ x ∷ []) origin
-  keeps-free xs at numbered is_free added is =
+  keeps-random xs at numbered is_random added is =
       let p = point_after n coins xs origin in
       let free = old.output.free in
-      let flags = flags-of xs true at is_free in
+      let flags = flags-of xs true at is_random in
       let s = added.string in
       let is_pivot = pivot-same_group n old.stabilised (member p.trace) m s at.group added.is_pivot in (
         subst (λ bits. length following.strings ≡ min (ones bits) following.most) (sym flags)
-            (ap length added.strings ∙ numbered-free kept.most kept.strings s free numbered ∙ ap (λ k. min (ones (free ++ true ∷ [])) k) (sym most)),
+            (ap length added.strings ∙ numbered-random kept.most kept.strings s free numbered ∙ ap (λ k. min (ones (free ++ true ∷ [])) k) (sym most)),
         subst (λ t. AreTrue n coins (pivot_at t new.output.free) (xs ++ x ∷ []) origin) (sym added.strings)
             (subst (λ bits. AreTrue n coins (pivot_at (take kept.most (kept.strings ++ s ∷ [])) bits) (xs ++ x ∷ []) origin) (sym flags)
             (true-append n coins (pivot_at (take kept.most (kept.strings ++ s ∷ [])) (free ++ true ∷ [])) xs (x ∷ []) origin
             (front-true n coins xs kept free (true ∷ []) (s ∷ []) numbered at.coin is) (
               true-of (pivot_at (take kept.most (kept.strings ++ s ∷ [])) (free ++ true ∷ [])) p
                   (subst (λ c. IfSome (pivot_at (take kept.most (kept.strings ++ s ∷ [])) (free ++ true ∷ []) c) (λ t. IsPivot n (member p.trace) m t)) at.coin
-                  (pivot-free (λ t. IsPivot n (member p.trace) m t) kept.most kept.strings s free numbered is_pivot)),
+                  (pivot-random (λ t. IsPivot n (member p.trace) m t) kept.most kept.strings s free numbered is_pivot)),
               tt,
             ))),
       )
 
   keeps-measured : KeepsPivotsOf n old.stabilised (Some m) kept following → KeepsTrue n coins (x ∷ []) kept following old new
-  keeps-measured has_pivots xs at numbered is = by_flag (is_free_by old.stabilised m) refl
+  keeps-measured has_pivots xs at numbered is = by_flag (is_random_by old.stabilised m) refl
     where
       p : Point
       p = point_after n coins xs origin
 
-      same : is_free p.trace m ≡ is_free_by old.stabilised m
-      same = sym (same-free n old.stabilised (member p.trace) m size at.group)
+      same : is_random p.trace m ≡ is_random_by old.stabilised m
+      same = sym (same-random n old.stabilised (member p.trace) m size at.group)
 
-      by_flag : (b : Bool) → is_free_by old.stabilised m ≡ b
+      by_flag : (b : Bool) → is_random_by old.stabilised m ≡ b
           → IsNumbered following new.output.free × AreTrue n coins (pivot_at following.strings new.output.free) (xs ++ x ∷ []) origin
       by_flag false e = keeps-fixed xs at numbered (same ∙ e) (has_pivots.1 e) is
-      by_flag true e = keeps-free xs at numbered (same ∙ e) (has_pivots.0 e) is
+      by_flag true e = keeps-random xs at numbered (same ∙ e) (has_pivots.0 e) is
 
 pub keeps-step : (n : ℕ) (coins : ℕ → Bool) (x : Step) (kept following : PivotsState) (old new : ProgramState) → KeepsPivots n old.stabilised x kept following
     → following.most ≡ kept.most → IsRun n coins (x ∷ []) old new → KeepsTrue n coins (x ∷ []) kept following old new

@@ -1,7 +1,7 @@
 -- Frames: what a step makes of one, and what steps make of one.
-use Rattle.stab_frames.proofs.Names.{◌≡◌, ℕ, ◌+◌, ◌<◌, refl, sym, ◌∙◌, ap, subst, Bool, true, false, ◌&&◌, List, [], ◌∷◌, ◌++◌, length, arith, length-append, All-head, All-tail, Letter, ◌⊕◌, Signed, single, inverse, back, back_pair, Event, projected, member, is_free, IsStabiliserGroup, IsConjugated, length-one_letter, IsSymmetry-image, IsSymmetry-pair, image-length, pair-length, group-back, group-projected, outcome-only, Step, one, two, controlled, collapse, product, detector, observable, looked_up, parity, when, string_of, gate_of, flip_of, applied_where, outcome_at, Point, nothing, joined, given, trace_after, coins_of, next_point, outputs, StepFits, flipped_output, Matches, plus, Frame, PointsDifferBy, times_where, RunPivots, changed, IsEnough, flips_outcome, letters_measured, letters_after, flips_given, frame_after, flips_over, IsEnoughAt, StepsKeepFrames, RunsKeepFrames, length-string_of}
+use Rattle.stab_frames.proofs.Names.{◌≡◌, ℕ, ◌+◌, ◌<◌, refl, sym, ◌∙◌, ap, subst, Bool, true, false, ◌&&◌, List, [], ◌∷◌, ◌++◌, length, arith, length-append, All-head, All-tail, Letter, ◌⊕◌, Signed, single, inverse, back, back_pair, Event, projected, member, is_random, IsStabiliserGroup, IsConjugated, length-one_letter, IsSymmetry-image, IsSymmetry-pair, image-length, pair-length, group-back, group-projected, outcome-only, Step, one, two, controlled, collapse, product, detector, observable, looked_up, parity, when, string_of, gate_of, flip_of, applied_where, outcome_at, Point, nothing, joined, given, trace_after, coins_of, next_point, outputs, StepFits, flipped_output, Matches, plus, Frame, PointsDifferBy, times_where, RunPivots, coins_changed, IsEnough, flips_outcome, letters_measured, letters_after, flips_given, frame_after, flips_over, IsEnoughAt, StepsKeepFrames, RunsKeepFrames, length-string_of}
 use Rattle.stab_frames.proofs.PropagatedPointLemmas.{conjugated-applied, conjugated-applied_pair, conjugated-where, length-times}
-use Rattle.stab_frames.proofs.MeasuredLemmas.{conjugated-free, outcome-flipped, measured-conjugated, length-measured}
+use Rattle.stab_frames.proofs.MeasuredLemmas.{conjugated-random, outcome-flipped, measured-conjugated, length-measured}
 use Rattle.stab_frames.proofs.FlipLemmas.{looked_up-flipped, parity-flipped, flipped-append, flipped-joined, joined-matches, flipped-when, and-parity, same-when}
 
 -- the strings at a point are a group, and so they are after a step
@@ -51,13 +51,13 @@ module _ (n : ℕ) (coins : ℕ → Bool) (pivots : RunPivots) (f : Frame) (a b 
     (group : IsStabiliserGroup n (member a.trace)) where
   -- a measurement of a string
   module _ (m : Signed) (size : length m.letters ≡ n) (enough : IsEnough n (member a.trace) m f.letters (pivots.changes a.coin) (pivots.strings a.coin)) where
-    outcome-given : outcome_at (changed coins pivots.changes) m b.trace b.coin ≡ flips_outcome pivots a.coin m f.letters ⊕ outcome_at coins m a.trace a.coin
+    outcome-given : outcome_at (coins_changed coins pivots.changes) m b.trace b.coin ≡ flips_outcome pivots a.coin m f.letters ⊕ outcome_at coins m a.trace a.coin
     outcome-given =
-        ap (λ c. outcome_at (changed coins pivots.changes) m b.trace c) by_frame.coin
+        ap (λ c. outcome_at (coins_changed coins pivots.changes) m b.trace c) by_frame.coin
         ∙ outcome-flipped n f.letters (member a.trace) (member b.trace) by_frame.group group m size (pivots.strings a.coin) (pivots.changes a.coin) enough (coins a.coin)
 
-    free-given : is_free b.trace m ≡ is_free a.trace m
-    free-given = conjugated-free n f.letters (member a.trace) (member b.trace) by_frame.group m size
+    random-given : is_random b.trace m ≡ is_random a.trace m
+    random-given = conjugated-random n f.letters (member a.trace) (member b.trace) by_frame.group m size
 
     trace-measured : IsConjugated n (letters_measured pivots a.coin m f.letters)
         (member (projected m (outcome_at coins m a.trace a.coin) ∷ a.trace))
@@ -73,7 +73,7 @@ module _ (n : ℕ) (coins : ℕ → Bool) (pivots : RunPivots) (f : Frame) (a b 
     trace-reset : (l : Letter) (q : ℕ) → q < n → (resets : Bool)
         → IsConjugated n (times_where (resets && flips_outcome pivots a.coin m f.letters) (single n q l).letters (letters_measured pivots a.coin m f.letters))
         (member (applied_where (resets && outcome_at coins m a.trace a.coin) l q (projected m (outcome_at coins m a.trace a.coin) ∷ a.trace)))
-        (member (applied_where (resets && outcome_at (changed coins pivots.changes) m b.trace b.coin) l q (projected m (outcome_at (changed coins pivots.changes) m b.trace b.coin) ∷ b.trace)))
+        (member (applied_where (resets && outcome_at (coins_changed coins pivots.changes) m b.trace b.coin) l q (projected m (outcome_at (coins_changed coins pivots.changes) m b.trace b.coin) ∷ b.trace)))
     trace-reset l q lt resets =
         subst (λ o. IsConjugated n (times_where (resets && flips_outcome pivots a.coin m f.letters) (single n q l).letters (letters_measured pivots a.coin m f.letters))
         (member (applied_where (resets && outcome_at coins m a.trace a.coin) l q (projected m (outcome_at coins m a.trace a.coin) ∷ a.trace)))
@@ -93,7 +93,7 @@ module _ (n : ℕ) (coins : ℕ → Bool) (pivots : RunPivots) (f : Frame) (a b 
   records-parity ks = ap (λ r. parity r ks) by_frame.records ∙ parity-flipped a.records f.flips by_frame.count ks
 
   trace-by_frame : (x : Step) → StepFits n x → IsEnoughAt n pivots x f.letters a
-      → IsConjugated n (letters_after n pivots x a.coin f) (member (trace_after n coins x a)) (member (trace_after n (changed coins pivots.changes) x b))
+      → IsConjugated n (letters_after n pivots x a.coin f) (member (trace_after n coins x a)) (member (trace_after n (coins_changed coins pivots.changes) x b))
   trace-by_frame (one g q) fits enough = conjugated-applied n g q f.letters by_frame.size (member a.trace) (member b.trace) by_frame.group
   trace-by_frame (two g p q) fits enough = conjugated-applied_pair n g p q fits f.letters by_frame.size (member a.trace) (member b.trace) by_frame.group
   trace-by_frame (controlled l k q) fits enough =
@@ -122,7 +122,7 @@ module _ (n : ℕ) (coins : ℕ → Bool) (pivots : RunPivots) (f : Frame) (a b 
   letters-by_frame (detector ks) enough = by_frame.size
   letters-by_frame (observable j ks) enough = by_frame.size
 
-  pub given-by_frame : (x : Step) → IsEnoughAt n pivots x f.letters a → given n (changed coins pivots.changes) x b ≡ flipped_output (given n coins x a) (flips_given n pivots x a.coin f)
+  pub given-by_frame : (x : Step) → IsEnoughAt n pivots x f.letters a → given n (coins_changed coins pivots.changes) x b ≡ flipped_output (given n coins x a) (flips_given n pivots x a.coin f)
   given-by_frame (one g q) enough = refl
   given-by_frame (two g p q) enough = refl
   given-by_frame (controlled l k q) enough = refl
@@ -131,21 +131,21 @@ module _ (n : ℕ) (coins : ℕ → Bool) (pivots : RunPivots) (f : Frame) (a b 
         (ap (λ o. when recorded (inverted ⊕ o)) (outcome-given (single n q l) (length-one_letter n q l) enough)
         ∙ ap (when recorded) (past-inverted inverted (flips_outcome pivots a.coin (single n q l) f.letters) (outcome_at coins (single n q l) a.trace a.coin))
         ∙ sym (flipped-when recorded (flips_outcome pivots a.coin (single n q l) f.letters) (inverted ⊕ outcome_at coins (single n q l) a.trace a.coin))) i;
-    free = free-given (single n q l) (length-one_letter n q l) enough i ∷ [];
+    free = random-given (single n q l) (length-one_letter n q l) enough i ∷ [];
     outcomes = outcome-given (single n q l) (length-one_letter n q l) enough i ∷ [];
   }
   given-by_frame (product factors inverted) enough = λ i. record nothing {
     records =
         (ap (λ o. inverted ⊕ o) (outcome-given (string_of n factors) (length-string_of n factors) enough)
         ∙ past-inverted inverted (flips_outcome pivots a.coin (string_of n factors) f.letters) (outcome_at coins (string_of n factors) a.trace a.coin)) i ∷ [];
-    free = free-given (string_of n factors) (length-string_of n factors) enough i ∷ [];
+    free = random-given (string_of n factors) (length-string_of n factors) enough i ∷ [];
     outcomes = outcome-given (string_of n factors) (length-string_of n factors) enough i ∷ [];
   }
   given-by_frame (detector ks) enough = λ i. record nothing { detectors = records-parity ks i ∷ [] }
   given-by_frame (observable j ks) enough = λ i. record nothing { additions = record { observable = j; bit = records-parity ks i } ∷ [] }
 
   pub next-by_frame : (x : Step) → StepFits n x → IsEnoughAt n pivots x f.letters a
-      → PointsDifferBy n (frame_after n pivots x a.coin f) (next_point n coins x a) (next_point n (changed coins pivots.changes) x b)
+      → PointsDifferBy n (frame_after n pivots x a.coin f) (next_point n coins x a) (next_point n (coins_changed coins pivots.changes) x b)
   next-by_frame x fits enough = record {
     size = letters-by_frame x enough;
     group = trace-by_frame x fits enough;
@@ -177,7 +177,7 @@ pub over-by_frame : RunsKeepFrames
 over-by_frame n coins pivots [] f a b fits group enough by_frame = (refl, by_frame)
 over-by_frame n coins pivots (x ∷ xs) f a b fits group enough by_frame =
     let here : StepFits n x = All-head (StepFits n) x xs fits in
-    let later = over-by_frame n coins pivots xs (frame_after n pivots x a.coin f) (next_point n coins x a) (next_point n (changed coins pivots.changes) x b)
+    let later = over-by_frame n coins pivots xs (frame_after n pivots x a.coin f) (next_point n coins x a) (next_point n (coins_changed coins pivots.changes) x b)
     (All-tail (StepFits n) x xs fits) (group-next n coins x a here group) enough.1
     (next-by_frame n coins pivots f a b by_frame group x here enough.0) in (
       (λ i. joined (given-by_frame n coins pivots f a b by_frame group x enough.0 i) (later.0 i))

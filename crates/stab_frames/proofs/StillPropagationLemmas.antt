@@ -3,7 +3,7 @@ use Rattle.stab_frames.proofs.Names.{◌≡◌, ℕ, zero, suc, ◌+◌, ◌-◌
 use Rattle.stab_run.specs.Cuts.{rest_of}
 use Rattle.stab_run.specs.declared.records.Lengths.{Lengths}
 use Rattle.stab_frames.proofs.FactorLemmas.{single-anticommute}
-use Rattle.stab_frames.proofs.FreeLemmas.{ones-split}
+use Rattle.stab_frames.proofs.RandomLemmas.{ones-split}
 use Rattle.stab_frames.proofs.MeasuredPropagatedLemmas.{passed-alike}
 use Rattle.stab_frames.proofs.GoesOverLemmas.{goes-none, goes-append, goes-collapse, fits-mapped, all-mapped}
 use Rattle.stab_frames.proofs.PropagationLemmas.{ones-few}

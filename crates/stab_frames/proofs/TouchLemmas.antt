@@ -1,9 +1,9 @@
 -- Touches: what a frame does not touch leaves it as it was, and steps part by part.
-use Rattle.stab_frames.proofs.Names.{◌≡◌, ℕ, ◌+◌, refl, sym, ◌∙◌, ap, subst, Bool, false, List, [], ◌∷◌, ◌≤◌, length, take, drop, map, get_or, set, All, list_any, take-take, take-map, drop-map, map-append, set-get_or, All-take, All-drop, take-add, Letter, I, X, Y, Z, PairGate, letter_at, pair_letters, image_pair, Axis, ControlledPair, Step, two, controlled_gate, controlled_step, StepFits, or-left, or-right, plus, PropagationState, GoesOver, GoesFreely, acts, PairFits, touches_pair}
+use Rattle.stab_frames.proofs.Names.{◌≡◌, ℕ, ◌+◌, refl, sym, ◌∙◌, ap, subst, Bool, false, List, [], ◌∷◌, ◌≤◌, length, take, drop, map, get_or, set, All, list_any, take-take, take-map, drop-map, map-append, set-get_or, All-take, All-drop, take-add, Letter, I, X, Y, Z, PairGate, letter_at, pair_letters, image_pair, Axis, ControlledPair, Step, two, controlled_gate, controlled_step, StepFits, or-left, or-right, plus, PropagationState, GoesOver, GoesWithoutCoins, acts, PairFits, touches_pair}
 use Rattle.stab_gates.specs.declared.gate.PairGate.TheVariants as gate
 use Rattle.stab_instructions.specs.declared.control.ControlledPair.TheVariants as pair
 use Rattle.stab_frames.proofs.ImageLemmas.{pair-image}
-use Rattle.stab_frames.proofs.GoesOverLemmas.{goes-append, freely-none, freely-letters, fits-mapped}
+use Rattle.stab_frames.proofs.GoesOverLemmas.{goes-append, no_coins-none, no_coins-letters, fits-mapped}
 
 -- the pairs are of qubits
 
@@ -44,17 +44,17 @@ image-blank g letters a b ea eb =
     ∙ pair-image g letters a b I I I I ea eb (first-blank g) (second-blank g)
 
 pair-untouched : (n : ℕ) (axis : Axis) (p : ControlledPair) (w : PropagationState) → touches_pair w.letters p ≡ false → length w.letters ≡ n
-    → GoesFreely n (controlled_step axis p ∷ []) w w
+    → GoesWithoutCoins n (controlled_step axis p ∷ []) w w
 pair-untouched n axis (pair.Qubits p) w e size =
     let first = no-letter (get_or w.letters p.0 I) (or-left (acts (get_or w.letters p.0 I)) (acts (get_or w.letters p.1 I)) e) in
     let second = no-letter (get_or w.letters p.1 I) (or-right (acts (get_or w.letters p.0 I)) (acts (get_or w.letters p.1 I)) e) in
-    freely-letters n (two (controlled_gate axis) p.0 p.1) w w w.letters refl size
+    no_coins-letters n (two (controlled_gate axis) p.0 p.1) w w w.letters refl size
     (λ pivots. image-blank (controlled_gate axis) w.letters p.0 p.1 first second) (λ pivots. refl) refl
 pair-untouched n axis (pair.Record k q) w e size = cc
 
 pub pairs-untouched : (n : ℕ) (axis : Axis) (pairs : List ControlledPair) (w : PropagationState) → list_any (touches_pair w.letters) pairs ≡ false → length w.letters ≡ n
-    → GoesFreely n (map (controlled_step axis) pairs) w w
-pairs-untouched n axis [] w e size = freely-none n w size
+    → GoesWithoutCoins n (map (controlled_step axis) pairs) w w
+pairs-untouched n axis [] w e size = no_coins-none n w size
 pairs-untouched n axis (p ∷ pairs) w e size = λ strings free draw placed.
     goes-append n strings free draw (controlled_step axis p ∷ []) (map (controlled_step axis) pairs) w w w
     (pair-untouched n axis p w (or-left (touches_pair w.letters p) (list_any (touches_pair w.letters) pairs) e) size strings free draw placed)
@@ -70,9 +70,9 @@ goes-part n strings free draw f xs part i k old now new front is next =
     (goes-append n strings free draw (map f (take i xs)) (map f (take k (drop i xs))) old now new front
     (subst (λ ys. GoesOver n strings free draw (map f ys) now new) is next))
 
-pub freely-part : {X : Type 0} (n m : ℕ) (f : X → Step) (xs part : List X) (i k : ℕ) (old now new : PropagationState) → GoesFreely n (map f (take i xs)) old now
-    → m ≡ n → part ≡ take k (drop i xs) → GoesFreely m (map f part) now new → GoesFreely n (map f (take (i + k) xs)) old new
-freely-part n m f xs part i k old now new front same is next = λ strings free draw placed.
+pub no_coins-part : {X : Type 0} (n m : ℕ) (f : X → Step) (xs part : List X) (i k : ℕ) (old now new : PropagationState) → GoesWithoutCoins n (map f (take i xs)) old now
+    → m ≡ n → part ≡ take k (drop i xs) → GoesWithoutCoins m (map f part) now new → GoesWithoutCoins n (map f (take (i + k) xs)) old new
+no_coins-part n m f xs part i k old now new front same is next = λ strings free draw placed.
     let here = front strings free draw placed in
     goes-part n strings free draw f xs part i k old now new here is
     (subst (λ j. GoesOver j strings free draw (map f part) now new) same (next strings free draw here.placed))

@@ -10,10 +10,10 @@ pub mod Propagations
 pub mod OtherCoins
 pub mod Starts
 pub mod Ends
-pub mod Fronts
+pub mod FirstSteps
 pub mod PropagatedTableaus
 pub mod StepLaws
-pub mod AgainLaws
+pub mod RepeatedStepLaws
 pub mod PivotLaws
 pub mod RunLaws
 pub mod inner

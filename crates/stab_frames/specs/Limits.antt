@@ -3,8 +3,8 @@
 use Rattle.std.specs.Prelude.{ℕ, ◌+◌, ◌/◌}
 
 -- the most bytes of pivots
-abbrev pub most_bytes : ℕ
-most_bytes = 16777216
+abbrev pub most_pivot_bytes : ℕ
+most_pivot_bytes = 16777216
 
 -- the bytes that a pivot of n letters is counted as: two bits a letter, and what each allocation takes besides
 abbrev pub bytes_of : ℕ → ℕ
@@ -12,4 +12,4 @@ bytes_of n = n / 4 + 128
 
 -- how many strings of n letters are kept at most
 abbrev pub most_strings : ℕ → ℕ
-most_strings n = most_bytes / bytes_of n
+most_strings n = most_pivot_bytes / bytes_of n

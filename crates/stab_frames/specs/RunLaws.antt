@@ -12,30 +12,30 @@ use Rattle.stab_run.specs.ProgramStates.{StepFits}
 use Rattle.stab_run.specs.Cuts.{lengths_of}
 use Rattle.stab_frames.specs.Flips.{unflipped}
 use Rattle.stab_frames.specs.Frames.{Frame, PointsDifferBy, identity_frame}
-use Rattle.stab_frames.specs.RunPivots.{RunPivots, same_coins, changed}
+use Rattle.stab_frames.specs.RunPivots.{RunPivots, same_coins, coins_changed}
 use Rattle.stab_frames.specs.FrameSteps.{frame_over, flips_over}
 use Rattle.stab_frames.specs.PivotsOfSteps.{AreEnough}
 use Rattle.stab_frames.specs.Starts.{letters_on}
-use Rattle.stab_frames.specs.Fronts.{AreFronts, IsFlippedRun, with_letters, edit_frame, edit_flips}
+use Rattle.stab_frames.specs.FirstSteps.{AreFronts, IsFlippedRun, with_letters, edit_frame, edit_flips}
 use Rattle.stab_frames.specs.PropagatedTableaus.{propagated_tableau}
 
 -- after fronts that differ by a frame the same steps make the one run the other, flipped, and come to points that differ by a frame
 abbrev pub FrontsFlip : Type 0
 FrontsFlip =
     (n : ℕ) (coins : ℕ → Bool) (pivots : RunPivots) (old new back : List Step) (f : Frame) (flips : RunOutput) →
-    All (StepFits n) old → All (StepFits n) back → AreFronts n coins (changed coins pivots.changes) old new f flips →
+    All (StepFits n) old → All (StepFits n) back → AreFronts n coins (coins_changed coins pivots.changes) old new f flips →
     AreEnough n coins pivots back f (point_after n coins old origin) →
-    IsFlippedRun n coins (changed coins pivots.changes) (old ++ back) (new ++ back) (joined flips (flips_over n pivots back (point_after n coins old origin).coin f))
+    IsFlippedRun n coins (coins_changed coins pivots.changes) (old ++ back) (new ++ back) (joined flips (flips_over n pivots back (point_after n coins old origin).coin f))
     × PointsDifferBy n (frame_over n pivots back (point_after n coins old origin).coin f) (point_after n coins (old ++ back) origin)
-    (point_after n (changed coins pivots.changes) (new ++ back) origin)
+    (point_after n (coins_changed coins pivots.changes) (new ++ back) origin)
 
 -- with these steps they are fronts again
 abbrev pub FrontsGoOn : Type 0
 FrontsGoOn =
     (n : ℕ) (coins : ℕ → Bool) (pivots : RunPivots) (old new back : List Step) (f : Frame) (flips : RunOutput) →
-    All (StepFits n) old → All (StepFits n) back → AreFronts n coins (changed coins pivots.changes) old new f flips →
+    All (StepFits n) old → All (StepFits n) back → AreFronts n coins (coins_changed coins pivots.changes) old new f flips →
     AreEnough n coins pivots back f (point_after n coins old origin) →
-    AreFronts n coins (changed coins pivots.changes) (old ++ back) (new ++ back)
+    AreFronts n coins (coins_changed coins pivots.changes) (old ++ back) (new ++ back)
     (frame_over n pivots back (point_after n coins old origin).coin f) (joined flips (flips_over n pivots back (point_after n coins old origin).coin f))
 
 -- and so they are with Pauli gates after each, whose letters are multiplied onto the frame
@@ -51,12 +51,12 @@ FrontsTakePaulis =
 abbrev pub CheckpointsTakeFrames : Type 0
 CheckpointsTakeFrames =
     (n : ℕ) (coins : ℕ → Bool) (pivots : RunPivots) (old new back : List Step) (f : Frame) (flips : RunOutput) →
-    All (StepFits n) old → All (StepFits n) back → AreFronts n coins (changed coins pivots.changes) old new f flips →
+    All (StepFits n) old → All (StepFits n) back → AreFronts n coins (coins_changed coins pivots.changes) old new f flips →
     AreEnough n coins pivots back f (point_after n coins old origin) →
     (t : TableauState) → length t.rows ≡ n → SameGroup n (stabilises t) (member (point_after n coins (old ++ back) origin).trace) →
     SameGroup n (stabilises (propagated_tableau (frame_over n pivots back (point_after n coins old origin).coin f).letters t))
-    (member (point_after n (changed coins pivots.changes) (new ++ back) origin).trace)
-    × (lengths_of (outputs n (changed coins pivots.changes) (new ++ back) origin) ≡ lengths_of (outputs n coins (old ++ back) origin))
+    (member (point_after n (coins_changed coins pivots.changes) (new ++ back) origin).trace)
+    × (lengths_of (outputs n (coins_changed coins pivots.changes) (new ++ back) origin) ≡ lengths_of (outputs n coins (old ++ back) origin))
 
 -- Pauli gates instead of others, after the same steps, make such fronts
 abbrev pub PauliFronts : Type 0
@@ -77,4 +77,4 @@ PauliEditsFlip =
 abbrev pub CoinsFlip : Type 0
 CoinsFlip =
     (n : ℕ) (coins : ℕ → Bool) (pivots : RunPivots) (xs : List Step) → All (StepFits n) xs → AreEnough n coins pivots xs (identity_frame n 0) origin →
-    IsFlippedRun n coins (changed coins pivots.changes) xs xs (flips_over n pivots xs 0 (identity_frame n 0))
+    IsFlippedRun n coins (coins_changed coins pivots.changes) xs xs (flips_over n pivots xs 0 (identity_frame n 0))

@@ -5,7 +5,7 @@ use Rattle.std.specs.Prelude.{◌≡◌, ℕ, Bool, true, false, List, Option, S
 use Rattle.stab_gates.specs.declared.letter.Letter.{Letter}
 use Rattle.stab_gates.specs.Letters.{◌⊕◌}
 use Rattle.stab_pauli.specs.Paulis.{Signed, strings_anticommute}
-use Rattle.stab_tableau.specs.Rules.{is_free_by}
+use Rattle.stab_tableau.specs.Rules.{is_random_by}
 use Rattle.stab_tableau.specs.Pivots.{IsPivot}
 
 -- by coin number: a pivot, if the outcome was random, and none if it was fixed; and whether the
@@ -27,12 +27,12 @@ abbrev pub no_strings : (ℕ → Bool) → RunPivots
 no_strings changes = pivots_of (λ t. None) changes
 
 -- coins that differ from others if the bits are 1
-abbrev pub changed : (ℕ → Bool) → (ℕ → Bool) → ℕ → Bool
-changed coins changes t = changes t ⊕ coins t
+abbrev pub coins_changed : (ℕ → Bool) → (ℕ → Bool) → ℕ → Bool
+coins_changed coins changes t = changes t ⊕ coins t
 
 -- a pivot is right of a measurement: none if the outcome is fixed, and else a pivot
 abbrev pub IsPivotOf : ℕ → (Signed → Bool) → Signed → Option (List Letter) → Type 0
-IsPivotOf n member measured None = is_free_by member measured ≡ false
+IsPivotOf n member measured None = is_random_by member measured ≡ false
 IsPivotOf n member measured (Some letters) = IsPivot n member measured letters
 
 -- it is enough for a frame: right, unless the coins differ exactly if the frame anticommutes with what is measured, for then

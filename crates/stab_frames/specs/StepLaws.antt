@@ -12,7 +12,7 @@ use Rattle.stab_run.specs.ProgramStates.{StepFits}
 use Rattle.stab_run.specs.Ends.{AgreeBack}
 use Rattle.stab_frames.specs.Flips.{flipped_output}
 use Rattle.stab_frames.specs.Frames.{Frame, PointsDifferBy, identity_frame, frame_product}
-use Rattle.stab_frames.specs.RunPivots.{RunPivots, pivots_of, changed}
+use Rattle.stab_frames.specs.RunPivots.{RunPivots, pivots_of, coins_changed}
 use Rattle.stab_frames.specs.FrameSteps.{frame_after, frame_over, flips_given, flips_over}
 use Rattle.stab_frames.specs.PivotsOfSteps.{IsEnoughAt, AreEnough}
 
@@ -21,16 +21,16 @@ abbrev pub StepsKeepFrames : Type 0
 StepsKeepFrames =
     (n : ℕ) (coins : ℕ → Bool) (pivots : RunPivots) (x : Step) (f : Frame) (a b : Point) →
     StepFits n x → IsStabiliserGroup n (member a.trace) → IsEnoughAt n pivots x f.letters a → PointsDifferBy n f a b →
-    (given n (changed coins pivots.changes) x b ≡ flipped_output (given n coins x a) (flips_given n pivots x a.coin f))
-    × PointsDifferBy n (frame_after n pivots x a.coin f) (next_point n coins x a) (next_point n (changed coins pivots.changes) x b)
+    (given n (coins_changed coins pivots.changes) x b ≡ flipped_output (given n coins x a) (flips_given n pivots x a.coin f))
+    × PointsDifferBy n (frame_after n pivots x a.coin f) (next_point n coins x a) (next_point n (coins_changed coins pivots.changes) x b)
 
 -- so do steps
 abbrev pub RunsKeepFrames : Type 0
 RunsKeepFrames =
     (n : ℕ) (coins : ℕ → Bool) (pivots : RunPivots) (xs : List Step) (f : Frame) (a b : Point) →
     All (StepFits n) xs → IsStabiliserGroup n (member a.trace) → AreEnough n coins pivots xs f a → PointsDifferBy n f a b →
-    (outputs n (changed coins pivots.changes) xs b ≡ flipped_output (outputs n coins xs a) (flips_over n pivots xs a.coin f))
-    × PointsDifferBy n (frame_over n pivots xs a.coin f) (point_after n coins xs a) (point_after n (changed coins pivots.changes) xs b)
+    (outputs n (coins_changed coins pivots.changes) xs b ≡ flipped_output (outputs n coins xs a) (flips_over n pivots xs a.coin f))
+    × PointsDifferBy n (frame_over n pivots xs a.coin f) (point_after n coins xs a) (point_after n (coins_changed coins pivots.changes) xs b)
 
 -- if steps go from the start the strings that stabilise are a group
 abbrev pub PointsHaveGroups : Type 0

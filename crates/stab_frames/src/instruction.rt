@@ -7,8 +7,8 @@ ghost use Rattle.stab_items.specs.StepValues.{lookbacks_of, steps_shown, HaveDis
 ghost use Rattle.stab_run.specs.Points.{all_coins_of};
 ghost use Rattle.stab_run.specs.ProgramStates.{StepFits};
 ghost use Rattle.stab_frames.specs.Propagations.{IsPlaced};
-ghost use Rattle.stab_frames.specs.inner.Draws.{AsksFree};
-ghost use Rattle.stab_frames.specs.inner.Propagates.{GoesOver, GoesFreely, IsMissing};
+ghost use Rattle.stab_frames.specs.inner.Draws.{AsksRandom};
+ghost use Rattle.stab_frames.specs.inner.Propagates.{GoesOver, GoesWithoutCoins, IsMissing};
 ghost use Rattle.stab_frames.specs.inner.Touches.{PairFits, touches_pair, touches_target};
 
 use crate::draw::Draw;
@@ -48,7 +48,7 @@ pub fn propagate_instruction<D: Draw, C: Coins>(
     ensures counted { by_frame.new ≡ by_frame.old + length (steps_shown steps.entry) }
     ensures length { length propagation.new.letters ≡ length propagation.old.letters }
     ensures same_coins { C.sequence coins.new ≡ C.sequence coins.old }
-    ensures asks { AsksFree known.entry.free.now propagation.old.coin (propagation.old.coin + all_coins_of (steps_shown steps.entry)) (C.asks coins.old) (C.asks coins.new) }
+    ensures asks { AsksRandom known.entry.free.now propagation.old.coin (propagation.old.coin + all_coins_of (steps_shown steps.entry)) (C.asks coins.old) (C.asks coins.new) }
     ensures within { IfOk result (λ count. count ≤ length (steps_shown steps.entry)) }
     ensures goes { IfOk result (λ count. GoesOver (length propagation.old.letters) known.entry.strings.now.strings known.entry.free.now (D.changes known.entry.draw.now (C.sequence coins.old)) (take count (steps_shown steps.entry)) propagation.old propagation.new) }
     ensures missing { IfOk result (λ count. count < length (steps_shown steps.entry) → IsMissing known.entry.strings.now.strings known.entry.free.now (propagation.old.coin + all_coins_of (steps_shown steps.entry))) }
@@ -82,7 +82,7 @@ fn propagate_gates(propagation: &mut Propagation, gate: Gate, qubits: &[Qubit], 
     requires few { by_frame.old + length qubits.now < 2 ^ 63 }
     ensures counted { by_frame.new ≡ by_frame.old + length qubits.now }
     ensures length { length propagation.new.letters ≡ length propagation.old.letters }
-    ensures goes { GoesFreely (length propagation.old.letters) (map (one gate) qubits.now) propagation.old propagation.new }
+    ensures goes { GoesWithoutCoins (length propagation.old.letters) (map (one gate) qubits.now) propagation.old propagation.new }
 {
     *by_frame += qubits.len() as u64;
     for qubit in qubits {
@@ -94,7 +94,7 @@ fn propagate_gates(propagation: &mut Propagation, gate: Gate, qubits: &[Qubit], 
 fn propagate_controlled_pair(propagation: &mut Propagation, axis: Axis, pair: ControlledPair)
     requires fits { StepFits (length propagation.old.letters) (controlled_step axis pair) }
     ensures length { length propagation.new.letters ≡ length propagation.old.letters }
-    ensures goes { GoesFreely (length propagation.old.letters) (controlled_step axis pair ∷ []) propagation.old propagation.new }
+    ensures goes { GoesWithoutCoins (length propagation.old.letters) (controlled_step axis pair ∷ []) propagation.old propagation.new }
 {
     match pair {
         ControlledPair::Qubits(pair) => {
@@ -148,7 +148,7 @@ fn touches_some(letters: &[Letter], pairs: &[ControlledPair]) -> bool
 fn propagate_each_pair(propagation: &mut Propagation, axis: Axis, pairs: &[ControlledPair])
     requires fits { All (StepFits (length propagation.old.letters)) (map (controlled_step axis) pairs.now) }
     ensures length { length propagation.new.letters ≡ length propagation.old.letters }
-    ensures goes { GoesFreely (length propagation.old.letters) (map (controlled_step axis) pairs.now) propagation.old propagation.new }
+    ensures goes { GoesWithoutCoins (length propagation.old.letters) (map (controlled_step axis) pairs.now) propagation.old propagation.new }
 {
     for pair in pairs {
         propagate_controlled_pair(propagation, axis, *pair);
@@ -159,7 +159,7 @@ fn propagate_each_pair(propagation: &mut Propagation, axis: Axis, pairs: &[Contr
 fn propagate_few_pairs(propagation: &mut Propagation, axis: Axis, pairs: &[ControlledPair])
     requires fits { All (StepFits (length propagation.old.letters)) (map (controlled_step axis) pairs.now) }
     ensures length { length propagation.new.letters ≡ length propagation.old.letters }
-    ensures goes { GoesFreely (length propagation.old.letters) (map (controlled_step axis) pairs.now) propagation.old propagation.new }
+    ensures goes { GoesWithoutCoins (length propagation.old.letters) (map (controlled_step axis) pairs.now) propagation.old propagation.new }
 {
     if !touches_some(propagation.letters(), pairs) {
         return;
@@ -178,7 +178,7 @@ fn propagate_pairs(
     requires few { by_frame.old + length pairs.now < 2 ^ 63 }
     ensures counted { by_frame.new ≡ by_frame.old + length pairs.now }
     ensures length { length propagation.new.letters ≡ length propagation.old.letters }
-    ensures goes { GoesFreely (length propagation.old.letters) (map (controlled_step axis) pairs.now) propagation.old propagation.new }
+    ensures goes { GoesWithoutCoins (length propagation.old.letters) (map (controlled_step axis) pairs.now) propagation.old propagation.new }
 {
     *by_frame += pairs.len() as u64;
     if pairs.len() < FEW {
@@ -219,7 +219,7 @@ fn propagate_each_measurement<D: Draw, C: Coins>(
     requires few { D.ahead known.draw.now + (propagation.old.coin + length targets.now) < 2 ^ 63 }
     ensures length { length propagation.new.letters ≡ length propagation.old.letters }
     ensures same_coins { C.sequence coins.new ≡ C.sequence coins.old }
-    ensures asks { AsksFree known.entry.free.now propagation.old.coin (propagation.old.coin + length targets.now) (C.asks coins.old) (C.asks coins.new) }
+    ensures asks { AsksRandom known.entry.free.now propagation.old.coin (propagation.old.coin + length targets.now) (C.asks coins.old) (C.asks coins.new) }
     ensures within { IfOk result (λ count. count ≤ length targets.now) }
     ensures goes { IfOk result (λ count. GoesOver (length propagation.old.letters) known.entry.strings.now.strings known.entry.free.now (D.changes known.entry.draw.now (C.sequence coins.old)) (take count (map (measured measurement) targets.now)) propagation.old propagation.new) }
     ensures missing { IfOk result (λ count. count < length targets.now → IsMissing known.entry.strings.now.strings known.entry.free.now (propagation.old.coin + length targets.now)) }
@@ -251,7 +251,7 @@ fn propagate_few_measurements<D: Draw, C: Coins>(
     requires few { D.ahead known.draw.now + (propagation.old.coin + length targets.now) < 2 ^ 63 }
     ensures length { length propagation.new.letters ≡ length propagation.old.letters }
     ensures same_coins { C.sequence coins.new ≡ C.sequence coins.old }
-    ensures asks { AsksFree known.entry.free.now propagation.old.coin (propagation.old.coin + length targets.now) (C.asks coins.old) (C.asks coins.new) }
+    ensures asks { AsksRandom known.entry.free.now propagation.old.coin (propagation.old.coin + length targets.now) (C.asks coins.old) (C.asks coins.new) }
     ensures within { IfOk result (λ count. count ≤ length targets.now) }
     ensures goes { IfOk result (λ count. GoesOver (length propagation.old.letters) known.entry.strings.now.strings known.entry.free.now (D.changes known.entry.draw.now (C.sequence coins.old)) (take count (map (measured measurement) targets.now)) propagation.old propagation.new) }
     ensures missing { IfOk result (λ count. count < length targets.now → IsMissing known.entry.strings.now.strings known.entry.free.now (propagation.old.coin + length targets.now)) }
@@ -281,7 +281,7 @@ fn propagate_measurements<D: Draw, C: Coins>(
     ensures counted { by_frame.new ≡ by_frame.old + length targets.now }
     ensures length { length propagation.new.letters ≡ length propagation.old.letters }
     ensures same_coins { C.sequence coins.new ≡ C.sequence coins.old }
-    ensures asks { AsksFree known.entry.free.now propagation.old.coin (propagation.old.coin + length targets.now) (C.asks coins.old) (C.asks coins.new) }
+    ensures asks { AsksRandom known.entry.free.now propagation.old.coin (propagation.old.coin + length targets.now) (C.asks coins.old) (C.asks coins.new) }
     ensures within { IfOk result (λ count. count ≤ length targets.now) }
     ensures goes { IfOk result (λ count. GoesOver (length propagation.old.letters) known.entry.strings.now.strings known.entry.free.now (D.changes known.entry.draw.now (C.sequence coins.old)) (take count (map (measured measurement) targets.now)) propagation.old propagation.new) }
     ensures missing { IfOk result (λ count. count < length targets.now → IsMissing known.entry.strings.now.strings known.entry.free.now (propagation.old.coin + length targets.now)) }
@@ -312,7 +312,7 @@ fn propagate_detectors(
     requires few { by_frame.old + length (lookbacks_of detectors) < 2 ^ 63 }
     ensures counted { by_frame.new ≡ by_frame.old + length (lookbacks_of detectors.entry) }
     ensures length { length propagation.new.letters ≡ length propagation.old.letters }
-    ensures goes { OnOk result (GoesFreely (length propagation.old.letters) (map detector (lookbacks_of detectors.entry)) propagation.old propagation.new) }
+    ensures goes { OnOk result (GoesWithoutCoins (length propagation.old.letters) (map detector (lookbacks_of detectors.entry)) propagation.old propagation.new) }
 {
     *by_frame += detectors.len() as u64;
     for position in 0..detectors.len() {

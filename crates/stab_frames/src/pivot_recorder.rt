@@ -51,7 +51,7 @@ impl PivotRecorder {
         ensures string { length string.new.letters ≡ length string.old.letters }
         ensures same_coins { C.sequence coins.new ≡ C.sequence coins.old }
         ensures asks { C.asks coins.new ≤ C.asks coins.old + all_coins_of (steps_shown steps.entry) }
-        ensures asks_free { OnOk result (C.asks coins.new + ones outputs.old.free.items ≤ C.asks coins.old + ones outputs.new.free.items) }
+        ensures asks_random { OnOk result (C.asks coins.new + ones outputs.old.free.items ≤ C.asks coins.old + ones outputs.new.free.items) }
         ensures pivots_length { length self.new.string.letters ≡ tableau.old.qubits }
         ensures strings_length { self.new.strings.qubits ≡ tableau.old.qubits }
         ensures most { self.new.strings.most ≡ self.old.strings.most }
@@ -110,7 +110,7 @@ impl PivotRecorder {
         ensures string { length string.new.letters ≡ length string.old.letters }
         ensures same_coins { C.sequence coins.new ≡ C.sequence coins.old }
         ensures asks { C.asks coins.new ≤ C.asks coins.old + length targets.now }
-        ensures asks_free { OnOk result (C.asks coins.new + ones outputs.old.free.items ≤ C.asks coins.old + ones outputs.new.free.items) }
+        ensures asks_random { OnOk result (C.asks coins.new + ones outputs.old.free.items ≤ C.asks coins.old + ones outputs.new.free.items) }
         ensures pivots_length { length self.new.string.letters ≡ tableau.old.qubits }
         ensures strings_length { self.new.strings.qubits ≡ tableau.old.qubits }
         ensures most { self.new.strings.most ≡ self.old.strings.most }
@@ -151,7 +151,7 @@ impl PivotRecorder {
         ensures string { length string.new.letters ≡ length string.old.letters }
         ensures same_coins { C.sequence coins.new ≡ C.sequence coins.old }
         ensures asks { C.asks coins.new ≤ C.asks coins.old + coins_of (step_shown step.entry) }
-        ensures asks_free { OnOk result (C.asks coins.new + ones outputs.old.free.items ≤ C.asks coins.old + ones outputs.new.free.items) }
+        ensures asks_random { OnOk result (C.asks coins.new + ones outputs.old.free.items ≤ C.asks coins.old + ones outputs.new.free.items) }
         ensures pivots_length { length self.new.string.letters ≡ tableau.old.qubits }
         ensures strings_length { self.new.strings.qubits ≡ tableau.old.qubits }
         ensures most { self.new.strings.most ≡ self.old.strings.most }

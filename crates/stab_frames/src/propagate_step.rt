@@ -13,7 +13,7 @@ ghost use Rattle.stab_items.specs.Steps.{Step, collapse, product, HasDistinctQub
 ghost use Rattle.stab_items.specs.StepValues.{step_shown};
 ghost use Rattle.stab_run.specs.ProgramStates.{StepFits};
 ghost use Rattle.stab_frames.specs.Propagations.{IsPlaced};
-ghost use Rattle.stab_frames.specs.inner.Draws.{AsksFree};
+ghost use Rattle.stab_frames.specs.inner.Draws.{AsksRandom};
 ghost use Rattle.stab_frames.specs.inner.Propagates.{factors_anticommute, IsPropagated, IsMissing, Goes};
 
 use crate::bits::bit_at;
@@ -54,7 +54,7 @@ pub fn propagate_step<D: Draw, C: Coins>(
     ensures counted { by_frame.new ≡ by_frame.old + 1 }
     ensures length { length propagation.new.letters ≡ length propagation.old.letters }
     ensures same_coins { C.sequence coins.new ≡ C.sequence coins.old }
-    ensures asks { AsksFree known.entry.free.now propagation.old.coin (propagation.old.coin + coins_of (step_shown step.entry)) (C.asks coins.old) (C.asks coins.new) }
+    ensures asks { AsksRandom known.entry.free.now propagation.old.coin (propagation.old.coin + coins_of (step_shown step.entry)) (C.asks coins.old) (C.asks coins.new) }
     ensures goes { IfOk result (Goes (length propagation.old.letters) known.entry.strings.now.strings known.entry.free.now (D.changes known.entry.draw.now (C.sequence coins.old)) (step_shown step.entry) propagation.old propagation.new) }
 {
     *by_frame += 1;
@@ -150,7 +150,7 @@ fn propagate_outcome<D: Draw, C: Coins>(
     requires few { D.ahead known.draw.now + propagation.old.coin < 2 ^ 63 }
     ensures length { length propagation.new.letters ≡ length propagation.old.letters }
     ensures same_coins { C.sequence coins.new ≡ C.sequence coins.old }
-    ensures asks { AsksFree known.entry.free.now propagation.old.coin (propagation.old.coin + 1) (C.asks coins.old) (C.asks coins.new) }
+    ensures asks { AsksRandom known.entry.free.now propagation.old.coin (propagation.old.coin + 1) (C.asks coins.old) (C.asks coins.new) }
     ensures passed { IfSome result (λ flipped. IsPropagated known.entry.strings.now.strings known.entry.free.now (D.changes known.entry.draw.now (C.sequence coins.old)) anticommuting flipped propagation.old propagation.new) }
     ensures unchanged { IfNone result (propagation.new ≡ propagation.old) }
     ensures missing { IfNone result (IsMissing known.entry.strings.now.strings known.entry.free.now (propagation.old.coin + 1)) }
@@ -206,7 +206,7 @@ pub fn propagate_collapse<D: Draw, C: Coins>(
     requires few { D.ahead known.draw.now + propagation.old.coin < 2 ^ 63 }
     ensures length { length propagation.new.letters ≡ length propagation.old.letters }
     ensures same_coins { C.sequence coins.new ≡ C.sequence coins.old }
-    ensures asks { AsksFree known.entry.free.now propagation.old.coin (propagation.old.coin + 1) (C.asks coins.old) (C.asks coins.new) }
+    ensures asks { AsksRandom known.entry.free.now propagation.old.coin (propagation.old.coin + 1) (C.asks coins.old) (C.asks coins.new) }
     ensures goes { IfOk result (λ gone. (inverted : Bool) → Goes (length propagation.old.letters) known.entry.strings.now.strings known.entry.free.now (D.changes known.entry.draw.now (C.sequence coins.old)) (collapse letter qubit recorded inverted resets) propagation.old propagation.new gone) }
 {
     let anticommuting = propagation.letter(qubit).anticommutes(letter);
@@ -246,7 +246,7 @@ fn propagate_product<D: Draw, C: Coins>(
     requires few { D.ahead known.draw.now + propagation.old.coin < 2 ^ 63 }
     ensures length { length propagation.new.letters ≡ length propagation.old.letters }
     ensures same_coins { C.sequence coins.new ≡ C.sequence coins.old }
-    ensures asks { AsksFree known.entry.free.now propagation.old.coin (propagation.old.coin + 1) (C.asks coins.old) (C.asks coins.new) }
+    ensures asks { AsksRandom known.entry.free.now propagation.old.coin (propagation.old.coin + 1) (C.asks coins.old) (C.asks coins.new) }
     ensures goes { IfOk result (λ gone. (inverted : Bool) → Goes (length propagation.old.letters) known.entry.strings.now.strings known.entry.free.now (D.changes known.entry.draw.now (C.sequence coins.old)) (product factors.now inverted) propagation.old propagation.new gone) }
 {
     let anticommuting = anticommutes(propagation.letters(), factors);

@@ -334,9 +334,10 @@ fn ones_from(bits: &[bool], from: usize, count: usize) -> usize
 fn repeat_from<T: Copy>(items: &mut Vec<T>, from: usize) -> Result<(), AllocError>
     ensures value { OnOk result (items.new.items ≡ items.old.items ++ drop from items.old.items) }
 {
-    let count = items.len();
-    if from < count {
-        items.extend_from_within(from..count)?;
+    if from < items.len() {
+        // As a whole: `extend_from_within` copies one item after another.
+        let again = Vec::from_slice(*items.allocator(), &items[from..])?;
+        items.extend_from_slice(again.as_slice())?;
     }
     Ok(())
 }

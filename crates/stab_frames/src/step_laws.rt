@@ -1,7 +1,7 @@
 //! Laws of steps: what becomes of a frame on the way.
 
 ghost use Rattle.stab_frames.specs.StepLaws.{FramesAdd, FramesCompose, FramesEnd, PointsHaveGroups, RunsKeepFrames, StepsKeepFrames};
-ghost use Rattle.stab_frames.specs.AgainLaws.{StepsComePropagated};
+ghost use Rattle.stab_frames.specs.RepeatedStepLaws.{StepsComePropagated};
 
 /// From two points that differ by a frame a step comes to two that differ by the frame after it, and
 /// what it gives at the one is what it gives at the other, flipped.

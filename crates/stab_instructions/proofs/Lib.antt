@@ -7,6 +7,6 @@ mod SearchLemmas
 pub mod WordLemmas
 pub mod PieceLemmas
 pub mod TargetLemmas
-pub mod FreeLemmas
+pub mod LackLemmas
 pub mod SureLemmas
 pub mod GoodLineLemmas

@@ -10,7 +10,7 @@ use Rattle.stab_instructions.proofs.BoolLemmas.{and_left, and_right}
 use Rattle.stab_instructions.proofs.WordLemmas.{eighteen_digits}
 use Rattle.stab_instructions.proofs.TargetLemmas.{lookback_in_range, split_some}
 pub use Rattle.stab_instructions.specs.Rules.{IsQubit, IsMeasured, IsCount, IsPair, IsFactor, IsFilled, IsProduct, IsControlled, IsCoordinate, IsObservable, IsGoodKind, IsTag, IsGoodLine}
-use Rattle.stab_instructions.proofs.FreeLemmas.{Each, Free, free_take, free_drop, free_before, free_tag}
+use Rattle.stab_instructions.proofs.LackLemmas.{Each, Lacks, lacks_take, lacks_drop, lacks_before, lacks_tag}
 
 -- if there is a result, it has P
 abbrev OnOk' : {A : Type 0} → (A → Type 0) → Result A Refusal → Type 0
@@ -227,14 +227,14 @@ kind_sure instruction.ShiftCoords s =
 
 -- the parts of a text have the text's bytes alone
 abbrev IsCutAt : ℕ → List ℕ → List ℕ × List ℕ → Type 0
-IsCutAt closing bs p = Free (is_byte closing) p.0 × ((q : ℕ → Bool) → Free q bs → Free q p.0 × Free q p.1)
+IsCutAt closing bs p = Lacks (is_byte closing) p.0 × ((q : ℕ → Bool) → Lacks q bs → Lacks q p.0 × Lacks q p.1)
 
 bracketed_sure : (opening closing : ℕ) (bs : List ℕ) → IsSure (IsCutAt closing bs) (bracketed opening closing bs)
 unfolding bracketed
 bracketed_sure opening closing bs =
     sure_if (IsCutAt closing bs) (starts_with_byte bs opening) _ _
     (λ e. sure_if (IsCutAt closing bs) (has_byte closing (drop 1 bs)) _ _
-    (λ f. sure_ok (IsCutAt closing bs) _ (free_before (is_byte closing) (drop 1 bs), λ q h. (free_take q _ (drop 1 bs) (free_drop q 1 bs h), free_drop q _ (drop 1 bs) (free_drop q 1 bs h))))
+    (λ f. sure_ok (IsCutAt closing bs) _ (lacks_before (is_byte closing) (drop 1 bs), λ q h. (lacks_take q _ (drop 1 bs) (lacks_drop q 1 bs h), lacks_drop q _ (drop 1 bs) (lacks_drop q 1 bs h))))
     (λ f. sure_err (IsCutAt closing bs) _))
     (λ e. sure_ok (IsCutAt closing bs) ([], bs) (tt, λ q h. (tt, h)))
 
@@ -247,13 +247,13 @@ shaped_sure content tag arguments t =
     (Ok (record { name = take_while is_name_byte content; tag = tag; arguments = arguments.0; targets = without_brace arguments.1; opens = ends_with_byte arguments.1 123 }))
     BadLine (sure_ok HasTag _ t)
 
-shape_sure : (content : List ℕ) → Free (is_byte 10) content → Free (is_byte 35) content → IsSure HasTag (shape_of content)
+shape_sure : (content : List ℕ) → Lacks (is_byte 10) content → Lacks (is_byte 35) content → IsSure HasTag (shape_of content)
 unfolding shape_of
 shape_sure content f g =
     let rest = drop (prefix_len is_name_byte content) content in
     sure_bind (IsCutAt 93 rest) HasTag (bracketed 91 93 rest) (after_tag content) (bracketed_sure 91 93 rest)
     (λ tag p. sure_bind (IsCutAt 41 tag.1) HasTag (bracketed 40 41 tag.1) (shaped content tag.0) (bracketed_sure 40 41 tag.1)
-    (λ arguments q. shaped_sure content tag.0 arguments (free_tag tag.0 (p.1 (is_byte 10) (free_drop (is_byte 10) _ content f)).0 (p.1 (is_byte 35) (free_drop (is_byte 35) _ content g)).0 p.0)))
+    (λ arguments q. shaped_sure content tag.0 arguments (lacks_tag tag.0 (p.1 (is_byte 10) (lacks_drop (is_byte 10) _ content f)).0 (p.1 (is_byte 35) (lacks_drop (is_byte 35) _ content g)).0 p.0)))
 
 only_sure : (counts : List (Option ℕ)) → Each IsSomeCount counts → IsSomeCount (only_count counts)
 only_sure [] f = tt
@@ -273,7 +273,7 @@ line_sure s (name.Instruction i) t =
     sure_bind IsGoodKind IsGoodLine (kind_of i s) _ (kind_sure i s)
     (λ k p. sure_if IsGoodLine s.opens _ _ (λ e. sure_err IsGoodLine _) (λ e. sure_ok IsGoodLine (line.Operation (record { kind = k; tag = s.tag })) (p, t)))
 
-pub meaning_sure : (content : List ℕ) → Free (is_byte 10) content → Free (is_byte 35) content → IsSure IsGoodLine (meaning_of content)
+pub meaning_sure : (content : List ℕ) → Lacks (is_byte 10) content → Lacks (is_byte 35) content → IsSure IsGoodLine (meaning_of content)
 unfolding meaning_of
 meaning_sure content f g =
     sure_if IsGoodLine (length content == 0) _ _ (λ e. sure_ok IsGoodLine Blank tt)

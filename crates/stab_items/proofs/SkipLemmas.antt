@@ -35,32 +35,32 @@ jumps c k steps count rest ss others h kept e few =
     ∙ drop-append-add (rounds k ss) (rounds (c - k) ss ++ others) rest
 
 -- no instruction is under way
-pub free_left : (w : Walk) → w.kind ≡ None → walk_left w ≡ ahead w
-free_left w e = ap (λ k. drop w.within (kind_steps k) ++ ahead w) e ∙ ap (λ l. l ++ ahead w) (drop_none w.within)
+pub no_kind_left : (w : Walk) → w.kind ≡ None → walk_left w ≡ ahead w
+no_kind_left w e = ap (λ k. drop w.within (kind_steps k) ++ ahead w) e ∙ ap (λ l. l ++ ahead w) (drop_none w.within)
 
-same_free : (old new : Walk) → SameKind old new → old.kind ≡ None → new.kind ≡ None
-same_free old new s e = s.kind ∙ e
+same_no_kind : (old new : Walk) → SameKind old new → old.kind ≡ None → new.kind ≡ None
+same_no_kind old new s e = s.kind ∙ e
 
 -- past an instruction
 pub passes_steps : (w : Walk) (steps : List Step) (n count : ℕ) → w.kind ≡ None → n ≡ length steps → n ≤ count → drop (count - n) (walk_left w) ≡ drop count (steps ++ ahead w)
-passes_steps w steps n count free len enough =
+passes_steps w steps n count no_kind len enough =
     let at : length steps + (count - n) ≡ count = omega arith in
-    ap (drop (count - n)) (free_left w free) ∙ sym (drop-append-add steps (ahead w) (count - n)) ∙ ap (λ k. drop k (steps ++ ahead w)) at
+    ap (drop (count - n)) (no_kind_left w no_kind) ∙ sym (drop-append-add steps (ahead w) (count - n)) ∙ ap (λ k. drop k (steps ++ ahead w)) at
 
 -- into a block
 pub jumps_in : (a c : Walk) (rs k steps count rest : ℕ) (body : Items) → a.kind ≡ None → SameKind a c → k ≤ rs → steps ≡ min (length (unroll body)) 1048577 → count ≡ k * steps + rest → count ≤ 1048576 → k < rs
     → ahead c ≡ (unroll body ++ rounds (rs - k - 1) (unroll body)) ++ ahead a → drop rest (walk_left c) ≡ drop count (rounds rs (unroll body) ++ ahead a)
-jumps_in a c rs k steps count rest body free s h kept cut few some left =
+jumps_in a c rs k steps count rest body no_kind s h kept cut few some left =
     let pos : 0 < rs - k = omega arith in
-    ap (drop rest) (free_left c (same_free a c s free) ∙ left ∙ ap (λ l. l ++ ahead a) (sym (more_rounds (rs - k) (unroll body) pos)))
+    ap (drop rest) (no_kind_left c (same_no_kind a c s no_kind) ∙ left ∙ ap (λ l. l ++ ahead a) (sym (more_rounds (rs - k) (unroll body) pos)))
     ∙ sym (jumps rs k steps count rest (unroll body) (ahead a) h kept cut few)
 
 -- past a block
 pub jumps_past : (a : Walk) (rs k steps count rest : ℕ) (body : Items) → a.kind ≡ None → k ≤ rs → steps ≡ min (length (unroll body)) 1048577 → count ≡ k * steps + rest → count ≤ 1048576 → rs ≤ k
     → drop rest (walk_left a) ≡ drop count (rounds rs (unroll body) ++ ahead a)
-jumps_past a rs k steps count rest body free h kept cut few all =
+jumps_past a rs k steps count rest body no_kind h kept cut few all =
     let none : rs - k ≡ 0 = omega arith in
-    ap (drop rest) (free_left a free ∙ ap (λ n. rounds n (unroll body) ++ ahead a) (sym none))
+    ap (drop rest) (no_kind_left a no_kind ∙ ap (λ n. rounds n (unroll body) ++ ahead a) (sym none))
     ∙ sym (jumps rs k steps count rest (unroll body) (ahead a) h kept cut few)
 
 -- all steps were left out that there are

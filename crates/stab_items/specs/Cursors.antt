@@ -2,8 +2,6 @@
 -- Source: this project's own.
 use Rattle.std.specs.Prelude.{List}
 use Rattle.stab_items.specs.Steps.{Step}
-pub use Rattle.stab_items.specs.Steps.{HasDistinctQubits}
-pub use Rattle.stab_items.specs.StepValues.{step_shown, shown_step, lookbacks_of, steps_shown, HaveDistinctQubits}
 
 -- what contracts see of a cursor: all steps of its circuit, and those that are left
 pub record CursorState : Type 0 where

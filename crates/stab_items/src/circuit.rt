@@ -57,9 +57,8 @@ impl Circuit {
     ghost use Rattle.std.specs.Prelude.{◌≡◌, ◌≤◌, [], All, min, length, IfOk};
     ghost use Rattle.stab_items.specs.Items.{listed, depth, AreGood};
     ghost use Rattle.stab_gates.specs.Limits.{most_qubits};
-    ghost use Rattle.stab_items.specs.Steps.{unroll, records_of, detectors_of, qubits_of, observables_of, most_steps, steps_cap, check_of, check_within, Checks};
+    ghost use Rattle.stab_items.specs.Steps.{unroll, records_of, detectors_of, qubits_of, observables_of, most_steps, steps_cap, check_of, check_within, Checks, HasDistinctQubits};
     ghost use Rattle.stab_io.specs.Refusals.{Refuses};
-    ghost use Rattle.stab_items.specs.Cursors.{HasDistinctQubits};
     ghost use Rattle.stab_items.specs.Views.{circuit_items};
     ghost use Rattle.stab_items.specs.inner.Stretches.{AreStretches};
 

@@ -41,9 +41,9 @@ impl<'a> Model for Cursor<'a> {
 impl<'a> Cursor<'a> {
     ghost use Rattle.std.specs.Prelude.{◌≡◌, ◌≤◌, ◌<◌, None, [], ◌∷◌, ◌++◌, length, take, drop, All, IfOk, IfErr, IfSome, IfNone};
     ghost use Rattle.stab_io.specs.declared.refusal.Refusal.TheVariants.{OutOfMemory};
-    ghost use Rattle.stab_items.specs.Steps.{check_of, unroll};
+    ghost use Rattle.stab_items.specs.Steps.{check_of, unroll, HasDistinctQubits};
     ghost use Rattle.stab_items.specs.Views.{circuit_items};
-    ghost use Rattle.stab_items.specs.Cursors.{step_shown, steps_shown, HasDistinctQubits, HaveDistinctQubits};
+    ghost use Rattle.stab_items.specs.StepValues.{step_shown, steps_shown, HaveDistinctQubits};
 
     /// The steps of a circuit from this one on, counted from 0.
     ///

@@ -22,11 +22,11 @@ impl Model for Path {
 
     ghost Value = { PathValue };
 
-    ghost use Rattle.stab_items.specs.inner.Places.{path_of, kept_path, kept_path_of, IsPadded};
+    ghost use Rattle.stab_items.specs.inner.Places.{path_of, kept_path, kept_path_of, IsPaddedPath};
 
     ghost view = { path_of };
 
-    ghost invariant = { IsPadded };
+    ghost invariant = { IsPaddedPath };
 
     ghost inverse = { kept_path };
 

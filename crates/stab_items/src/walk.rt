@@ -1,5 +1,6 @@
 ghost use Rattle.std.specs.Prelude.{◌≡◌, ◌<◌, ◌+◌, ◌^◌, slice_get, IfSome};
-ghost use Rattle.stab_items.specs.Cursors.{step_shown, shown_step, HasDistinctQubits};
+ghost use Rattle.stab_items.specs.StepValues.{step_shown, shown_step};
+ghost use Rattle.stab_items.specs.Steps.{HasDistinctQubits};
 ghost use Rattle.stab_items.specs.inner.Walks.{kind_steps};
 
 mod same;
@@ -58,8 +59,8 @@ impl Drop for Walk<'_> {
 impl<'a> Walk<'a> {
     ghost use Rattle.std.specs.Prelude.{◌≡◌, ◌≤◌, ◌<◌, ◌+◌, ◌∷◌, ◌++◌, [], Some, None, length, drop, map, IfOk, IfSome, IfNone};
     ghost use Rattle.stab_items.specs.Items.{depth, listed};
-    ghost use Rattle.stab_items.specs.Steps.{unroll, detector, rounds as rounds_of};
-    ghost use Rattle.stab_items.specs.Cursors.{step_shown, lookbacks_of, steps_shown, HasDistinctQubits, HaveDistinctQubits};
+    ghost use Rattle.stab_items.specs.Steps.{unroll, detector, rounds as rounds_of, HasDistinctQubits};
+    ghost use Rattle.stab_items.specs.StepValues.{step_shown, lookbacks_of, steps_shown, HaveDistinctQubits};
     ghost use Rattle.stab_items.specs.inner.Walks.{kind_steps, ahead, walk_left, walk_weight, weight_at, IsItemOf, IsWalk, SameKind, Takes, GoesOn, Reaches};
 
     /// A walk over items from a position on, with room for every level.

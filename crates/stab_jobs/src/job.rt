@@ -64,12 +64,12 @@ pub enum Question {
     Errors(SearchedLayout),
 }
 
-/// How a table of faults or coins is written.
+/// How a table of single errors or coins is written.
 #[derive(Clone, Copy, Debug, PartialEq, Eq)]
 pub enum FaultLayout {
-    /// A line for each fault or coin: where it is, its name, and what it flips.
+    /// A line for each single error or coin: where it is, its name, and what it flips.
     Lines,
-    /// A shot for each fault or coin, whose bits are 1 if it flips them.
+    /// A shot for each single error or coin, whose bits are 1 if it flips them.
     Shots(Format),
 }
 
@@ -95,7 +95,7 @@ pub enum Command {
     Deterministic {
         format: Format,
     },
-    /// Writes which detectors and observables each fault flips, at the sites that the circuit marks
+    /// Writes which detectors and observables each single error flips, at the sites that the circuit marks
     /// or `everywhere`. A circuit in which one is not the same for all random bits is refused, unless
     /// `deterministic_only` leaves such bits out.
     Faults {

@@ -1,7 +1,7 @@
 -- One block multiplied by another, of the same slice of words or of its own.
 use Rattle.stab_pauli.proofs.Names.{◌≡◌, ℕ, ◌+◌, ◌*◌, ◌<◌, ◌≤◌, refl, sym, ◌∙◌, ap, List, ◌++◌, length, get_or, take, drop, inl, inr, arith, bit_xor, bit_and, zip2, chunk, put_chunk, mul-le-mul_left, take-append_seam, drop-append_seam, ext_get_or, take_all, get_or-zip2, length-zip2, length-chunk, get_or-chunk, length-put_chunk, get_or-put_chunk_below, get_or-put_chunk_at, get_or-put_chunk_above, Zero, phase_of_sign, words_odd, xor_words, strings_meet, row_letters, phase_of_sign-injective}
 use Rattle.stab_pauli.proofs.PackedLemmas.{packed_meet}
-use Rattle.stab_pauli.proofs.SwapLemmas.{Place, position}
+use Rattle.stab_pauli.proofs.SwapLemmas.{Side, position}
 use Rattle.stab_pauli.proofs.RowLemmas.{AddsUp-meet, IsPhaseBefore-more, IsPhaseBefore-all}
 
 -- a part of a part
@@ -85,7 +85,7 @@ module _ (a b s : ℕ) (ws others : List ℕ) (la : a + (s + s) ≤ length ws) (
   unfolding half
   half_size = length-put_chunk a ws first
 
-  by_position : (k : ℕ) → Place a s k → Place (a + s) s k → get_or (put_chunk (a + s) half second) k 0 ≡ get_or (put_chunk a ws whole) k 0
+  by_position : (k : ℕ) → Side a s k → Side (a + s) s k → get_or (put_chunk (a + s) half second) k 0 ≡ get_or (put_chunk a ws whole) k 0
   unfolding half
   by_position k (inr (j, lt, e)) p = rw e
       (get_or-put_chunk_below (a + s) half second (a + j) 0 (omega arith)

@@ -3,7 +3,7 @@ use Rattle.stab_pauli.proofs.Names.{◌≡◌, ℕ, zero, suc, ◌+◌, ◌*◌,
 use Rattle.std.specs.Bool.{IsTrue}
 use Rattle.stab_pauli.proofs.PowerLemmas.{power_determined, power_of-determines}
 use Rattle.stab_pauli.proofs.BitLemmas.{two_cases, below_two}
-use Rattle.stab_pauli.proofs.PlaceLemmas.{has_x_bits}
+use Rattle.stab_pauli.proofs.PositionLemmas.{has_x_bits}
 use Rattle.stab_pauli.proofs.PackedLemmas.{length-word_letters}
 use Rattle.stab_pauli.proofs.RowLemmas.{length-front, length-second, length-rest, length-block}
 use Rattle.stab_pauli.proofs.TableLemmas.{length-full_rows}

@@ -9,7 +9,7 @@ pub use Rattle.stab_pauli.proofs.OnesLemmas.{words_odd-fold, word_odd-all, word_
 pub use Rattle.stab_pauli.proofs.PackedLemmas.{order_phase-step, meet_phase-step, power_step}
 pub use Rattle.stab_pauli.proofs.PackingLemmas.{sparse-cut, sparse-few, sparse-following, blocks-next, sparse-kept, sparse-blank, blank_block}
 pub use Rattle.stab_pauli.proofs.PaddedLemmas.{view_of, lies_of, is_of, length-view, written_view, alike, sign_read, position_in_row, IsView, same_numbers}
-pub use Rattle.stab_pauli.proofs.PlaceLemmas.{letter_at_position, row_letters-set}
+pub use Rattle.stab_pauli.proofs.PositionLemmas.{letter_at_position, row_letters-set}
 pub use Rattle.stab_pauli.proofs.PowerLemmas.{fixed_sign, powers_differ}
 pub use Rattle.stab_pauli.proofs.RowLemmas.{put_middle, put_front, put_back, IsRewritten-part, AddsUp-order, IsPhaseBefore-more, IsPhaseBefore-all, order_phase-is, IsPhaseBefore, order_phase, IsXorBefore-two, AddsUp-meet, meet_phase, AddsUp-power, power_phase, length-row}
 pub use Rattle.stab_pauli.proofs.RowProductLemmas.{product_of, times_i_of, product_seen, times_i_seen, product_viewed, times_i_viewed, string_viewed, block_viewed}

@@ -3,7 +3,7 @@ use Rattle.stab_pauli.proofs.Names.{◌≡◌, ◌≢◌, ℕ, ◌+◌, ◌*◌,
 use Rattle.stab_pauli.proofs.MaskLemmas.{bit-chosen, bit-unchosen}
 use Rattle.stab_pauli.proofs.NextLetterLemmas.{blank_letter, letter_there}
 use Rattle.stab_pauli.proofs.PaddedLemmas.{length-string}
-use Rattle.stab_pauli.proofs.PlaceLemmas.{x_position, bits_letter, letter_at_position}
+use Rattle.stab_pauli.proofs.PositionLemmas.{x_position, bits_letter, letter_at_position}
 use Rattle.stab_pauli.proofs.XPartLemmas.{before, blank_after}
 
 -- the letters of a word

@@ -4,7 +4,7 @@ use Rattle.std.specs.Prelude.{◌-◌}
 use Rattle.stab_pauli.proofs.BitLemmas.{two_cases}
 use Rattle.stab_pauli.proofs.MaskLemmas.{clash}
 use Rattle.stab_pauli.proofs.BlankLemmas.{fits}
-use Rattle.stab_pauli.proofs.PlaceLemmas.{x_position, bits_letter, letter_at_position}
+use Rattle.stab_pauli.proofs.PositionLemmas.{x_position, bits_letter, letter_at_position}
 use Rattle.stab_pauli.proofs.XPartLemmas.{before, blank_after}
 
 -- bits of a word after the first s

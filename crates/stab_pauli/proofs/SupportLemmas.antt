@@ -4,7 +4,7 @@ use Rattle.stab_pauli.proofs.MaskLemmas.{clash, none-chosen}
 use Rattle.stab_pauli.proofs.PowerLemmas.{strings_meet-append}
 use Rattle.stab_pauli.proofs.PackedLemmas.{length-packed}
 use Rattle.stab_pauli.proofs.RowLemmas.{length-front, length-second, length-rest}
-use Rattle.stab_pauli.proofs.PlaceLemmas.{same_or_not}
+use Rattle.stab_pauli.proofs.PositionLemmas.{same_or_not}
 use Rattle.stab_pauli.proofs.BlankLemmas.{row-none}
 use Rattle.stab_pauli.proofs.SwapLemmas.{get_or-outside}
 use Rattle.stab_pauli.proofs.BlockLemmas.{chunk-in, length-product, get_or-product}

@@ -1,7 +1,7 @@
 -- The support of a string, by blocks: a mask covers its words if and only if it covers its letters.
 use Rattle.stab_pauli.proofs.Names.{◌≡◌, ℕ, ◌+◌, ◌*◌, ◌/◌, ◌%◌, ◌^◌, ◌<◌, ◌≤◌, false, sym, ◌∙◌, ap, List, length, get_or, take, drop, replicate, arith, refl, subst, inl, inr, ◌⊎◌, chunk, ext_get_or, get_or-replicate, get_or_past, length-replicate, length-chunk, get_or-chunk, I, chooses, CoversSupport, word_letters, AreShort, row_letters, IsRow, CoversLetters}
 use Rattle.stab_pauli.proofs.RowLemmas.{length-row}
-use Rattle.stab_pauli.proofs.PlaceLemmas.{get_or-row}
+use Rattle.stab_pauli.proofs.PositionLemmas.{get_or-row}
 use Rattle.stab_pauli.proofs.BlankLemmas.{row-none}
 use Rattle.stab_pauli.proofs.PaddedLemmas.{length-string}
 use Rattle.stab_pauli.proofs.XPartLemmas.{before}

@@ -2,18 +2,18 @@
 use Rattle.stab_pauli.proofs.Names.{◌≡◌, ℕ, ◌+◌, ◌-◌, ◌<◌, ◌≤◌, sym, ◌∙◌, ap, List, length, get_or, arith, inl, inr, ◌⊎◌, chunk, put_chunk, ext_get_or, cases_order, length-chunk, get_or-chunk, length-put_chunk, get_or-put_chunk_below, get_or-put_chunk_at, get_or-put_chunk_above, swapped_words}
 
 -- before a part, in it, or after it
-abbrev pub Place : ℕ → ℕ → ℕ → Type 0
-Place a s i = ((i < a) ⊎ (a + s ≤ i)) ⊎ ((j : ℕ) × (j < s) × (i ≡ a + j))
+abbrev pub Side : ℕ → ℕ → ℕ → Type 0
+Side a s i = ((i < a) ⊎ (a + s ≤ i)) ⊎ ((j : ℕ) × (j < s) × (i ≡ a + j))
 
-pub position : (a s i : ℕ) → Place a s i
+pub position : (a s i : ℕ) → Side a s i
 position a s i = by_front (cases_order i a)
   where
-    inside : a ≤ i → (i ≡ a + s) ⊎ ((i < a + s) ⊎ (a + s < i)) → Place a s i
+    inside : a ≤ i → (i ≡ a + s) ⊎ ((i < a + s) ⊎ (a + s < i)) → Side a s i
     inside le (inl e) = inl (inr (omega arith))
     inside le (inr (inl lt)) = inr (i - a, omega arith, omega arith)
     inside le (inr (inr gt)) = inl (inr (omega arith))
 
-    by_front : (i ≡ a) ⊎ ((i < a) ⊎ (a < i)) → Place a s i
+    by_front : (i ≡ a) ⊎ ((i < a) ⊎ (a < i)) → Side a s i
     by_front (inl e) = inside (omega arith) (cases_order i (a + s))
     by_front (inr (inl lt)) = inl (inl lt)
     by_front (inr (inr gt)) = inside (omega arith) (cases_order i (a + s))
@@ -93,7 +93,7 @@ swapped-more a b k m ws la lb h =
     from_first : (j : ℕ) → j < k → (a + j < a + k) ⊎ (a + k + m ≤ a + j)
     from_first j lt = inl (omega arith)
 
-    at : (i : ℕ) → Place a k i → Place b k i → Place (a + k) m i → Place (b + k) m i
+    at : (i : ℕ) → Side a k i → Side b k i → Side (a + k) m i → Side (b + k) m i
         → get_or (swapped_words (a + k) (b + k) m now) i 0 ≡ get_or (swapped_words a b (k + m) ws) i 0
     at i (inr (j, lt, e)) pb pc pd = rw e
         (get_or-swapped_other (a + k) (b + k) m now (a + j) na nb (inl (omega arith)) (first_disjoint h)

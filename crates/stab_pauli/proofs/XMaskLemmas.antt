@@ -1,7 +1,7 @@
 -- Which letters of a word are X or Y, by a mask, and at which positions any of several rows has X, by the masks of all.
 use Rattle.stab_pauli.proofs.Names.{◌≡◌, ℕ, ◌+◌, ◌-◌, ◌*◌, ◌/◌, ◌%◌, ◌<◌, ◌≤◌, Bool, true, sym, ◌∙◌, ap, List, length, get_or, arith, below_more, inl, inr, ◌⊎◌, bit_or, cases_lt, I, has_x, chooses, row_letters}
 use Rattle.stab_pauli.proofs.MaskLemmas.{chosen-first, chosen-second}
-use Rattle.stab_pauli.proofs.PlaceLemmas.{x_position, has_x_at_position}
+use Rattle.stab_pauli.proofs.PositionLemmas.{x_position, has_x_at_position}
 
 -- the letters of a word, by its X bits
 pub x-mask : (m : ℕ) (row : List ℕ) (w at k : ℕ) → length row ≡ 8 * m → w < 4 * m → at ≡ 8 * (w / 4) + w % 4 → k < 64

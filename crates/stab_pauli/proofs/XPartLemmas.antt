@@ -4,7 +4,7 @@ use Rattle.stab_pauli.proofs.BlankLemmas.{fits}
 use Rattle.stab_pauli.proofs.RowLemmas.{length-row}
 use Rattle.stab_pauli.proofs.PaddedLemmas.{length-string}
 use Rattle.std.specs.Prelude.{replicate, ◌-◌}
-use Rattle.stab_pauli.proofs.PlaceLemmas.{x_position, has_x_at_position}
+use Rattle.stab_pauli.proofs.PositionLemmas.{x_position, has_x_at_position}
 
 -- a position before k, or at k or later
 pub before : (j k : ℕ) → (j < k) ⊎ (k ≤ j)

@@ -1,7 +1,7 @@
 -- Conjugated steps: if two points differ by a frame, and the frame went over the steps from the one with the coins of the other, what they give at
 -- the other is what they gave at the one, flipped, and where they end differs by the frame.
 use Rattle.stab_recording.proofs.Names.{◌≡◌, ℕ, ◌+◌, sym, ◌∙◌, subst, Bool, false, List, Option, take, drop, All, arith, Letter, Step, looks_too_far, Point, RunOutput, point_after, outputs, all_coins_of, StepFits, with_coin, flipped_output, frame_over, flips_over, AreTrue, RunPivots, AreEnough, PropagationState, frame_at, PropagatesWith, DiffersBack, ArePropagatedOver, coins_from, pivots_between, PropagatesToOthers, come-conjugated, gone-over-seen, flips_since}
-use Rattle.stab_recording.proofs.FlippedLemmas.{flips-free, since-joined}
+use Rattle.stab_recording.proofs.FlippedLemmas.{flips-random, since-joined}
 
 -- coins from the first on are all
 pub all-coins : (d : ℕ) (coins : ℕ → Bool) → d ≡ 0 → coins_from d coins ≡ coins
@@ -37,7 +37,7 @@ module _ (n window base da db : ℕ) (coins : ℕ → Bool) (strings : ℕ → O
       × (v.coin ≡ w.coin + all_coins_of xs)
   comes-over = (
     come.0
-        ∙ since-joined (outputs n coins xs a) frame_flips w v (all_coins_of xs) (flips-free n pivots xs w.coin (frame_at base w)) (went.0.flips base),
+        ∙ since-joined (outputs n coins xs a) frame_flips w v (all_coins_of xs) (flips-random n pivots xs w.coin (frame_at base w)) (went.0.flips base),
     subst (λ f. DiffersBack n window f (point_after n coins xs a) (point_after n coins xs b)) (sym (went.0.frame base)) come.1,
     come.2,
     went.0.coin,

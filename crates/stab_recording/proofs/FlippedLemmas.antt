@@ -8,19 +8,19 @@ flipped-zeros (bit ∷ bits) zero = refl
 flipped-zeros (bit ∷ bits) (suc m) = ap (λ more. bit ∷ more) (flipped-zeros bits m)
 
 -- no flag is flipped
-pub flips-free : (n : ℕ) (pivots : RunPivots) (xs : List Step) (coin : ℕ) (f : Frame) → (flips_over n pivots xs coin f).free ≡ replicate (all_coins_of xs) false
-flips-free n pivots [] coin f = refl
-flips-free n pivots (one g q ∷ xs) coin f = flips-free n pivots xs (coin + 0) (frame_after n pivots (one g q) coin f) ∙ ap (λ m. replicate m false) (omega arith)
-flips-free n pivots (two g x y ∷ xs) coin f = flips-free n pivots xs (coin + 0) (frame_after n pivots (two g x y) coin f) ∙ ap (λ m. replicate m false) (omega arith)
-flips-free n pivots (controlled l j q ∷ xs) coin f = flips-free n pivots xs (coin + 0) (frame_after n pivots (controlled l j q) coin f) ∙ ap (λ m. replicate m false) (omega arith)
-flips-free n pivots (collapse l q recorded inverted resets ∷ xs) coin f =
-    ap (λ bits. false ∷ bits) (flips-free n pivots xs (coin + 1) (frame_after n pivots (collapse l q recorded inverted resets) coin f))
+pub flips-random : (n : ℕ) (pivots : RunPivots) (xs : List Step) (coin : ℕ) (f : Frame) → (flips_over n pivots xs coin f).free ≡ replicate (all_coins_of xs) false
+flips-random n pivots [] coin f = refl
+flips-random n pivots (one g q ∷ xs) coin f = flips-random n pivots xs (coin + 0) (frame_after n pivots (one g q) coin f) ∙ ap (λ m. replicate m false) (omega arith)
+flips-random n pivots (two g x y ∷ xs) coin f = flips-random n pivots xs (coin + 0) (frame_after n pivots (two g x y) coin f) ∙ ap (λ m. replicate m false) (omega arith)
+flips-random n pivots (controlled l j q ∷ xs) coin f = flips-random n pivots xs (coin + 0) (frame_after n pivots (controlled l j q) coin f) ∙ ap (λ m. replicate m false) (omega arith)
+flips-random n pivots (collapse l q recorded inverted resets ∷ xs) coin f =
+    ap (λ bits. false ∷ bits) (flips-random n pivots xs (coin + 1) (frame_after n pivots (collapse l q recorded inverted resets) coin f))
     ∙ ap (λ m. replicate m false) {x = suc (all_coins_of xs)} (omega arith)
-flips-free n pivots (product factors inverted ∷ xs) coin f =
-    ap (λ bits. false ∷ bits) (flips-free n pivots xs (coin + 1) (frame_after n pivots (product factors inverted) coin f))
+flips-random n pivots (product factors inverted ∷ xs) coin f =
+    ap (λ bits. false ∷ bits) (flips-random n pivots xs (coin + 1) (frame_after n pivots (product factors inverted) coin f))
     ∙ ap (λ m. replicate m false) {x = suc (all_coins_of xs)} (omega arith)
-flips-free n pivots (detector js ∷ xs) coin f = flips-free n pivots xs (coin + 0) (frame_after n pivots (detector js) coin f) ∙ ap (λ m. replicate m false) (omega arith)
-flips-free n pivots (observable j js ∷ xs) coin f = flips-free n pivots xs (coin + 0) (frame_after n pivots (observable j js) coin f) ∙ ap (λ m. replicate m false) (omega arith)
+flips-random n pivots (detector js ∷ xs) coin f = flips-random n pivots xs (coin + 0) (frame_after n pivots (detector js) coin f) ∙ ap (λ m. replicate m false) (omega arith)
+flips-random n pivots (observable j js ∷ xs) coin f = flips-random n pivots xs (coin + 0) (frame_after n pivots (observable j js) coin f) ∙ ap (λ m. replicate m false) (omega arith)
 
 -- what was flipped since is what the steps between flipped
 pub since-joined : (o more : RunOutput) (old new : PropagationState) (m : ℕ) → more.free ≡ replicate m false → new.flips ≡ joined old.flips more

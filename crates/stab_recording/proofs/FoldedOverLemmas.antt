@@ -1,8 +1,8 @@
 -- Folded segments: a replay on its way that repeats what it gave from one saved checkpoint to the next, up to a frame if there is one, is on
 -- its way again.
-use Rattle.stab_recording.proofs.Names.{◌≡◌, ℕ, zero, suc, ◌+◌, ◌-◌, ◌≤◌, refl, sym, ◌∙◌, ap, subst, Bool, true, List, [], ◌∷◌, ◌++◌, take, drop, IsSomeAnd, Option, None, Some, slice_get, add-one, arith, option_map, none-some, same_Some, slice_get_within, TableauState, Step, Repeat, origin, joined, point_after, outputs, output_of, lengths_of, outputs-append, PropagationState, Checkpoint, IsCheckpoint, checkpoint_steps, Near, Plan, Replay, KeepsPivots, IsAtStep, IsAtStop, step_among_new, Segment, IsRoundsAfter, IsAlike, MayRecur, IsFolding, IsSegment, HasRepeated, MayGoOver, HasPropagated, with_folded, last_state, with_state, with_cursor, Recurrence, get-append}
+use Rattle.stab_recording.proofs.Names.{◌≡◌, ℕ, zero, suc, ◌+◌, ◌-◌, ◌≤◌, refl, sym, ◌∙◌, ap, subst, Bool, true, List, [], ◌∷◌, ◌++◌, take, drop, IsSomeAnd, Option, None, Some, slice_get, add-one, arith, option_map, none-some, same_Some, slice_get_within, TableauState, Step, Repeat, origin, joined, point_after, outputs, output_of, lengths_of, outputs-append, PropagationState, Checkpoint, IsCheckpoint, checkpoint_steps, Near, Plan, Replay, KeepsPivotList, IsAtStep, IsAtStop, step_among_new, Segment, IsRoundsAfter, IsAlike, MayRecur, IsFolding, IsSegment, HasRepeated, MayGoOver, HasPropagated, with_folded, last_state, with_state, with_cursor, Recurrence, get-append}
 use Rattle.std.proofs.Common.{IfSome}
-use Rattle.stab_recording.proofs.AgainOverLemmas.{same-later, later-steps}
+use Rattle.stab_recording.proofs.RepeatedRunLemmas.{same-later, later-steps}
 use Rattle.stab_recording.proofs.FoldedPartLemmas.{IsPartAgain, Comes, span, go-over, repeated-comes, by_frame-comes}
 use Rattle.stab_recording.proofs.CursorPositionLemmas.{at-number, last-pushed}
 use Rattle.stab_recording.proofs.ReplayLemmas.{on-stop, with-saved}
@@ -120,7 +120,7 @@ module _ (n : ℕ) (coins : ℕ → Bool) (begin : ℕ) (p : Plan) (ys : List St
             ∙ ap (λ zs. outputs n coins zs origin) steps_now;
       };
       scratch = at.scratch;
-      has_pivots = subst (λ zs. KeepsPivots n coins zs s.pivots.strings s.outputs.free.items r.pivots.window) steps_now come.has_pivots;
+      has_pivots = subst (λ zs. KeepsPivotList n coins zs s.pivots.strings s.outputs.free.items r.pivots.window) steps_now come.has_pivots;
     }
 
     stopped : IsAtStop n coins begin p ys checkpoints old next arrived

@@ -1,8 +1,8 @@
 -- Parts repeated: what a replay repeats from one checkpoint to the next, up to a frame if there is one, is what its run gives there.
-use Rattle.stab_recording.proofs.Names.{◌≡◌, ℕ, zero, suc, ◌+◌, ◌-◌, ◌≤◌, refl, sym, ◌∙◌, ap, subst, Bool, false, List, [], ◌∷◌, ◌++◌, length, take, drop, All, Option, None, Some, slice_get, arith, take-append-le, length-drop, take-take, take-append-drop, drop-take, All-take, All-drop, with_sign, strings_anticommute, member, SameGroup, TableauState, stabilises, IsConjugated, Letter, Step, looks_too_far, most_steps, Lengths, ones, Point, RunOutput, origin, joined, point_after, outputs, all_coins_of, StepFits, output_of, lengths_of, AgreeBack, with_coin, flags-are-coins, coins-few, coins-are, ones-append, flipped_output, AreTrue, pivot_at, LooksWithin, PropagationState, frame_at, DiffersBack, ArePropagatedOver, coins_from, PropagatesToOthers, Checkpoint, IsCheckpoint, Replay, between, flips_since, KeepsPivots, Segment, IsAsAt, DiffersFrom, IsAlike, HasRepeated, MayGoOver, HasPropagated, HasStringsAgain, with_folded, flipped-empty, true-front, true-rest}
+use Rattle.stab_recording.proofs.Names.{◌≡◌, ℕ, zero, suc, ◌+◌, ◌-◌, ◌≤◌, refl, sym, ◌∙◌, ap, subst, Bool, false, List, [], ◌∷◌, ◌++◌, length, take, drop, All, Option, None, Some, slice_get, arith, take-append-le, length-drop, take-take, take-append-drop, drop-take, All-take, All-drop, with_sign, strings_anticommute, member, SameGroup, TableauState, stabilises, IsConjugated, Letter, Step, looks_too_far, most_steps, Lengths, ones, Point, RunOutput, origin, joined, point_after, outputs, all_coins_of, StepFits, output_of, lengths_of, AgreeBack, with_coin, flags-are-coins, coins-few, coins-are, ones-append, flipped_output, AreTrue, pivot_at, LooksWithin, PropagationState, frame_at, DiffersBack, ArePropagatedOver, coins_from, PropagatesToOthers, Checkpoint, IsCheckpoint, Replay, between, flips_since, KeepsPivotList, Segment, IsAsAt, DiffersFrom, IsAlike, HasRepeated, MayGoOver, HasPropagated, HasStringsAgain, with_folded, flipped-empty, true-front, true-rest}
 use Rattle.std.proofs.Common.{IfSome}
 use Rattle.std.proofs.Math.Seq.{drop-drop}
-use Rattle.stab_recording.proofs.AgainOverLemmas.{first-steps, first-point, later-point, part-is, ones-part, same-given, agrees-again}
+use Rattle.stab_recording.proofs.RepeatedRunLemmas.{first-steps, first-point, later-point, part-is, ones-part, same-given, agrees-again}
 use Rattle.stab_recording.proofs.CutLemmas.{ones-take}
 use Rattle.stab_recording.proofs.RunCheckpointLemmas.{lengths-within}
 use Rattle.stab_recording.proofs.RecordedReplayLemmas.{near-enough, has_pivots-fixed}
@@ -29,7 +29,7 @@ pub record IsPartAgain (n : ℕ) (coins : ℕ → Bool) (ys : List Step) (r : Re
   pub few : length ys ≤ most_steps
   pub fits : All (StepFits n) ys
   pub output : output_of r.outputs ≡ outputs n coins (take r.step ys) origin
-  pub has_pivots : KeepsPivots n coins (take r.step ys) r.pivots.strings r.outputs.free.items r.pivots.window
+  pub has_pivots : KeepsPivotList n coins (take r.step ys) r.pivots.strings r.outputs.free.items r.pivots.window
   pub checkpoint : IsCheckpoint n coins ys c
   pub later : IsCheckpoint n coins ys d
   pub order : c.step ≤ d.step
@@ -46,7 +46,7 @@ pub record Comes (n : ℕ) (coins : ℕ → Bool) (ys : List Step) (r s : Replay
       ≡ joined (output_of r.outputs) (outputs n coins (take (d.step - c.step) (drop c.step ys)) (point_after n coins (take r.step ys) origin))
   pub qubits : state.qubits ≡ n
   pub group : SameGroup n (stabilises state) (member (point_after n coins (take s.step ys) origin).trace)
-  pub has_pivots : KeepsPivots n coins (take r.step ys ++ take (d.step - c.step) (drop c.step ys)) s.pivots.strings s.outputs.free.items r.pivots.window
+  pub has_pivots : KeepsPivotList n coins (take r.step ys ++ take (d.step - c.step) (drop c.step ys)) s.pivots.strings s.outputs.free.items r.pivots.window
   pub alike : IsAlike n coins ys (with_folded r s) frame d
   pub saved : s.saved.items ≡ r.saved.items ++ record { step = s.step; lengths = lengths_of (output_of s.outputs); tableau = state } ∷ []
 
@@ -151,7 +151,7 @@ module _ (n : ℕ) (coins : ℕ → Bool) (ys : List Step) (r : Replay) (number 
       qubits = k.later.qubits;
       group = λ q size. k.later.group q size ∙ agree.group q size;
       has_pivots =
-          subst (λ x. x) (λ i. KeepsPivots n coins (take r.step ys ++ part) (sym (ap (λ (x : Replay). x.pivots.strings) rest) i) (sym flags i) window)
+          subst (λ x. x) (λ i. KeepsPivotList n coins (take r.step ys ++ part) (sym (ap (λ (x : Replay). x.pivots.strings) rest) i) (sym flags i) window)
           (has_pivots-fixed n coins (take r.step ys) part r.pivots.strings r.outputs.free.items again.free window k.has_pivots (ap (λ (o : RunOutput). o.free) k.output) no_coin near_part);
       alike = record {
         fixed =
@@ -307,7 +307,7 @@ module _ (n : ℕ) (coins : ℕ → Bool) (ys : List Step) (r : Replay) (number 
             ∙ k.later.group (with_sign (strings_anticommute v.letters q.letters) q) size
             ∙ sym (group q size);
         has_pivots =
-            subst (λ bits. KeepsPivots n coins (take r.step ys ++ part) s.pivots.strings bits window) (sym new_flags)
+            subst (λ bits. KeepsPivotList n coins (take r.step ys ++ part) s.pivots.strings bits window) (sym new_flags)
             (has_pivots-conjugated n coins (take r.step ys) part r.pivots.strings s.pivots.strings r.outputs.free.items c.lengths.free d.lengths.free window then k.has_pivots
             (ap (λ (o : RunOutput). o.free) k.output) (sym coin_here) true_then over.2 last kept near_part new_strings);
         alike = record {

@@ -1,5 +1,5 @@
 -- Folded replays: a replay on its way whose state is that of a checkpoint, up to a frame if there is one, may go on from there.
-use Rattle.stab_recording.proofs.Names.{◌≡◌, ℕ, ◌+◌, ◌-◌, ◌≤◌, refl, sym, ◌∙◌, ap, subst, Bool, false, List, length, take, drop, All, Option, None, Some, get_or, arith, option_map, slice_get-get_or, take-take, drop-take, Step, Repeat, ones, all_coins_of, output_of, PropagationState, Checkpoint, Recurrence, Plan, Replay, IsCheckpoint, IsOnWay, IsRoundsAfter, IsOfOwn, StandsAs, IsFound, IsAlike, MayRecur, IsFolding, with_state}
+use Rattle.stab_recording.proofs.Names.{◌≡◌, ℕ, ◌+◌, ◌-◌, ◌≤◌, refl, sym, ◌∙◌, ap, subst, Bool, false, List, length, take, drop, All, Option, None, Some, get_or, arith, option_map, slice_get-get_or, take-take, drop-take, Step, Repeat, ones, all_coins_of, output_of, PropagationState, Checkpoint, Recurrence, Plan, Replay, IsCheckpoint, IsOnWay, IsRoundsAfter, IsOfOwn, StandsAs, AreRoundsFound, IsAlike, MayRecur, IsFolding, with_state}
 use Rattle.std.proofs.Common.{IfSome}
 use Rattle.stab_recording.proofs.CutLemmas.{ones-take}
 use Rattle.stab_recording.proofs.FoldedOverLemmas.{near-at}
@@ -47,7 +47,7 @@ stands-alike n coins begin p ys checkpoints old next block end r may c checkpoin
     }
 
 pub folding-begins : (n : ℕ) (coins : ℕ → Bool) (begin : ℕ) (p : Plan) (ys : List Step) (checkpoints : List Checkpoint) (old : List Bool) (next : ℕ) (block : Repeat) (end : ℕ) (r : Replay) (e : Recurrence)
-    → MayRecur n coins begin p ys checkpoints old next block end r → IsFound block r e → IsFolding n coins begin p ys checkpoints old next block end false r e
+    → MayRecur n coins begin p ys checkpoints old next block end r → AreRoundsFound block r e → IsFolding n coins begin p ys checkpoints old next block end false r e
 folding-begins n coins begin p ys checkpoints old next block end r e may found =
     let stop = may.way.stop in
     let at = stop.replay.at_step in

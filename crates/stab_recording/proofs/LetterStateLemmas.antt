@@ -1,5 +1,5 @@
 -- Letters at a state: with one of two signs they stabilise it, or they flip the sign of some stabiliser, which is then none.
-use Rattle.stab_recording.proofs.Names.{◌≡◌, ℕ, zero, suc, refl, sym, ◌∙◌, ap, subst, arith, Bool, true, false, not, ◌&&◌, ◌||◌, List, [], ◌∷◌, length, ◌⊎◌, inl, inr, or_cases, Letter, I, X, Y, Z, parity-false, Signed, with_sign, strings_anticommute, is_free_by, IsStabiliserGroup, TableauState, stabilises, chosen_product, CommutesWithAll, IsGenerated, IsConjugated, and-left, and-right, not_both, Stabilise, FramesSome}
+use Rattle.stab_recording.proofs.Names.{◌≡◌, ℕ, zero, suc, refl, sym, ◌∙◌, ap, subst, arith, Bool, true, false, not, ◌&&◌, ◌||◌, List, [], ◌∷◌, length, ◌⊎◌, inl, inr, or_cases, Letter, I, X, Y, Z, parity-false, Signed, with_sign, strings_anticommute, is_random_by, IsStabiliserGroup, TableauState, stabilises, chosen_product, CommutesWithAll, IsGenerated, IsConjugated, and-left, and-right, not_both, Stabilise, FramesSome}
 
 -- some string of n letters passes a test, or none does
 
@@ -50,19 +50,19 @@ plus-out a p m e f = grind arith
 minus-out : (a p m : Bool) → (a && (p || m)) ≡ false → m ≡ true → not a ≡ true
 minus-out a p m e f = grind arith
 
-free-signs : (p m : Bool) → (not p && not m) ≡ true → (p ≡ false) × (m ≡ false)
-free-signs p m e = grind arith
+random-signs : (p m : Bool) → (not p && not m) ≡ true → (p ≡ false) × (m ≡ false)
+random-signs p m e = grind arith
 
 -- of letters that neither sign makes a stabiliser none stabilises
-not-free : (f : List Letter) (t : TableauState) → is_free_by (stabilises t) (record { negative = false; letters = f }) ≡ true → Stabilise f t → ⊥
-not-free f t free (false, e) =
-    not_both _ (free-signs (stabilises t (record { negative = false; letters = f })) (stabilises t (record { negative = true; letters = f })) free).0 e
-not-free f t free (true, e) =
-    not_both _ (free-signs (stabilises t (record { negative = false; letters = f })) (stabilises t (record { negative = true; letters = f })) free).1 e
+not-random : (f : List Letter) (t : TableauState) → is_random_by (stabilises t) (record { negative = false; letters = f }) ≡ true → Stabilise f t → ⊥
+not-random f t free (false, e) =
+    not_both _ (random-signs (stabilises t (record { negative = false; letters = f })) (stabilises t (record { negative = true; letters = f })) free).0 e
+not-random f t free (true, e) =
+    not_both _ (random-signs (stabilises t (record { negative = false; letters = f })) (stabilises t (record { negative = true; letters = f })) free).1 e
 
 conjugate-some : (f : List Letter) (t : TableauState) → length f ≡ t.qubits → IsStabiliserGroup t.qubits (stabilises t)
     → ((p : Signed) → length p.letters ≡ t.qubits → CommutesWithAll t p → IsGenerated t p)
-    → is_free_by (stabilises t) (record { negative = false; letters = f }) ≡ true → FramesSome f t
+    → is_random_by (stabilises t) (record { negative = false; letters = f }) ≡ true → FramesSome f t
 conjugate-some f t long group generated free = by-search (some-or-none t.qubits test)
   where
     test : List Letter → Bool
@@ -95,17 +95,17 @@ conjugate-some f t long group generated free = by-search (some-or-none t.qubits 
         (or_cases _ _ (and-right (strings_anticommute f s.0) _ s.2))
     by-search (inr none) =
         absurd
-        (not-free f t free
+        (not-random f t free
         (stabilise (generated (record { negative = false; letters = f }) long (λ s l e. commutes none s.negative s.letters l e))))
 
 -- a state that was read, and a string of these letters, of which a sign was asked for
 
 pub none-found : (f : List Letter) (c t : TableauState) (p : Signed) → t ≡ c → p ≡ record { negative = false; letters = f } → length f ≡ c.qubits
     → IsStabiliserGroup t.qubits (stabilises t) → ((q : Signed) → length q.letters ≡ t.qubits → CommutesWithAll t q → IsGenerated t q)
-    → is_free_by (stabilises t) p ≡ true → FramesSome f c
+    → is_random_by (stabilises t) p ≡ true → FramesSome f c
 none-found f c t p read string long group generated free =
     subst (FramesSome f) read
-    (conjugate-some f t (long ∙ sym (ap (λ (s : TableauState). s.qubits) read)) group generated (subst (λ q. is_free_by (stabilises t) q ≡ true) string free))
+    (conjugate-some f t (long ∙ sym (ap (λ (s : TableauState). s.qubits) read)) group generated (subst (λ q. is_random_by (stabilises t) q ≡ true) string free))
 
 pub some-found : (f : List Letter) (c t : TableauState) (p : Signed) (b : Bool) → t ≡ c → p ≡ record { negative = false; letters = f }
     → stabilises t (with_sign b p) ≡ true → Stabilise f c

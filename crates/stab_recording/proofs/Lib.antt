@@ -11,21 +11,21 @@ pub mod FrameStartLemmas
 pub mod ConjugatedLemmas
 mod ShotLemmas
 pub mod AdvancedLemmas
-pub mod AgainLemmas
-mod TogetherLemmas
+pub mod RoundPositionLemmas
+mod JoinedRoundLemmas
 pub mod PointLemmas
 pub mod ReplayLemmas
 mod ProgressLemmas
 pub mod SeenLemmas
 pub mod SegmentLemmas
 mod CursorPositionLemmas
-mod MovedLemmas
+mod DifferingReplayLemmas
 mod PropagatedWayLemmas
 mod QuietLemmas
 mod LetterStateLemmas
 pub mod RestPropagatedLemmas
 mod FollowedLemmas
-pub mod AgainOverLemmas
+pub mod RepeatedRunLemmas
 mod PropagatedPivotLemmas
 mod FoldedPartLemmas
 mod FoldedOverLemmas

@@ -15,17 +15,18 @@ pub use Rattle.std.specs.Cmp.{booleans_Decides}
 pub use Rattle.std.specs.List.{list_any}
 pub use Rattle.std.specs.Option.{option_map}
 pub use Rattle.std.specs.Prelude.{IfSome, if◌then◌else◌, nat_le, Result, IfOk}
-pub use Rattle.stab_items.specs.Cursors.{CursorState, steps_shown}
+pub use Rattle.stab_items.specs.Cursors.{CursorState}
+pub use Rattle.stab_items.specs.StepValues.{steps_shown}
 pub use Rattle.stab_items.specs.Items.{Items}
 pub use Rattle.stab_items.specs.Repeats.{round_of, IsRepeat, AreRepeats}
 pub use Rattle.stab_items.specs.Steps.{Step, rounds, looks_too_far, one, two, controlled, collapse, product, detector, observable, most_steps, unroll, check_within, makes, lookbacks, records_of, observables_of, LooksWithin}
 pub use Rattle.stab_items.specs.Views.{circuit_items}
 pub use Rattle.stab_items.specs.declared.circuit.repeats.Repeat.{Repeat}
-pub use Rattle.stab_frames.proofs.AgainLemmas.{come-conjugated, gone-over-seen, true-conjugated-at, true-conjugated}
+pub use Rattle.stab_frames.proofs.RepeatedStepLemmas.{come-conjugated, gone-over-seen, true-conjugated-at, true-conjugated}
 pub use Rattle.stab_frames.proofs.FlipLemmas.{flipped-empty, length-flipped, flipped-differing}
 pub use Rattle.stab_frames.proofs.PropagatedRepeatLemmas.{conjugated-next, conjugated-none, conjugated-all}
 pub use Rattle.stab_frames.proofs.PropagatedPointLemmas.{conjugated-pauli}
-pub use Rattle.stab_frames.proofs.FrontLemmas.{group-origin}
+pub use Rattle.stab_frames.proofs.TwoCircuitLemmas.{group-origin}
 pub use Rattle.stab_frames.proofs.OtherCoinLemmas.{propagation-others}
 pub use Rattle.stab_frames.proofs.OverLemmas.{enough-append}
 pub use Rattle.stab_frames.proofs.PivotAtLemmas.{get-append, get-following, pivot-equal, pivot-past}
@@ -34,7 +35,7 @@ pub use Rattle.stab_frames.proofs.PropagationLemmas.{mixed-set}
 pub use Rattle.stab_frames.proofs.StillLemmas.{still-base}
 pub use Rattle.stab_frames.proofs.StillPropagationLemmas.{ones-within}
 pub use Rattle.stab_frames.proofs.TrueLemmas.{true-front, true-rest, true-append, true-same, true-none}
-pub use Rattle.stab_frames.specs.AgainLaws.{DiffersBack, ArePropagatedOver}
+pub use Rattle.stab_frames.specs.RepeatedStepLaws.{DiffersBack, ArePropagatedOver}
 pub use Rattle.stab_frames.specs.Ends.{MayHaveCoin}
 pub use Rattle.stab_frames.specs.Flips.{flipped_output, flipped, flipped_additions}
 pub use Rattle.stab_frames.specs.FrameSteps.{frame_over, flips_over, frame_after}
@@ -82,7 +83,7 @@ pub use Rattle.stab_tableau.specs.Columns.{chosen_product, CommutesWithAll, IsGe
 pub use Rattle.stab_tableau.specs.Conjugations.{IsConjugated}
 pub use Rattle.stab_tableau.specs.Gates.{back}
 pub use Rattle.stab_tableau.specs.Groups.{SameGroup, IsStabiliserGroup}
-pub use Rattle.stab_tableau.specs.Rules.{is_free_by}
+pub use Rattle.stab_tableau.specs.Rules.{is_random_by}
 pub use Rattle.stab_tableau.specs.Tableaus.{TableauState, stabilises}
 pub use Rattle.stab_tableau.specs.Traces.{member}
 pub use Rattle.stab_recording.specs.Checkpoints.{IsCheckpoint, checkpoint_steps, IsRunFromStart}
@@ -91,7 +92,7 @@ pub use Rattle.stab_recording.specs.FramesFrom.{flips_since, AreCompared, IsFram
 pub use Rattle.stab_recording.specs.SavedCheckpoints.{saved, all_saved, moved, moved_checkpoint, moved_lengths}
 pub use Rattle.stab_recording.specs.Meets.{Meets}
 pub use Rattle.stab_recording.specs.Parts.{between}
-pub use Rattle.stab_recording.specs.PivotLists.{KeepsPivots, IsSpliced}
+pub use Rattle.stab_recording.specs.PivotLists.{KeepsPivotList, IsSpliced}
 pub use Rattle.stab_recording.specs.Replays.{MeetsAt, Misses, EndsSoon, step_among_new, IsReplay, Ascending, IsEnd, IsAtStep, IsAtStop, IsOnWay, spacing_of, StopsAt, IsPlacedAt, checkpoint_of}
 pub use Rattle.stab_recording.specs.RestFrames.{AreInOrder, ArePropagatedCheckpoints, IsRestFrame, Ending, AreEnoughBy, IsPropagatedAfter, Stabilise, FramesSome, IsLastDiffering}
 pub use Rattle.stab_recording.specs.Samplers.{SamplerState}
@@ -108,13 +109,13 @@ pub use Rattle.stab_recording.specs.declared.replay.Replay.{Replay}
 pub use Rattle.stab_recording.specs.declared.whole_run.Shot.{Shot}
 pub use Rattle.stab_recording.specs.inner.Advanced.{after_rounds}
 pub use Rattle.stab_recording.specs.inner.Arrivals.{IsArrival}
-pub use Rattle.stab_recording.specs.inner.FoldedReplays.{IsRoundsAfter, IsAlike, MayRecur, IsFolding, IsSegment, HasRepeated, MayGoOver, HasPropagated, HasStringsAgain, with_folded, IsAsAt, DiffersFrom, IsOfOwn, StandsAs, IsFound, IsEndIn}
+pub use Rattle.stab_recording.specs.inner.FoldedReplays.{IsRoundsAfter, IsAlike, MayRecur, IsFolding, IsSegment, HasRepeated, MayGoOver, HasPropagated, HasStringsAgain, with_folded, IsAsAt, DiffersFrom, IsOfOwn, StandsAs, AreRoundsFound, IsEndIn}
 pub use Rattle.stab_recording.specs.inner.RestFrameStates.{last_state, with_state, with_cursor, IsBeside, HasOtherCoins}
 pub use Rattle.stab_recording.specs.inner.Shots.{IsShotOf}
 pub use Rattle.stab_recording.specs.inner.Runs.{plan_of_run, IsOwnRun}
-pub use Rattle.stab_frames.specs.inner.Draws.{AsksFree, outcome_of, differing}
+pub use Rattle.stab_frames.specs.inner.Draws.{AsksRandom, outcome_of, differing}
 pub use Rattle.stab_frames.specs.inner.Propagates.{GoesOver, IsMissing}
-pub use Rattle.stab_frames.proofs.FreeLemmas.{ones-split, asks-later, asks-further, missing-later}
+pub use Rattle.stab_frames.proofs.RandomLemmas.{ones-split, asks-later, asks-further, missing-later}
 pub use Rattle.stab_frames.proofs.GoesOverLemmas.{goes-same}
 pub use Rattle.stab_frames.proofs.StepsPropagatedLemmas.{left-over, left-none, drop-over, fits-over, coins-within, coins-less, goes-over, propagation-same, propagation-enough}
 pub use Rattle.stab_frames.specs.inner.RecordedPivots.{PivotsSteps}

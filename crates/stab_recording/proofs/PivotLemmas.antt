@@ -184,9 +184,9 @@ pub true-left : (n : ℕ) (coins : ℕ → Bool) (xs zs : List Step) (strings : 
 true-left n coins xs zs strings flags more is few are_true =
     true-append n coins (pivot_at strings (flags ++ more)) xs zs origin
     (true-same n coins (pivot_at strings flags) (pivot_at strings (flags ++ more)) xs origin
-    (λ t lt. pivot-stays strings flags more (0 + t) (omega (arith, lt, free_coins, coins-are n coins xs origin))) are_true)
+    (λ t lt. pivot-stays strings flags more (0 + t) (omega (arith, lt, deciding_coins, coins-are n coins xs origin))) are_true)
     (true-none n coins (pivot_at strings (flags ++ more)) zs (point_after n coins xs origin)
-    (λ t le. pivot-past strings flags more t (omega (arith, le, free_coins)) few))
+    (λ t le. pivot-past strings flags more t (omega (arith, le, deciding_coins)) few))
   where
-    free_coins : length flags ≡ (point_after n coins xs origin).coin
-    free_coins = ap length is ∙ flags-are-coins n coins xs
+    deciding_coins : length flags ≡ (point_after n coins xs origin).coin
+    deciding_coins = ap length is ∙ flags-are-coins n coins xs

@@ -20,7 +20,7 @@ pub costs-none : (a : ℕ) (r : Replay) → Costs a a r r
 costs-none a r = record {
   counted = omega arith;
   asks = omega arith;
-  asks_free = omega arith;
+  asks_random = omega arith;
 }
 
 -- one more
@@ -39,7 +39,7 @@ pub costs-on : (a b c : ℕ) (r s t : Replay) → Costs a b r s → Costs b c s 
 costs-on a b c r s t h k = record {
   counted = omega (arith, h.counted, k.counted);
   asks = omega (arith, h.asks, k.asks);
-  asks_free = omega (arith, h.asks_free, k.asks_free);
+  asks_random = omega (arith, h.asks_random, k.asks_random);
 }
 
 -- and others that change nothing of what is counted
@@ -59,7 +59,7 @@ pub costs-named : (a b : ℕ) (r s t : Replay) → Costs a b r s → t.step ≡ 
 costs-named a b r s t h step applied by_frame outputs = record {
   counted = omega (arith, h.counted, step, applied, by_frame);
   asks = omega (arith, h.asks, applied);
-  asks_free = let same : ones t.outputs.free.items ≡ ones s.outputs.free.items = λ i. ones (outputs i).free.items in omega (arith, h.asks_free, same);
+  asks_random = let same : ones t.outputs.free.items ≡ ones s.outputs.free.items = λ i. ones (outputs i).free.items in omega (arith, h.asks_random, same);
 }
 
 pub further-saved : (a b : ℕ) (r s t : Replay) → IsFurther a b r s → t ≡ record s { saved = t.saved } → IsFurther a b r t
@@ -85,13 +85,13 @@ further-by-steps a b r s all qubits step window most left asks = record {
 pub costs-by-steps : (a b : ℕ) (r s : Replay) → r.step ≤ s.step → s.step ≤ length r.cursor.all → r.cursor.left ≡ drop r.step r.cursor.all
     → s.applied ≡ r.applied + length (take (s.step - r.step) r.cursor.left) → s.by_frame ≡ r.by_frame → b ≤ a + all_coins_of (take (s.step - r.step) r.cursor.left)
     → b + ones r.outputs.free.items ≤ a + ones s.outputs.free.items → Costs a b r s
-costs-by-steps a b r s order within left applied by_frame asks asks_free =
+costs-by-steps a b r s order within left applied by_frame asks asks_random =
     let count : length (take (s.step - r.step) r.cursor.left) ≡ s.step - r.step =
     omega (arith, length-take (s.step - r.step) r.cursor.left, ap length left, length-drop r.step r.cursor.all, order, within) in
     record {
       counted = omega (arith, applied, by_frame, count, order);
       asks = omega (arith, asks, applied, count, coins-few (s.step - r.step) r.cursor.left);
-      asks_free = asks_free;
+      asks_random = asks_random;
     }
 
 pub carried-on : {m n : ℕ} {others coins : ℕ → Bool} (r s t : Replay) → m ≡ n → others ≡ coins → HasCarriedOut n coins r s → HasCarriedOut m others s t → HasCarriedOut n coins r t

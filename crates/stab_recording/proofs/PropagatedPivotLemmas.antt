@@ -1,12 +1,12 @@
 -- Conjugated pivots: the strings of a run that goes on again over steps, from a point that differs by letters alone, with other coins.
-use Rattle.stab_recording.proofs.Names.{◌≡◌, ℕ, ◌+◌, ◌<◌, ◌≤◌, sym, ◌∙◌, ap, Bool, inl, inr, List, ◌++◌, length, take, drop, All, arith, take_at, take_all, length-append, cases_lt, All-append, Letter, Step, ones, Point, origin, all_coins_of, point_after, outputs, PivotsState, AreTrue, pivot_at, kept_with, LooksWithin, ArePropagatedOver, KeepsPivots, HasStringsAgain}
+use Rattle.stab_recording.proofs.Names.{◌≡◌, ℕ, ◌+◌, ◌<◌, ◌≤◌, sym, ◌∙◌, ap, Bool, inl, inr, List, ◌++◌, length, take, drop, All, arith, take_at, take_all, length-append, cases_lt, All-append, Letter, Step, ones, Point, origin, all_coins_of, point_after, outputs, PivotsState, AreTrue, pivot_at, kept_with, LooksWithin, ArePropagatedOver, KeepsPivotList, HasStringsAgain}
 use Rattle.stab_recording.proofs.PivotLemmas.{numbered-again, true-again}
 
-again-kept : (n : ℕ) (coins : ℕ → Bool) (xs part : List Step) (s u : PivotsState) (flags : List Bool) (c d window : ℕ) (a : Point) → KeepsPivots n coins xs s flags window
+again-kept : (n : ℕ) (coins : ℕ → Bool) (xs part : List Step) (s u : PivotsState) (flags : List Bool) (c d window : ℕ) (a : Point) → KeepsPivotList n coins xs s flags window
     → flags ≡ (outputs n coins xs origin).free → a.coin ≡ c → AreTrue n coins (pivot_at s.strings flags) part a → ArePropagatedOver n coins part a (point_after n coins xs origin)
     → d ≡ c + all_coins_of part → ones (take d flags) ≤ length s.strings → All (LooksWithin window) part
     → u ≡ record s { strings = kept_with s.most s.strings (drop (ones (take c flags)) (take (ones (take d flags)) s.strings)) }
-    → KeepsPivots n coins (xs ++ part) u (flags ++ drop c (take d flags)) window
+    → KeepsPivotList n coins (xs ++ part) u (flags ++ drop c (take d flags)) window
 again-kept n coins xs part s u flags c d window a has_pivots is at true_then conjugated last kept near new = record {
   size = ap (λ (t : PivotsState). t.qubits) new ∙ has_pivots.size;
   numbered = numbered-again n coins xs part s u flags c d a has_pivots.numbered is at last kept new;
@@ -16,11 +16,11 @@ again-kept n coins xs part s u flags c d window a has_pivots is at true_then con
 
 -- if further ones are kept, all were, and there may be as many more
 
-pub has_pivots-conjugated : (n : ℕ) (coins : ℕ → Bool) (xs part : List Step) (s u : PivotsState) (flags : List Bool) (c d window : ℕ) (a : Point) → KeepsPivots n coins xs s flags window
+pub has_pivots-conjugated : (n : ℕ) (coins : ℕ → Bool) (xs part : List Step) (s u : PivotsState) (flags : List Bool) (c d window : ℕ) (a : Point) → KeepsPivotList n coins xs s flags window
     → flags ≡ (outputs n coins xs origin).free → a.coin ≡ c → AreTrue n coins (pivot_at s.strings flags) part a → ArePropagatedOver n coins part a (point_after n coins xs origin)
     → d ≡ c + all_coins_of part → ones (take d flags) ≤ length s.strings → All (LooksWithin window) part
     → HasStringsAgain (ones (take c flags)) (ones (take d flags)) s u
-    → KeepsPivots n coins (xs ++ part) u (flags ++ drop c (take d flags)) window
+    → KeepsPivotList n coins (xs ++ part) u (flags ++ drop c (take d flags)) window
 has_pivots-conjugated n coins xs part s u flags c d window a has_pivots is at true_then conjugated last kept near (inl full) =
     again-kept n coins xs part s u flags c d window a has_pivots is at true_then conjugated last kept near
     (full.1 ∙ ap (λ l. record s { strings = l }) (sym (take_at s.strings (drop (ones (take c flags)) (take (ones (take d flags)) s.strings)) s.most full.0)))

@@ -1,11 +1,11 @@
 -- Pivots kept: those of the random outcomes of a run, cut and put together as runs are.
-use Rattle.stab_recording.proofs.Names.{◌≡◌, ℕ, zero, suc, ◌+◌, ◌-◌, ◌≤◌, min, refl, sym, ◌∙◌, ap, subst, Bool, true, false, inl, inr, List, [], ◌∷◌, ◌++◌, length, take, drop, All, get_or, nat_lt, arith, if◌then◌else◌, list_any, or_from, leb_tells, length-append, length-drop, length-take, take-length, take-append-drop, get_or-append-add, All-head, All-tail, All-append, All-drop, All-take, All-nil, Letter, Step, makes, lookbacks, looks_too_far, ones, RunOutput, origin, all_coins_of, point_after, outputs, ProgramState, IsAt, ones-append, flags-are-coins, front-output, rest-output, coins-are, most_strings, PivotsState, IsNumbered, AreTrue, KeepsTrue, pivot_at, front_kept, cut_to, LooksWithin, MayHaveCoin, KeepsPivots, IsSpliced, ArePropagatedOver, true-conjugated, true-append, true-front, true-rest, true-none}
+use Rattle.stab_recording.proofs.Names.{◌≡◌, ℕ, zero, suc, ◌+◌, ◌-◌, ◌≤◌, min, refl, sym, ◌∙◌, ap, subst, Bool, true, false, inl, inr, List, [], ◌∷◌, ◌++◌, length, take, drop, All, get_or, nat_lt, arith, if◌then◌else◌, list_any, or_from, leb_tells, length-append, length-drop, length-take, take-length, take-append-drop, get_or-append-add, All-head, All-tail, All-append, All-drop, All-take, All-nil, Letter, Step, makes, lookbacks, looks_too_far, ones, RunOutput, origin, all_coins_of, point_after, outputs, ProgramState, IsAt, ones-append, flags-are-coins, front-output, rest-output, coins-are, most_strings, PivotsState, IsNumbered, AreTrue, KeepsTrue, pivot_at, front_kept, cut_to, LooksWithin, MayHaveCoin, KeepsPivotList, IsSpliced, ArePropagatedOver, true-conjugated, true-append, true-front, true-rest, true-none}
 use Rattle.std.proofs.Common.{nat_le}
 use Rattle.std.specs.Prelude.{max}
 use Rattle.stab_recording.proofs.CutLemmas.{ones-take}
 use Rattle.stab_recording.proofs.PivotLemmas.{IsNoneOr, true-changed, pivot-front, pivot-left, pivot-beyond, true-left}
 use Rattle.stab_items.proofs.LookLemmas.{near-more, within-more}
-use Rattle.stab_frames.proofs.FreeLemmas.{pivot-none}
+use Rattle.stab_frames.proofs.RandomLemmas.{pivot-none}
 
 -- how far back steps look
 
@@ -33,7 +33,7 @@ module _ (s : PivotsState) (flags : List Bool) (numbered : IsNumbered s flags) (
 
 -- what a run of no steps records
 pub has_pivots-nothing : (n : ℕ) (coins : ℕ → Bool) (s : PivotsState) (free : List Bool) (window : ℕ) → s ≡ record { qubits = n; most = most_strings n; strings = [] } → free ≡ []
-    → KeepsPivots n coins [] s free window
+    → KeepsPivotList n coins [] s free window
 has_pivots-nothing n coins s free window is empty = record {
   size = ap (λ (t : PivotsState). t.qubits) is;
   numbered = omega (arith, ap (λ (t : PivotsState). length t.strings) is, ap ones empty);
@@ -42,7 +42,7 @@ has_pivots-nothing n coins s free window is empty = record {
 }
 
 -- the front of a run
-module _ (n : ℕ) (coins : ℕ → Bool) (xs : List Step) (s : PivotsState) (free : List Bool) (window : ℕ) (has_pivots : KeepsPivots n coins xs s free window)
+module _ (n : ℕ) (coins : ℕ → Bool) (xs : List Step) (s : PivotsState) (free : List Bool) (window : ℕ) (has_pivots : KeepsPivotList n coins xs s free window)
     (flags : free ≡ (outputs n coins xs origin).free) where
   front-coins : (i : ℕ) → length (outputs n coins (take i xs) origin).free ≡ all_coins_of (take i xs)
   front-coins i = flags-are-coins n coins (take i xs) ∙ coins-are n coins (take i xs) origin ∙ omega arith
@@ -53,7 +53,7 @@ module _ (n : ℕ) (coins : ℕ → Bool) (xs : List Step) (s : PivotsState) (fr
       ∙ ap (λ (o : RunOutput). o.free) (front-output n coins xs i)
 
   pub has_pivots-front : (i : ℕ) (t : PivotsState) (bits : List Bool) → bits ≡ (outputs n coins (take i xs) origin).free → t ≡ front_kept (ones bits) s
-      → KeepsPivots n coins (take i xs) t bits window
+      → KeepsPivotList n coins (take i xs) t bits window
   has_pivots-front i t bits is front = record {
     size = ap (λ (u : PivotsState). u.qubits) front ∙ has_pivots.size;
     numbered = numbered_front;
@@ -96,9 +96,9 @@ module _ (n : ℕ) (coins : ℕ → Bool) (xs : List Step) (s : PivotsState) (fr
           ]
 
 -- a run that goes on, and records its strings
-pub has_pivots-on : (n : ℕ) (coins : ℕ → Bool) (xs zs : List Step) (s t : PivotsState) (old new : ProgramState) (before after : ℕ) → KeepsPivots n coins xs s old.output.free before
+pub has_pivots-on : (n : ℕ) (coins : ℕ → Bool) (xs zs : List Step) (s t : PivotsState) (old new : ProgramState) (before after : ℕ) → KeepsPivotList n coins xs s old.output.free before
     → IsAt n old (point_after n coins xs origin) → t.qubits ≡ n → t.most ≡ s.most → before ≤ after → All (LooksWithin after) zs
-    → KeepsTrue n coins zs s t old new → KeepsPivots n coins (xs ++ zs) t new.output.free after
+    → KeepsTrue n coins zs s t old new → KeepsPivotList n coins (xs ++ zs) t new.output.free after
 has_pivots-on n coins xs zs s t old new before after has_pivots at size most raised near keeps = record {
   size = size;
   numbered = (keeps xs at has_pivots.numbered has_pivots.are_true).0;
@@ -115,8 +115,8 @@ none-one (false ∷ bits) zero none = refl
 none-one (false ∷ bits) (suc t) none = none-one bits t none
 
 -- a run that goes on by steps which no coin decides records no more pivots
-pub has_pivots-fixed : (n : ℕ) (coins : ℕ → Bool) (xs zs : List Step) (s : PivotsState) (flags more : List Bool) (window : ℕ) → KeepsPivots n coins xs s flags window
-    → flags ≡ (outputs n coins xs origin).free → ones more ≡ 0 → All (LooksWithin window) zs → KeepsPivots n coins (xs ++ zs) s (flags ++ more) window
+pub has_pivots-fixed : (n : ℕ) (coins : ℕ → Bool) (xs zs : List Step) (s : PivotsState) (flags more : List Bool) (window : ℕ) → KeepsPivotList n coins xs s flags window
+    → flags ≡ (outputs n coins xs origin).free → ones more ≡ 0 → All (LooksWithin window) zs → KeepsPivotList n coins (xs ++ zs) s (flags ++ more) window
 has_pivots-fixed n coins xs zs s flags more window has_pivots is none near = record {
   size = has_pivots.size;
   numbered = omega (arith, has_pivots.numbered, ones-append flags more, none);
@@ -130,11 +130,11 @@ pub has_pivots-spliced : (n : ℕ) (coins : ℕ → Bool) (xs ys : List Step) (i
     → MayHaveCoin n coins (drop i xs) (point_after n coins (take i xs) origin) (point_after n coins (take k ys) origin).coin
     → ArePropagatedOver n coins (drop i xs) (point_after n coins (take i xs) origin) (point_after n coins (take k ys) origin)
     → (s t u : PivotsState) (free flags all : List Bool) (c old_window window : ℕ)
-    → KeepsPivots n coins xs s free old_window → free ≡ (outputs n coins xs origin).free
-    → KeepsPivots n coins (take k ys) t flags window → flags ≡ (outputs n coins (take k ys) origin).free → old_window ≤ window
+    → KeepsPivotList n coins xs s free old_window → free ≡ (outputs n coins xs origin).free
+    → KeepsPivotList n coins (take k ys) t flags window → flags ≡ (outputs n coins (take k ys) origin).free → old_window ≤ window
     → c ≡ (point_after n coins (take i xs) origin).coin
     → all ≡ flags ++ drop c free → IsSpliced t s (ones (take c free)) (ones all) u
-    → KeepsPivots n coins ys u all window
+    → KeepsPivotList n coins ys u all window
 has_pivots-spliced n coins xs ys i k same coin conjugated s t u free flags all c old_window window old old_flags has_pivots new_flags raised at is spliced = record {
   size = spliced.size ∙ has_pivots.size;
   numbered = spliced.numbered (omega (arith, long, ap ones is, ones-append flags (drop c free), ones-take c free, old.numbered, has_pivots.numbered));
@@ -190,8 +190,8 @@ has_pivots-spliced n coins xs ys i k same coin conjugated s t u free flags all c
 
 -- strings that are cut to the limit
 
-pub has_pivots-cut : (n : ℕ) (coins : ℕ → Bool) (xs : List Step) (s t : PivotsState) (free : List Bool) (window : ℕ) → KeepsPivots n coins xs s free window
-    → free ≡ (outputs n coins xs origin).free → t ≡ cut_to (most_strings s.qubits) s → KeepsPivots n coins xs t free window
+pub has_pivots-cut : (n : ℕ) (coins : ℕ → Bool) (xs : List Step) (s t : PivotsState) (free : List Bool) (window : ℕ) → KeepsPivotList n coins xs s free window
+    → free ≡ (outputs n coins xs origin).free → t ≡ cut_to (most_strings s.qubits) s → KeepsPivotList n coins xs t free window
 has_pivots-cut n coins xs s t free window has_pivots flags is = record {
   size = ap (λ (u : PivotsState). u.qubits) is ∙ has_pivots.size;
   numbered =

@@ -1,5 +1,5 @@
 -- Replays: a run that goes on from a checkpoint of an earlier one, what it asks of coins, and where it meets another checkpoint.
-use Rattle.stab_recording.proofs.Names.{◌≡◌, ◌≢◌, ℕ, zero, suc, ◌+◌, ◌-◌, ◌<◌, ◌≤◌, refl, sym, ◌∙◌, ap, subst, Bool, ◌⊎◌, inl, inr, List, [], ◌∷◌, ◌++◌, All, IsSomeAnd, Option, None, Some, slice_get, length, take, drop, arith, option_map, take-append-drop, drop-drop, map-append, All-push, cases_lt, IfSome_then, take-add, TableauState, Step, Lengths, Checkpoint, Replay, Plan, Between, RunOutput, origin, all_coins_of, point_after, outputs, AgreeAt, ProgramState, IsAt, IsRun, program_state, output_of, Near, last_of, lengths_of, IsRunFromStart, IsCheckpoint, checkpoint_steps, KeepsTrue, LooksWithin, KeepsPivots, IsAtStep, Ascending, MeetsAt, IsPlacedAt, Misses, EndsSoon, step_among_new, spacing_of, checkpoint_of, IsAtStop, IsOnWay, StopsAt, IsArrival, Meets, flags-are-coins, records-are-records, coins-append}
+use Rattle.stab_recording.proofs.Names.{◌≡◌, ◌≢◌, ℕ, zero, suc, ◌+◌, ◌-◌, ◌<◌, ◌≤◌, refl, sym, ◌∙◌, ap, subst, Bool, ◌⊎◌, inl, inr, List, [], ◌∷◌, ◌++◌, All, IsSomeAnd, Option, None, Some, slice_get, length, take, drop, arith, option_map, take-append-drop, drop-drop, map-append, All-push, cases_lt, IfSome_then, take-add, TableauState, Step, Lengths, Checkpoint, Replay, Plan, Between, RunOutput, origin, all_coins_of, point_after, outputs, AgreeAt, ProgramState, IsAt, IsRun, program_state, output_of, Near, last_of, lengths_of, IsRunFromStart, IsCheckpoint, checkpoint_steps, KeepsTrue, LooksWithin, KeepsPivotList, IsAtStep, Ascending, MeetsAt, IsPlacedAt, Misses, EndsSoon, step_among_new, spacing_of, checkpoint_of, IsAtStop, IsOnWay, StopsAt, IsArrival, Meets, flags-are-coins, records-are-records, coins-append}
 use Rattle.std.proofs.Common.{IfSome}
 use Rattle.stab_recording.specs.RecordedSteps.{AreOnQubits, HasRecorded, KeepsRecorded}
 use Rattle.stab_recording.proofs.RecordedReplayLemmas.{has_pivots-on}
@@ -35,7 +35,7 @@ run-on n coins ys old new h order within qubits sized all kept recorded = record
       (subst (λ xs. IsRun n coins (take (new.step - old.step) xs) before now) h.left recorded.steps.run));
   scratch = sized.scratch;
   has_pivots =
-      subst (λ xs. KeepsPivots n coins xs new.pivots.strings new.outputs.free.items new.pivots.window) (sym (take-add old.step (new.step - old.step) ys) ∙ ap (λ k. take k ys) further)
+      subst (λ xs. KeepsPivotList n coins xs new.pivots.strings new.outputs.free.items new.pivots.window) (sym (take-add old.step (new.step - old.step) ys) ∙ ap (λ k. take k ys) further)
       (has_pivots-on n coins (take old.step ys) (take (new.step - old.step) (drop old.step ys)) old.pivots.strings new.pivots.strings before now old.pivots.window new.pivots.window h.has_pivots
       (shows-from-start n coins (take old.step ys) before h.run) sized.strings kept.most kept.raised
       (subst (λ xs. All (LooksWithin new.pivots.window) (take (new.step - old.step) xs)) h.left recorded.steps.within)

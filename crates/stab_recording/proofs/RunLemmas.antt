@@ -1,6 +1,6 @@
 -- Runs: replays with no older run go on, repeat rounds, and forget checkpoints.
-use Rattle.stab_recording.proofs.Names.{None, unroll, check_within, AreRepeats, check-fits, Items, ◌≡◌, ℕ, zero, suc, ◌+◌, ◌*◌, ◌≤◌, refl, sym, ◌∙◌, ap, subst, Bool, List, [], ◌∷◌, ◌++◌, All, length, take, arith, All-take, take_all, Step, origin, outputs, output_of, KeepsPivots, most_steps, Repeat, IsRepeat, StepFits, Checkpoint, IsCheckpoint, checkpoint_steps, Near, Replay, IsAtStep, checkpoint_of, MayRecur, IsOnWay, plan_of_run, IsOwnRun}
-use Rattle.stab_items.specs.Cursors.{HasDistinctQubits}
+use Rattle.stab_recording.proofs.Names.{None, unroll, check_within, AreRepeats, check-fits, Items, ◌≡◌, ℕ, zero, suc, ◌+◌, ◌*◌, ◌≤◌, refl, sym, ◌∙◌, ap, subst, Bool, List, [], ◌∷◌, ◌++◌, All, length, take, arith, All-take, take_all, Step, origin, outputs, output_of, KeepsPivotList, most_steps, Repeat, IsRepeat, StepFits, Checkpoint, IsCheckpoint, checkpoint_steps, Near, Replay, IsAtStep, checkpoint_of, MayRecur, IsOnWay, plan_of_run, IsOwnRun}
+use Rattle.stab_items.specs.Steps.{HasDistinctQubits}
 use Rattle.stab_recording.specs.inner.Runs.{MayRunAll, MayRunBlock}
 use Rattle.stab_recording.proofs.ProgressLemmas.{runnable-named, steps-named}
 use Rattle.stab_recording.proofs.ReplayLemmas.{with-saved}
@@ -127,6 +127,6 @@ own-output n coins ys r own end =
     own.replay.at_step.run.output ∙ ap (λ xs. outputs n coins xs origin) (take_all r.step ys (omega (arith, end)))
 
 pub own-pivots : (n : ℕ) (coins : ℕ → Bool) (ys : List Step) (r : Replay) → IsOwnRun n coins ys r → r.step ≡ length ys
-    → KeepsPivots n coins ys r.pivots.strings r.outputs.free.items r.pivots.window
+    → KeepsPivotList n coins ys r.pivots.strings r.outputs.free.items r.pivots.window
 own-pivots n coins ys r own end =
-    subst (λ xs. KeepsPivots n coins xs r.pivots.strings r.outputs.free.items r.pivots.window) (take_all r.step ys (omega (arith, end))) own.replay.at_step.has_pivots
+    subst (λ xs. KeepsPivotList n coins xs r.pivots.strings r.outputs.free.items r.pivots.window) (take_all r.step ys (omega (arith, end))) own.replay.at_step.has_pivots

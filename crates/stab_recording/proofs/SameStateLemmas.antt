@@ -1,5 +1,5 @@
 -- Same states: a string by which two states differ shows whether they are the same, and so do the stabilisers of one of them.
-use Rattle.stab_recording.proofs.Names.{◌≡◌, ◌↔◌, ℕ, zero, suc, ◌<◌, ◌≤◌, Bool, true, false, not, refl, sym, ◌∙◌, ap, subst, List, Option, Some, None, inl, inr, length, arith, if◌then◌else◌, leb_tells, length-replicate, Letter, I, ◌⊕◌, Signed, minus, with_sign, anticommute, strings_anticommute, length-product, TableauState, stabilises, stabiliser_of, destabiliser_of, chosen_product, CommutesWithAll, IsGenerated, IsStabiliserGroup, SameGroup, is_free_by, IsConjugated, not-true, not_both, same_test, and-left, and-right, same-letters}
+use Rattle.stab_recording.proofs.Names.{◌≡◌, ◌↔◌, ℕ, zero, suc, ◌<◌, ◌≤◌, Bool, true, false, not, refl, sym, ◌∙◌, ap, subst, List, Option, Some, None, inl, inr, length, arith, if◌then◌else◌, leb_tells, length-replicate, Letter, I, ◌⊕◌, Signed, minus, with_sign, anticommute, strings_anticommute, length-product, TableauState, stabilises, stabiliser_of, destabiliser_of, chosen_product, CommutesWithAll, IsGenerated, IsStabiliserGroup, SameGroup, is_random_by, IsConjugated, not-true, not_both, same_test, and-left, and-right, same-letters}
 use Rattle.stab_pauli.specs.Paulis.{product}
 
 twice : (b : Bool) → true ⊕ (true ⊕ b) ≡ b
@@ -48,8 +48,8 @@ module _ (n : ℕ) (f : List Letter) (u v : Signed → Bool) (group : IsStabilis
           (not_both (v (minus s)) (group.one_sign s l m)
           (same (minus s) l ∙ sym (conjugated s l ∙ ap (λ b. u (with_sign b s)) e) ∙ m))
 
-not-free : (v : Signed → Bool) (p : Signed) → is_free_by v p ≡ true → (q : Signed) → q.letters ≡ p.letters → v q ≡ true → ⊥
-not-free v p free q e m = by_signs p.negative q.negative refl refl
+not-random : (v : Signed → Bool) (p : Signed) → is_random_by v p ≡ true → (q : Signed) → q.letters ≡ p.letters → v q ≡ true → ⊥
+not-random v p free q e m = by_signs p.negative q.negative refl refl
   where
     same : (negative : Bool) → q.negative ≡ negative → v (record { negative = negative; letters = p.letters }) ≡ true
     same negative is = sym (λ i. v (record { negative = is i; letters = e i })) ∙ m
@@ -67,12 +67,12 @@ not-free v p free q e m = by_signs p.negative q.negative refl refl
         flipped (v (minus p)) (and-right _ _ free) (ap (λ s. v (record { negative = not s; letters = p.letters })) ea ∙ same false eb)
 
 -- if no sign of a string by which two states differ is a member, they are not the same
-differing-free : (t : TableauState) (p : Signed) (u : Signed → Bool) → IsStabiliserGroup t.qubits (stabilises t) → length p.letters ≡ t.qubits
+differing-random : (t : TableauState) (p : Signed) (u : Signed → Bool) → IsStabiliserGroup t.qubits (stabilises t) → length p.letters ≡ t.qubits
     → IsConjugated t.qubits p.letters u (stabilises t) → ((q : Signed) → length q.letters ≡ t.qubits → CommutesWithAll t q → IsGenerated t q)
-    → is_free_by (stabilises t) p ≡ true → SameGroup t.qubits (stabilises t) u → ⊥
-differing-free t p u group size conjugated generated free same =
+    → is_random_by (stabilises t) p ≡ true → SameGroup t.qubits (stabilises t) u → ⊥
+differing-random t p u group size conjugated generated free same =
     let made = generated p size (commutes-same t.qubits p.letters u (stabilises t) group size conjugated same) in
-    not-free (stabilises t) p free (chosen_product t p t.qubits) made.letters made.member
+    not-random (stabilises t) p free (chosen_product t p t.qubits) made.letters made.member
 
 -- by the string that a checkpoint gave, and the sign that the state was asked for
 
@@ -84,9 +84,9 @@ module _ (t c : TableauState) (p : Signed) (group : IsStabiliserGroup t.qubits (
   pub signs-same : (b : Bool) → stabilises t (with_sign b p) ≡ true → SameGroup t.qubits (stabilises t) (stabilises c)
   signs-same b m = same-conjugated t.qubits p.letters (stabilises c) (stabilises t) group size here (b ⊕ p.negative) m
 
-  pub signs-differ : ((q : Signed) → length q.letters ≡ t.qubits → CommutesWithAll t q → IsGenerated t q) → is_free_by (stabilises t) p ≡ true
+  pub signs-differ : ((q : Signed) → length q.letters ≡ t.qubits → CommutesWithAll t q → IsGenerated t q) → is_random_by (stabilises t) p ≡ true
       → SameGroup t.qubits (stabilises t) (stabilises c) → ⊥
-  signs-differ generated free = differing-free t p (stabilises c) group size here generated free
+  signs-differ generated free = differing-random t p (stabilises c) group size here generated free
 
 -- what follows from a string of one state alone
 pub differing-determined : (n : ℕ) (u v : Signed → Bool) → SameGroup n u v → (p : Signed) × (length p.letters ≡ n) × (u p ≡ true) × (v p ≡ false) → ⊥

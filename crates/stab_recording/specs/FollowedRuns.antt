@@ -43,7 +43,7 @@ pub record IsFollowed (coins : ℕ → Bool) (p : Plan) (old : OldRun) (r : Repl
 pub record Costs (before after : ℕ) (old new : Replay) : Type 0 where
   pub counted : (new.applied + new.by_frame) + old.step ≡ (old.applied + old.by_frame) + new.step
   pub asks : after + old.applied ≤ before + new.applied
-  pub asks_free : after + ones old.outputs.free.items ≤ before + ones new.outputs.free.items
+  pub asks_random : after + ones old.outputs.free.items ≤ before + ones new.outputs.free.items
 
 -- how a replay ended that followed an old run: no later than the two agree, and with no less to look back to
 pub record HasEnded (coins : ℕ → Bool) (p : Plan) (old : OldRun) (from r : Replay) (e : End) : Type 0 where

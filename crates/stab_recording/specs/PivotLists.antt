@@ -8,7 +8,7 @@ use Rattle.stab_items.specs.Steps.{LooksWithin}
 
 -- strings that were kept of the run of these steps, which has these flags, exchange its random outcomes; and the steps look back to
 -- no more records than the lookback window
-pub record KeepsPivots (n : ℕ) (coins : ℕ → Bool) (xs : List Step) (strings : PivotsState) (free : List Bool) (window : ℕ) : Type 0 where
+pub record KeepsPivotList (n : ℕ) (coins : ℕ → Bool) (xs : List Step) (strings : PivotsState) (free : List Bool) (window : ℕ) : Type 0 where
   pub size : strings.qubits ≡ n
   pub numbered : IsNumbered strings free
   pub are_true : AreTrue n coins (pivot_at strings.strings free) xs origin

@@ -24,5 +24,5 @@ pub record KeepsRecorded (old new : PivotRecorder) : Type 0 where
 pub record HasRecorded (n : ℕ) (coins : ℕ → Bool) (most : ℕ) (cursor rest : CursorState) (pivots following : PivotRecorder) (old new : ProgramState) (applied later asked after : ℕ) : Type 0 where
   pub left : rest.left ≡ drop most cursor.left
   pub counted : later ≡ applied + length (take most cursor.left)
-  pub asks_free : after + ones old.output.free ≤ asked + ones new.output.free
+  pub asks_random : after + ones old.output.free ≤ asked + ones new.output.free
   pub steps : PivotsSteps n coins (take most cursor.left) following.window pivots.strings following.strings old new

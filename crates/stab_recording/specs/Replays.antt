@@ -14,7 +14,7 @@ use Rattle.stab_recording.specs.Spacing.{Near, last_of}
 use Rattle.stab_run.specs.Cuts.{lengths_of}
 use Rattle.stab_recording.specs.Meets.{Meets}
 use Rattle.stab_recording.specs.Checkpoints.{IsRunFromStart, IsCheckpoint, checkpoint_steps}
-use Rattle.stab_recording.specs.PivotLists.{KeepsPivots}
+use Rattle.stab_recording.specs.PivotLists.{KeepsPivotList}
 use Rattle.stab_recording.specs.SavedCheckpoints.{moved}
 
 -- where an old checkpoint is among the new steps
@@ -41,7 +41,7 @@ pub record IsAtStep (n : ℕ) (coins : ℕ → Bool) (ys : List Step) (r : Repla
   pub within : r.step ≤ length ys
   pub run : IsRunFromStart n coins (take r.step ys) (program_state r.tableau (output_of r.outputs))
   pub scratch : length r.pivots.string.letters ≡ n
-  pub has_pivots : KeepsPivots n coins (take r.step ys) r.pivots.strings r.outputs.free.items r.pivots.window
+  pub has_pivots : KeepsPivotList n coins (take r.step ys) r.pivots.strings r.outputs.free.items r.pivots.window
 
 -- a replay that began at a step has come so far, and saved checkpoints on its way
 pub record IsReplay (n : ℕ) (coins : ℕ → Bool) (K begin : ℕ) (ys : List Step) (r : Replay) : Type 0 where

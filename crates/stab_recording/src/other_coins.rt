@@ -64,7 +64,7 @@ pub fn propagate_with_coins<C: Coins>(
     ensures placed { OnOk result (IsPlaced free.now propagation.new) }
     ensures same_coins { C.sequence coins.new ≡ C.sequence coins.old }
     ensures asks { C.asks coins.new ≤ C.asks coins.old + all_coins_of (take most cursor.old.left) }
-    ensures asks_free { OnOk result (C.asks coins.new ≤ C.asks coins.old + ones (take (all_coins_of (take most cursor.old.left)) (drop propagation.old.coin free.now))) }
+    ensures asks_random { OnOk result (C.asks coins.new ≤ C.asks coins.old + ones (take (all_coins_of (take most cursor.old.left)) (drop propagation.old.coin free.now))) }
     ensures propagated { OnOk result (PropagatesToOthers (length propagation.old.letters) (pivot_at strings.now.strings free.now) free.now outcomes.now (coins_from ahead (C.sequence coins.old)) (take most cursor.old.left) propagation.old propagation.new) }
 {
     let draw = OtherCoins {

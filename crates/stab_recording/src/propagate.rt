@@ -8,7 +8,7 @@ ghost use Rattle.stab_frames.specs.Pivots.{pivot_at, AreTrue};
 ghost use Rattle.stab_frames.specs.Propagations.{frame_at, IsPlaced, PropagatesOver};
 ghost use Rattle.stab_recording.specs.PassedSteps.{HasPassed, MayPropagate};
 ghost use Rattle.stab_recording.specs.declared.propagate.Stop.TheVariants.{Gone};
-ghost use Rattle.stab_frames.specs.inner.Draws.{AsksFree};
+ghost use Rattle.stab_frames.specs.inner.Draws.{AsksRandom};
 ghost use Rattle.stab_frames.specs.inner.Propagates.{GoesOver};
 
 use stab_frames::{Draw, Known, Pivots, Propagation, SameCoins, propagate_instruction};
@@ -54,7 +54,7 @@ pub fn propagate<D: Draw, C: Coins>(
     ensures all { cursor.new.all ≡ cursor.old.all }
     ensures length { length propagation.new.letters ≡ length propagation.old.letters }
     ensures same_coins { C.sequence coins.new ≡ C.sequence coins.old }
-    ensures asks { AsksFree known.entry.free.now propagation.old.coin (propagation.old.coin + all_coins_of (take most cursor.old.left)) (C.asks coins.old) (C.asks coins.new) }
+    ensures asks { AsksRandom known.entry.free.now propagation.old.coin (propagation.old.coin + all_coins_of (take most cursor.old.left)) (C.asks coins.old) (C.asks coins.new) }
     ensures goes { IfOk result (λ w. GoesOver (length propagation.old.letters) known.entry.strings.now.strings known.entry.free.now (D.changes known.entry.draw.now (C.sequence coins.old)) (take w.steps cursor.old.left) propagation.old propagation.new) }
     ensures gone { IfOk result (λ w. w.stop ≡ Gone → may_end ≡ true) }
 {

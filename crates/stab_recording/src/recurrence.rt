@@ -3,7 +3,7 @@
 ghost use Rattle.std.specs.Prelude.{◌≡◌, ◌+◌, ◌<◌, IsTrue, IfSome, All, length, IfOk, IfErr};
 ghost use Rattle.stab_io.specs.declared.refusal.Refusal.TheVariants.{OutOfMemory};
 ghost use Rattle.stab_run.specs.ProgramStates.{output_of};
-ghost use Rattle.stab_recording.specs.inner.FoldedReplays.{IsRoundsAfter, IsOfOwn, IsFound};
+ghost use Rattle.stab_recording.specs.inner.FoldedReplays.{IsRoundsAfter, IsOfOwn, AreRoundsFound};
 
 use crate::checkpoint::Checkpoint;
 use crate::frames_between::frame_between;
@@ -54,7 +54,7 @@ impl<'a> Replay<'a> {
         requires string { length string.old.letters ≡ self.now.tableau.qubits }
         requires own { All (IsOfOwn self.now.tableau.qubits (output_of self.now.outputs)) self.now.saved.items }
         ensures string { length string.new.letters ≡ length string.old.letters }
-        ensures found { IfOk result (λ found. IfSome found (IsFound block self.now)) }
+        ensures found { IfOk result (λ found. IfSome found (AreRoundsFound block self.now)) }
         ensures err { IfErr result (λ r. r ≡ OutOfMemory) }
     {
         let checkpoint = &self.saved[number];
@@ -102,7 +102,7 @@ impl<'a> Replay<'a> {
     ) -> Result<Option<Recurrence>, Refusal>
         requires some { 0 < block.length }
         requires own { All (IsOfOwn self.now.tableau.qubits (output_of self.now.outputs)) self.now.saved.items }
-        ensures found { IfOk result (λ found. IfSome found (IsFound block self.now)) }
+        ensures found { IfOk result (λ found. IfSome found (AreRoundsFound block self.now)) }
         ensures err { IfErr result (λ r. r ≡ OutOfMemory) }
     {
         let mut string = Pauli::identity(alloc, self.tableau.len())?;

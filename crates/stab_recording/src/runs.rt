@@ -4,9 +4,8 @@
 ghost use Rattle.std.specs.Prelude.{◌≡◌, ℕ, ◌+◌, ◌≤◌, Bool, [], None, All, length, OnOk, IfOk, IfErr};
 ghost use Rattle.stab_io.specs.declared.refusal.Refusal.TheVariants.{OutOfMemory};
 ghost use Rattle.stab_gates.specs.Limits.{most_qubits};
-ghost use Rattle.stab_items.specs.Steps.{unroll, check_of};
+ghost use Rattle.stab_items.specs.Steps.{unroll, check_of, HasDistinctQubits};
 ghost use Rattle.stab_items.specs.Views.{circuit_items};
-ghost use Rattle.stab_items.specs.Cursors.{HasDistinctQubits};
 ghost use Rattle.stab_recording.specs.FollowedRuns.{Costs};
 ghost use Rattle.stab_recording.specs.inner.Progress.{IsFurther};
 ghost use Rattle.stab_recording.specs.inner.Runs.{IsOwnRun, MayRunAll, MayRunBlock};

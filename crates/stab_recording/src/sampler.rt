@@ -118,7 +118,7 @@ impl<'a> Sampler<'a> {
         ensures decided { IfOk result (λ s. DependsOnCoinsAt s.free.items self.old.qubits (C.sequence coins.old) self.old.items) }
         ensures same_coins { C.sequence coins.new ≡ C.sequence coins.old }
         ensures asks { C.asks coins.new ≤ C.asks coins.old + all_coins_of (unroll self.old.items) }
-        ensures asks_free { IfOk result (λ s. C.asks coins.new ≤ C.asks coins.old + ones s.free.items) }
+        ensures asks_random { IfOk result (λ s. C.asks coins.new ≤ C.asks coins.old + ones s.free.items) }
         ensures err { IfErr result (λ r. r ≡ OutOfMemory) }
     {
         run_whole(
@@ -162,7 +162,7 @@ pub fn run_once<C: Coins>(
     ensures refused { Refuses result (check_within n (circuit_items circuit.now)) }
     ensures same_coins { C.sequence coins.new ≡ C.sequence coins.old }
     ensures asks { C.asks coins.new ≤ C.asks coins.old + all_coins_of (unroll (circuit_items circuit.now)) }
-    ensures asks_free { IfOk result (λ s. C.asks coins.new ≤ C.asks coins.old + ones s.free.items) }
+    ensures asks_random { IfOk result (λ s. C.asks coins.new ≤ C.asks coins.old + ones s.free.items) }
 {
     let mut sampler = Sampler::new(alloc, circuit, n)?;
     match sampler.shot(alloc, coins) {

@@ -50,7 +50,7 @@ pub fn run_whole<C: Coins>(
     requires repeats { AreRepeats 0 (unroll (circuit_items circuit.now)) repeats.now }
     ensures same_coins { C.sequence coins.new ≡ C.sequence coins.old }
     ensures asks { C.asks coins.new ≤ C.asks coins.old + all_coins_of (unroll (circuit_items circuit.now)) }
-    ensures asks_free { IfOk result (λ s. C.asks coins.new ≤ C.asks coins.old + ones s.free.items) }
+    ensures asks_random { IfOk result (λ s. C.asks coins.new ≤ C.asks coins.old + ones s.free.items) }
     ensures run { IfOk result (IsShotOf (run n (C.sequence coins.old) (unroll (circuit_items circuit.now)) (start observables))) }
     ensures err { IfErr result (λ r. r ≡ OutOfMemory) }
 {

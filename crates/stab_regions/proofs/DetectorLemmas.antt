@@ -1,5 +1,5 @@
 -- Detectors among steps: how many there are, the steps before each, its region in the table, and the bit that a run gives it.
-use Rattle.stab_regions.proofs.Names.{◌≡◌, ℕ, zero, suc, ◌+◌, ◌<◌, refl, sym, ◌∙◌, ap, subst, arith, Bool, true, false, List, [], ◌∷◌, ◌++◌, length, if◌then◌else◌, slice_index_or, All-nil, All-cons, All-head, All-tail, Step, one, two, controlled, collapse, product, detector, observable, is_detector, detectors_of, parity, State, start, run, when, Point, origin, given, next_point, outputs, StepFits, RunsArePointsWithOutputs, asks_nothing, bit_asked, named, steps_before_detector, named_by}
+use Rattle.stab_regions.proofs.Names.{◌≡◌, ℕ, zero, suc, ◌+◌, ◌<◌, refl, sym, ◌∙◌, ap, subst, arith, Bool, true, false, List, [], ◌∷◌, ◌++◌, length, if◌then◌else◌, slice_index_or, All-nil, All-cons, All-head, All-tail, Step, one, two, controlled, collapse, product, detector, observable, is_detector, detectors_of, parity, State, start, run, when, Point, origin, given, next_point, outputs, StepFits, RunsArePointsWithOutputs, asks_nothing, bit_asked, named_by_detector, steps_before_detector, named_by}
 use Rattle.std.proofs.Common.{All}
 
 -- the first step, if it is a detector and if it is not: how many there are, the steps before detector d, and what it names
@@ -16,14 +16,14 @@ module _ (x : Step) (xs : List Step) where
   before-other (suc d) e = ap (λ b. x ∷ (if b then steps_before_detector d xs else steps_before_detector (suc d) xs)) e
 
   pub named-other : (d : ℕ) → is_detector x ≡ false → named_by d (x ∷ xs) ≡ named_by d xs
-  named-other zero e = ap (λ b. if b then named x else named_by zero xs) e
+  named-other zero e = ap (λ b. if b then named_by_detector x else named_by zero xs) e
   named-other (suc d) e = ap (λ b. if b then named_by d xs else named_by (suc d) xs) e
 
   pub before-first : is_detector x ≡ true → steps_before_detector zero (x ∷ xs) ≡ []
   before-first e = ap (λ b. if b then [] else x ∷ steps_before_detector zero xs) e
 
-  pub named-first : is_detector x ≡ true → named_by zero (x ∷ xs) ≡ named x
-  named-first e = ap (λ b. if b then named x else named_by zero xs) e
+  pub named-first : is_detector x ≡ true → named_by zero (x ∷ xs) ≡ named_by_detector x
+  named-first e = ap (λ b. if b then named_by_detector x else named_by zero xs) e
 
   pub before-next : (d : ℕ) → is_detector x ≡ true → steps_before_detector (suc d) (x ∷ xs) ≡ x ∷ steps_before_detector d xs
   before-next d e = ap (λ b. x ∷ (if b then steps_before_detector d xs else steps_before_detector (suc d) xs)) e
@@ -70,7 +70,7 @@ none d lt = omega arith
 -- the bits of a run
 
 -- a step gives a detector's bit if it is a detector
-detectors-given : (n : ℕ) (coins : ℕ → Bool) (x : Step) (p : Point) → (given n coins x p).detectors ≡ when (is_detector x) (parity p.records (named x))
+detectors-given : (n : ℕ) (coins : ℕ → Bool) (x : Step) (p : Point) → (given n coins x p).detectors ≡ when (is_detector x) (parity p.records (named_by_detector x))
 detectors-given n coins (one g q) p = refl
 detectors-given n coins (two g a b) p = refl
 detectors-given n coins (controlled l k q) p = refl
@@ -89,10 +89,10 @@ module _ (n : ℕ) (coins : ℕ → Bool) (x : Step) (xs : List Step) (p : Point
   bits_after = (outputs n coins xs (next_point n coins x p)).detectors
 
   -- the first step's bit comes first, if it has one
-  bits-given : (b : Bool) → is_detector x ≡ b → (outputs n coins (x ∷ xs) p).detectors ≡ when b (parity p.records (named x)) ++ bits_after
-  bits-given b e = ap (λ bits. bits ++ bits_after) (detectors-given n coins x p ∙ ap (λ c. when c (parity p.records (named x))) e)
+  bits-given : (b : Bool) → is_detector x ≡ b → (outputs n coins (x ∷ xs) p).detectors ≡ when b (parity p.records (named_by_detector x)) ++ bits_after
+  bits-given b e = ap (λ bits. bits ++ bits_after) (detectors-given n coins x p ∙ ap (λ c. when c (parity p.records (named_by_detector x))) e)
 
-  -- so each bit has its place
+  -- so each bit has its position
   bits-next : (b : Bool) → is_detector x ≡ b → HasBits n coins (x ∷ xs) p
   bits-next false e d lt =
       ap (λ bits. slice_index_or bits d false) (bits-given false e)
@@ -126,10 +126,10 @@ length-given n coins [] p = refl
 length-given n coins (x ∷ xs) p = by_kind (is_detector x) refl (length-given n coins xs (next_point n coins x p))
   where
     here : (b : Bool) → is_detector x ≡ b
-        → length (outputs n coins (x ∷ xs) p).detectors ≡ length (when b (parity p.records (named x)) ++ (outputs n coins xs (next_point n coins x p)).detectors)
+        → length (outputs n coins (x ∷ xs) p).detectors ≡ length (when b (parity p.records (named_by_detector x)) ++ (outputs n coins xs (next_point n coins x p)).detectors)
     here b e =
         ap (λ bits. length (bits ++ (outputs n coins xs (next_point n coins x p)).detectors))
-        (detectors-given n coins x p ∙ ap (λ c. when c (parity p.records (named x))) e)
+        (detectors-given n coins x p ∙ ap (λ c. when c (parity p.records (named_by_detector x))) e)
 
     by_kind : (b : Bool) → is_detector x ≡ b → length (outputs n coins xs (next_point n coins x p)).detectors ≡ detectors_of xs
         → length (outputs n coins (x ∷ xs) p).detectors ≡ detectors_of (x ∷ xs)

@@ -11,8 +11,11 @@ use Rattle.stab_regions.proofs.LookLemmas.{look-newest}
 use Rattle.stab_regions.proofs.NegatedLemmas.{count-least}
 use Rattle.stab_regions.proofs.ReadLemmas.{size-before}
 use Rattle.stab_regions.proofs.TouchLemmas.{touches}
-use Rattle.stab_regions.specs.Effects.{letter_parts}
-use Rattle.stab_regions.specs.inner.EffectsAt.{without_reset, cleared_by, effect_before, asked_about, end_letters, Counts, first_part, counts_of, effect_region, FitsCounts}
+use Rattle.stab_regions.specs.Effects.{part_bits}
+use Rattle.stab_regions.specs.inner.EffectsAt.{cleared_by, effect_before, end_letters, first_part, effect_region}
+use Rattle.stab_regions.specs.declared.counts.Counts.{Counts}
+use Rattle.stab_regions.specs.inner.Passes.{numbers_before, FitsCounts}
+use Rattle.stab_regions.specs.inner.RowMoves.{corrected_by, asked_about}
 
 -- regions of numbers
 
@@ -21,7 +24,7 @@ end-size i first zero = refl
 end-size i first (suc n) = ap suc (end-size i (first + 2) n)
 
 pub effect-size : (n : ℕ) (x : Step) (r : Region) → length r.string.letters ≡ n → length (effect_before n x r).string.letters ≡ n
-effect-size n x r long = size-before n (without_reset x) (cleared_by x r) (cleared_by-size x r ∙ long)
+effect-size n x r long = size-before n (corrected_by false x) (cleared_by x r) (cleared_by-size x r ∙ long)
 
 pub region-size : (c : Counts) (i : ℕ) (back : List Step) → length (effect_region c i back).string.letters ≡ c.qubits
 region-size c i [] = end-size i (first_part c) c.qubits
@@ -111,7 +114,7 @@ below-end i first (suc n) (x ∷ f) lt =
     ∙ ap (λ b. b ⊕ false) (letters_anticommute-I x)
 
 -- the part of a number
-pub end-part : (p first : ℕ) (f : List Letter) → strings_anticommute f (end_letters (first + p) first (length f)) ≡ slice_index_or (letter_parts f) p false
+pub end-part : (p first : ℕ) (f : List Letter) → strings_anticommute f (end_letters (first + p) first (length f)) ≡ slice_index_or (part_bits f) p false
 end-part p first [] = refl
 end-part zero first (x ∷ f) =
     (λ t. letters_anticommute x (if eq-eqb first (first + 0) (omega arith) t then Z else if first + 1 == first + 0 then X else I)
@@ -146,5 +149,5 @@ fits-drop c (suc k) [] fits = fits
 fits-drop c (suc k) (x ∷ xs) fits = fits-drop c k xs (fits-next c x xs fits)
 
 -- all steps of a circuit do
-pub fits-all : (n : ℕ) (items : Items) → All (StepFits n) (unroll items) → FitsCounts (counts_of n items) (unroll items)
+pub fits-all : (n : ℕ) (items : Items) → All (StepFits n) (unroll items) → FitsCounts (numbers_before n items) (unroll items)
 fits-all n items fits = record { steps = fits; records = omega arith; detectors = omega arith; observables = names-below items }

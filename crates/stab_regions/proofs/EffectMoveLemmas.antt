@@ -1,12 +1,9 @@
 -- Effects that are moved: what rows show at the end of all steps, and before a step by what they show after it.
-use Rattle.stab_regions.proofs.Names.{◌≡◌, ℕ, zero, suc, ◌+◌, ◌-◌, ◌*◌, ◌<◌, ◌≤◌, ◌^◌, ◌⊎◌, inl, inr, refl, sym, ◌∙◌, ap, subst, arith, Bool, true, false, ◌&&◌, List, [], ◌∷◌, ◌++◌, length, set, if◌then◌else◌, ◌==◌, ne_eqb, eqb-true, cases_eq, cases_lt, slice_index_or, get_or_past, get_or-set_same, get_or-set_other, length-set, Letter, I, X, Z, ◌⊕◌, letters_anticommute, letter_at, Step, one, two, controlled, collapse, product, detector, observable, is_detector, detectors_of, Region, with_looks, region_before, odd, row, ShowsLetters, ShowsLooks, ShowsRegion, MovesRegion, Factor, Result, OnOk}
-use Rattle.stab_regions.proofs.GateLemmas.{on_ok}
-use Rattle.stab_items.specs.Steps.{makes}
+use Rattle.stab_regions.proofs.Names.{◌≡◌, ℕ, zero, suc, ◌+◌, ◌-◌, ◌*◌, ◌<◌, ◌≤◌, ◌^◌, ◌⊎◌, inl, inr, refl, sym, ◌∙◌, ap, subst, arith, Bool, true, false, ◌&&◌, List, [], ◌∷◌, length, set, if◌then◌else◌, ◌==◌, ne_eqb, eqb-true, cases_eq, cases_lt, slice_index_or, get_or_past, get_or-set_same, get_or-set_other, length-set, Letter, I, X, Z, ◌⊕◌, letters_anticommute, letter_at, Step, one, two, controlled, collapse, product, detector, observable, is_detector, detectors_of, Region, with_looks, region_before, odd, row, ShowsLetters, ShowsLooks, Counts, RegionRows, ShowsNumber, asked_about, HasOwn, HasNumbers, corrected_by, MovesRows}
 use Rattle.stab_frames.specs.inner.Touches.{acts}
 use Rattle.stab_regions.proofs.EffectLemmas.{end-size, region-size}
 use Rattle.stab_regions.proofs.LeftLemmas.{cleared_by-size}
-use Rattle.stab_regions.specs.declared.effects.Effects.{Effects}
-use Rattle.stab_regions.specs.inner.EffectsAt.{cleared, cleared_by, effect_before, asked_about, end_letters, Counts, first_part, numbers_in, effect_region, ShowsEffect, IsEffectsAt, HasOwn, HasNumbers, BeginsRecord, ClearsQubit, MovesEffects, FitsCounts}
+use Rattle.stab_regions.specs.inner.EffectsAt.{cleared, cleared_by, end_letters, first_part, numbers_in, effect_region, IsEffectsAt, ClearsQubit, ClearsReset, EffectsMoveTo}
 
 -- the end of all steps
 
@@ -58,7 +55,7 @@ module _ (i first n : ℕ) (by_x by_z : List (List ℕ)) (long_x : length by_x �
   pub end-shows : ShowsLetters i by_x by_z (end_letters i first n)
   end-shows = record { x = λ q. shows-x q (cases_lt q n); z = λ q. shows-z q (cases_lt q n) }
 
-pub is-at-end : (c : Counts) (e : Effects) → numbers_in c < 2 ^ 32 → length e.by_x.items ≡ c.qubits → length e.by_z.items ≡ c.qubits
+pub is-at-end : (c : Counts) (e : RegionRows) → numbers_in c < 2 ^ 32 → length e.by_x.items ≡ c.qubits → length e.by_z.items ≡ c.qubits
     → ((q : ℕ) → q < c.qubits → row e.by_x.items q ≡ (first_part c + 2 * q) ∷ []) → ((q : ℕ) → q < c.qubits → row e.by_z.items q ≡ ((first_part c + 1) + 2 * q) ∷ [])
     → e.records.items ≡ [] → e.record_end ≡ c.records → e.detector_end ≡ c.records + c.detectors → e.observable ≡ c.records + c.detectors → IsEffectsAt c [] e
 is-at-end c e few long_x long_z is_x is_z none same_record same_detector same_observable = record {
@@ -100,149 +97,66 @@ cleared-shows false i q old_x old_z new_x new_z letters is_x is_z shows = record
   z = λ k. ap (λ (rows : List (List ℕ)). odd i (row rows k)) is_z ∙ shows.z k;
 }
 
--- moved over a step, effects are those before it
-
-step-detectors : (b : Bool) (end total made : ℕ) → end ≡ total - made → (if b then end - 1 else end) ≡ total - (if b then 1 + made else made)
-step-detectors true end total made e = omega (arith, e)
-step-detectors false end total made e = e
-
-pub at-next : (c : Counts) (x : Step) (back : List Step) (old new : Effects) → IsEffectsAt c back old → MovesEffects (length old.by_x.items) x old new → IsEffectsAt c (x ∷ back) new
-at-next c x back old new at moves =
-    let moved : MovesEffects c.qubits x old new = subst (λ n. MovesEffects n x old new) at.qubits moves in
-    record {
-      rows = moved.rows ∙ at.rows ∙ sym moved.qubits;
-      qubits = moved.qubits ∙ at.qubits;
-      record_end = moved.record_end ∙ omega (arith, at.record_end);
-      detector_end = moved.detector_end ∙ step-detectors (is_detector x) old.detector_end (c.records + c.detectors) (detectors_of back) at.detector_end;
-      observable = moved.observable ∙ at.observable;
-      few = at.few;
-      regions = λ i.
-          subst (ShowsEffect new i)
-          (λ t. effect_before c.qubits x (with_looks (asked_about (at.record_end t) (at.detector_end t) (at.observable t) i x) (effect_region c i back)))
-          (moved.regions i (effect_region c i back) (region-size c i back) (at.regions i));
-    }
-
--- a step's own numbers are there
-
-own-there : (c : Counts) (x : Step) (back : List Step) (e : Effects) → IsEffectsAt c back e → FitsCounts c (x ∷ back) → HasOwn e x
-own-there c (one g q) back e at fits = tt
-own-there c (two g a b) back e at fits = tt
-own-there c (controlled l k q) back e at fits = tt
-own-there c (collapse l q recorded inverted resets) back e at fits = tt
-own-there c (product factors inverted) back e at fits = tt
-own-there c (detector ks) back e at fits = omega (arith, at.detector_end, fits.detectors)
-own-there c (observable j ks) back e at fits =
-    let below : j < c.observables = fits.observables 0 (observable j ks) (omega arith) in
-    subst (λ k. k + j < 2 ^ 32) (sym at.observable) (small ((c.records + c.detectors) + j) (numbers_in c) (2 ^ 32) (omega (arith, below)) at.few)
-  where
-    small : (a b top : ℕ) → a ≤ b → b < top → a < top
-    small a b top le lt = omega (arith, le, lt)
-
-pub numbers-there : (c : Counts) (x : Step) (back : List Step) (e : Effects) → IsEffectsAt c back e → FitsCounts c (x ∷ back) → HasNumbers e x
-numbers-there c x back e at fits = record {
-  record_some = omega (arith, at.record_end, fits.records);
-  record_few = small e.record_end (numbers_in c) (2 ^ 32) (omega (arith, at.record_end)) at.few;
-  detector_few = small e.detector_end (numbers_in c) (2 ^ 32) (omega (arith, at.detector_end)) at.few;
-  own = own-there c x back e at fits;
-}
-  where
-    small : (a b top : ℕ) → a ≤ b → b < top → a < top
-    small a b top le lt = omega (arith, le, lt)
-
--- measurements: the record is asked for, the letters in front of a reset are taken away, and the measurement is moved over
-
-made-end : (recorded : Bool) (l : Letter) (q : ℕ) (inverted resets : Bool) (end : ℕ) → (if recorded then end - 1 else end) ≡ end - makes (collapse l q recorded inverted resets)
-made-end true l q inverted resets end = refl
-made-end false l q inverted resets end = omega arith
-
-asked-made : (recorded : Bool) (l : Letter) (q : ℕ) (inverted resets : Bool) (r d o i : ℕ)
-    → (if recorded then (if i + 1 == r then 1 ∷ [] else []) else []) ≡ asked_about r d o i (collapse l q recorded inverted resets)
-asked-made true l q inverted resets r d o i = refl
-asked-made false l q inverted resets r d o i = refl
-
--- rows and records after a step show what they did, if they are the same
-same-rows : (i : ℕ) (old_x old_z old new_x new_z new : List (List ℕ)) (r : Region) → new_x ≡ old_x → new_z ≡ old_z → new ≡ old → ShowsRegion i old_x old_z old r → ShowsRegion i new_x new_z new r
-same-rows i old_x old_z old new_x new_z new r is_x is_z is shows =
-    subst (λ rows. ShowsRegion i rows new_z new r) (sym is_x)
-    (subst (λ rows. ShowsRegion i old_x rows new r) (sym is_z) (subst (λ rows. ShowsRegion i old_x old_z rows r) (sym is) shows))
-
-begun-shows : (recorded : Bool) (l : Letter) (q : ℕ) (inverted resets : Bool) (old begun : Effects) (i : ℕ) (r : Region) → BeginsRecord recorded old begun → ShowsEffect old i r
-    → ShowsEffect begun i (with_looks (asked_about old.record_end old.detector_end old.observable i (collapse l q recorded inverted resets)) r)
-begun-shows recorded l q inverted resets old begun i r begins shows = record {
-  letters =
-      subst (λ rows. ShowsLetters i rows begun.by_z.items r.string.letters) (sym (ap (λ rows. rows.items) begins.by_x))
-      (subst (λ rows. ShowsLetters i old.by_x.items rows r.string.letters) (sym (ap (λ rows. rows.items) begins.by_z)) shows.letters);
-  looks =
-      subst (λ ks. ShowsLooks i begun.records.items (ks ++ r.looks)) (asked-made recorded l q inverted resets old.record_end old.detector_end old.observable i)
-      (begins.looks i r.looks shows.looks);
-}
+-- a step that resets, of which the letters in front of it are taken away and what it measures is then moved over
 
 cleared-long : {A : Type 0} (b : Bool) (q : ℕ) (z : A) (xs : List A) → length (if b then set xs q z else xs) ≡ length xs
 cleared-long true q z xs = length-set xs q z
 cleared-long false q z xs = refl
 
-module _ (q : ℕ) (l : Letter) (recorded inverted resets : Bool) (old begun clear new : Effects) (by_x by_z : List (List ℕ)) (begins : BeginsRecord recorded old begun)
-    (clears : ClearsQubit (resets && acts l) q begun clear) (is_x : new.by_x.items ≡ by_x) (is_z : new.by_z.items ≡ by_z) (long_x : length by_x ≡ length clear.by_x.items)
-    (long_z : length by_z ≡ length clear.by_z.items) (same_record : new.record_end ≡ clear.record_end) (same_detector : new.detector_end ≡ clear.detector_end)
-    (same_observable : new.observable ≡ clear.observable) where
-  abbrev n : ℕ
-  n = length old.by_x.items
+pub clears-reset : (x : Step) (q : ℕ) (l : Letter) (recorded inverted resets : Bool) (old new : RegionRows) → x ≡ collapse l q recorded inverted resets
+    → ClearsQubit (resets && acts l) q old new → ClearsReset x old new
+clears-reset x q l recorded inverted resets old new e clears =
+    subst (λ (y : Step). ClearsReset y old new) (sym e) (record {
+      rows = ap length clears.by_z ∙ cleared-long (resets && acts l) q [] old.by_z.items;
+      qubits = ap length clears.by_x ∙ cleared-long (resets && acts l) q [] old.by_x.items;
+      record_end = clears.record_end;
+      detector_end = clears.detector_end;
+      observable = clears.observable;
+      regions = λ i r shows. record {
+        letters = cleared-shows (resets && acts l) i q old.by_x.items old.by_z.items new.by_x.items new.by_z.items r.string.letters clears.by_x clears.by_z shows.letters;
+        looks = subst (λ rows. ShowsLooks i rows r.looks) (sym (ap (λ rows. rows.items) clears.records)) shows.looks;
+      };
+    })
 
-  same-qubits : length clear.by_x.items ≡ n
-  same-qubits = ap length clears.by_x ∙ cleared-long (resets && acts l) q [] begun.by_x.items ∙ ap (λ rows. length rows.items) begins.by_x
+pub numbers-kept : (x : Step) (old new : RegionRows) → ClearsReset x old new → HasNumbers old x → HasNumbers new x
+numbers-kept x old new clears has = record {
+  record_few = subst (λ k. k < 2 ^ 32) (sym clears.record_end) has.record_few;
+  detector_few = subst (λ k. k < 2 ^ 32) (sym clears.detector_end) has.detector_few;
+  own = subst (λ d. HasOwn d new.observable x) (sym clears.detector_end) (subst (λ o. HasOwn old.detector_end o x) (sym clears.observable) has.own);
+}
 
-  pub collapse-effects : MovesRegion (length clear.by_x.items) (collapse l q recorded inverted false) clear.by_x.items clear.by_z.items clear.records.items by_x by_z new.records.items
-      → MovesEffects n (collapse l q recorded inverted resets) old new
-  collapse-effects moves = record {
-    rows = ap length is_z ∙ long_z ∙ ap length clears.by_z ∙ cleared-long (resets && acts l) q [] begun.by_z.items ∙ ap (λ rows. length rows.items) begins.by_z;
-    qubits = ap length is_x ∙ long_x ∙ same-qubits;
-    record_end = same_record ∙ clears.record_end ∙ begins.record_end ∙ made-end recorded l q inverted resets old.record_end;
-    detector_end = same_detector ∙ clears.detector_end ∙ begins.detector_end;
-    observable = same_observable ∙ clears.observable ∙ begins.observable;
-    regions = λ i r long shows.
-        let x : Step = collapse l q recorded inverted resets in
-        let asked : Region = with_looks (asked_about old.record_end old.detector_end old.observable i x) r in
-        let first : ShowsEffect begun i asked = begun-shows recorded l q inverted resets old begun i r begins shows in
-        let second : ShowsEffect clear i (cleared_by x asked) = record {
-          letters = cleared-shows (resets && acts l) i q begun.by_x.items begun.by_z.items clear.by_x.items clear.by_z.items r.string.letters clears.by_x clears.by_z first.letters;
-          looks = subst (λ rows. ShowsLooks i rows asked.looks) (sym (ap (λ rows. rows.items) clears.records)) first.looks;
-        } in
-        let moved : MovesRegion n (collapse l q recorded inverted false) clear.by_x.items clear.by_z.items clear.records.items by_x by_z new.records.items =
-        subst (λ m. MovesRegion m (collapse l q recorded inverted false) clear.by_x.items clear.by_z.items clear.records.items by_x by_z new.records.items) same-qubits moves in
-        same-rows i by_x by_z new.records.items new.by_x.items new.by_z.items new.records.items (effect_before n x asked) is_x is_z refl
-        (moved i (cleared_by x asked) (cleared_by-size x asked ∙ long) second);
-  }
+-- what is asked for is not taken away
+asks-kept : (x : Step) (ks : List ℕ) (r : Region) → with_looks ks (cleared_by x r) ≡ cleared_by x (with_looks ks r)
+asks-kept (one g q) ks r = refl
+asks-kept (two g a b) ks r = refl
+asks-kept (controlled l k q) ks r = refl
+asks-kept (collapse l q recorded inverted resets) ks r = refl
+asks-kept (product factors inverted) ks r = refl
+asks-kept (detector js) ks r = refl
+asks-kept (observable j js) ks r = refl
 
-module _ (factors : List Factor) (inverted : Bool) (old begun new : Effects) (by_x by_z : List (List ℕ)) (begins : BeginsRecord true old begun) (is_x : new.by_x.items ≡ by_x)
-    (is_z : new.by_z.items ≡ by_z) (long_x : length by_x ≡ length begun.by_x.items) (long_z : length by_z ≡ length begun.by_z.items) (same_record : new.record_end ≡ begun.record_end)
-    (same_detector : new.detector_end ≡ begun.detector_end) (same_observable : new.observable ≡ begun.observable) where
-  abbrev m : ℕ
-  m = length old.by_x.items
+step-detectors : (b : Bool) (end total made : ℕ) → end ≡ total - made → (if b then end - 1 else end) ≡ total - (if b then 1 + made else made)
+step-detectors true end total made e = omega (arith, e)
+step-detectors false end total made e = e
 
-  as-many : length begun.by_x.items ≡ m
-  as-many = ap (λ rows. length rows.items) begins.by_x
-
-  pub product-effects : MovesRegion (length begun.by_x.items) (product factors inverted) begun.by_x.items begun.by_z.items begun.records.items by_x by_z new.records.items
-      → MovesEffects m (product factors inverted) old new
-  product-effects moves = record {
-    rows = ap length is_z ∙ long_z ∙ ap (λ rows. length rows.items) begins.by_z;
-    qubits = ap length is_x ∙ long_x ∙ as-many;
-    record_end = same_record ∙ begins.record_end;
-    detector_end = same_detector ∙ begins.detector_end;
-    observable = same_observable ∙ begins.observable;
-    regions = λ i r long shows.
-        let asked : Region = with_looks (asked_about old.record_end old.detector_end old.observable i (product factors inverted)) r in
-        let moved : MovesRegion m (product factors inverted) begun.by_x.items begun.by_z.items begun.records.items by_x by_z new.records.items =
-        subst (λ k. MovesRegion k (product factors inverted) begun.by_x.items begun.by_z.items begun.records.items by_x by_z new.records.items) as-many moves in
-        same-rows i by_x by_z new.records.items new.by_x.items new.by_z.items new.records.items (region_before m (product factors inverted) asked) is_x is_z refl
-        (moved i asked long (begun-shows true I 0 inverted false old begun i r begins shows));
-  }
-
--- a step that was moved over is the one that is given
-pub effects-arrive : {A E : Type 0} (result : Result A E) (n : ℕ) (x y : Step) (old new : Effects) → x ≡ y → OnOk result (MovesEffects n y old new) → OnOk result (MovesEffects n x old new)
-effects-arrive result n x y old new e = on_ok result _ _ (λ m. subst (λ z. MovesEffects n z old new) (sym e) m)
-
--- for any mark of a measurement's record
-pub effects-arrive-whichever : {A E : Type 0} (result : Result A E) (n : ℕ) (x : Step) (y : Bool → Step) (inverted : Bool) (old new : Effects) → x ≡ y inverted
-    → OnOk result ((b : Bool) → MovesEffects n (y b) old new) → OnOk result (MovesEffects n x old new)
-effects-arrive-whichever result n x y inverted old new e h = effects-arrive result n x (y inverted) old new e (on_ok result _ _ (λ m. m inverted) h)
+-- moved over a step, effects are those before it
+pub effects-move : (x : Step) (old mid new : RegionRows) → ClearsReset x old mid → MovesRows (length mid.by_x.items) x (corrected_by false x) mid new → EffectsMoveTo x old new
+effects-move x old mid new clears moves = λ c back at.
+    let moved : MovesRows c.qubits x (corrected_by false x) mid new = subst (λ n. MovesRows n x (corrected_by false x) mid new) (clears.qubits ∙ at.qubits) moves in
+    record {
+      rows = moved.rows ∙ clears.rows ∙ at.rows ∙ sym (moved.qubits ∙ clears.qubits);
+      qubits = moved.qubits ∙ clears.qubits ∙ at.qubits;
+      record_end = moved.record_end ∙ omega (arith, clears.record_end, at.record_end);
+      detector_end = moved.detector_end ∙ step-detectors (is_detector x) mid.detector_end (c.records + c.detectors) (detectors_of back) (clears.detector_end ∙ at.detector_end);
+      observable = moved.observable ∙ clears.observable ∙ at.observable;
+      few = at.few;
+      regions = λ i.
+          subst (ShowsNumber new i)
+          ((λ t.
+          region_before c.qubits (corrected_by false x)
+          (with_looks (asked_about ((clears.record_end ∙ at.record_end) t) ((clears.detector_end ∙ at.detector_end) t) ((clears.observable ∙ at.observable) t) i x)
+          (cleared_by x (effect_region c i back))))
+          ∙ ap (region_before c.qubits (corrected_by false x)) (asks-kept x _ (effect_region c i back)))
+          (moved.regions i (cleared_by x (effect_region c i back)) (cleared_by-size x (effect_region c i back) ∙ region-size c i back)
+          (clears.regions i (effect_region c i back) (at.regions i)));
+    }

@@ -1,5 +1,5 @@
 -- Rows of effects: the numbers whose regions a letter touches are those of all bits that its string flips and leaves.
-use Rattle.stab_regions.proofs.Names.{◌≡◌, ℕ, zero, suc, ◌+◌, ◌-◌, ◌*◌, ◌<◌, ◌≤◌, ◌⊎◌, inl, inr, refl, sym, ◌∙◌, ap, subst, arith, Bool, true, false, List, [], ◌∷◌, ◌++◌, map, length, take, drop, take-length, set-get_or, length-set, length-append, length-replicate, get_or-replicate, get_or_append_left, get_or-append-add, take-append-drop, replicate, if◌then◌else◌, cases_lt, slice_index_or, All, All-drop, Letter, ◌⊕◌, single, strings_anticommute-blank, length-one_letter, Items, Step, one, two, controlled, collapse, product, detector, observable, unroll, observables_of, detectors_of, is_detector, StepFits, string_of, with_additions, added, numbers_where, FaultPlace, faults_of, inserted_from, Site, sites_at}
+use Rattle.stab_regions.proofs.Names.{◌≡◌, ℕ, zero, suc, ◌+◌, ◌-◌, ◌*◌, ◌<◌, ◌≤◌, ◌⊎◌, inl, inr, refl, sym, ◌∙◌, ap, subst, arith, Bool, true, false, List, [], ◌∷◌, ◌++◌, map, length, take, drop, take-length, set-get_or, length-set, length-append, length-replicate, get_or-replicate, get_or_append_left, get_or-append-add, take-append-drop, replicate, if◌then◌else◌, cases_lt, slice_index_or, All, All-drop, Letter, ◌⊕◌, single, strings_anticommute-blank, length-one_letter, Items, Step, one, two, controlled, collapse, product, detector, observable, unroll, observables_of, detectors_of, is_detector, StepFits, string_of, with_additions, added, numbers_where, SingleError, single_errors_of, inserted_from, Site, sites_at}
 use Rattle.stab_items.proofs.StepLemmas.{records_of-append, detectors_of-append}
 use Rattle.stab_items.specs.Steps.{makes, records_of}
 use Rattle.stab_run.specs.Points.{RunOutput}
@@ -13,8 +13,10 @@ use Rattle.stab_regions.proofs.InsertedLemmas.{inserted_of, inserted-are, insert
 use Rattle.stab_regions.proofs.LeftLemmas.{way-size}
 use Rattle.stab_regions.proofs.EffectLemmas.{bit_of_number, letter-bit, parity-zeros, fits-all, fits-drop}
 use Rattle.stab_regions.proofs.NumberLemmas.{record_bits, record-bit, detector_bits, detector-bit, observable-bit, part-bit}
-use Rattle.stab_regions.specs.Effects.{letter_parts, bits_of_fault, effect_of_fault}
-use Rattle.stab_regions.specs.inner.EffectsAt.{Counts, numbers_in, counts_of, effect_row, FitsCounts}
+use Rattle.stab_regions.specs.Effects.{part_bits, bits_of_single_error, effect_of_single_error}
+use Rattle.stab_regions.specs.inner.EffectsAt.{numbers_in, effect_row}
+use Rattle.stab_regions.specs.declared.counts.Counts.{Counts}
+use Rattle.stab_regions.specs.inner.Passes.{numbers_before, FitsCounts}
 
 -- how long the lists are
 
@@ -52,9 +54,9 @@ pub long-additions : (more : List Addition) (bits : List Bool) → length (with_
 long-additions [] bits = refl
 long-additions (a ∷ more) bits = long-additions more (added a.observable a.bit bits) ∙ length-set bits a.observable (a.bit ⊕ slice_index_or bits a.observable false)
 
-pub long-parts : (letters : List Letter) → length (letter_parts letters) ≡ 2 * length letters
+pub long-parts : (letters : List Letter) → length (part_bits letters) ≡ 2 * length letters
 long-parts [] = refl
-long-parts (l ∷ letters) = let rest : length (letter_parts letters) ≡ 2 * length letters = long-parts letters in omega (arith, rest)
+long-parts (l ∷ letters) = let rest : length (part_bits letters) ≡ 2 * length letters = long-parts letters in omega (arith, rest)
 
 pub long-way : (n : ℕ) (xs : List Step) (f : Frame) → length f.letters ≡ n → length (way_over n xs f).letters ≡ n
 long-way n [] f lf = lf
@@ -129,7 +131,7 @@ module _ (c : Counts) (back : List Step) (f : Frame) (lf : length f.letters ≡ 
   observables = with_additions flips.additions (replicate c.observables false)
 
   abbrev parts : List Bool
-  parts = letter_parts (way_over c.qubits back f).letters
+  parts = part_bits (way_over c.qubits back f).letters
 
   abbrev pub all_bits : List Bool
   all_bits = record_bits c back f ++ (detector_bits c back f ++ (observables ++ parts))
@@ -215,14 +217,14 @@ module _ (c : Counts) (back : List Step) (f : Frame) (lf : length f.letters ≡ 
           ∙ sym (within (record_bits c back f) (detector_bits c back f ++ (observables ++ parts)) c.records i size-records lt)
       by_records (inr le) = by_detectors le (cases_lt i (c.records + c.detectors))
 
--- the row of a fault
+-- the row of a single error
 
-module _ (n : ℕ) (items : Items) (fits : All (StepFits n) (unroll items)) (p : FaultPlace) where
+module _ (n : ℕ) (items : Items) (fits : All (StepFits n) (unroll items)) (p : SingleError) where
   abbrev xs : List Step
   xs = unroll items
 
   abbrev c : Counts
-  c = counts_of n items
+  c = numbers_before n items
 
   abbrev back : List Step
   back = drop p.before xs
@@ -243,26 +245,26 @@ module _ (n : ℕ) (items : Items) (fits : All (StepFits n) (unroll items)) (p :
   back-fits = fits-drop c p.before xs (fits-all n items fits)
 
   -- its bits are those of its string
-  bits-are : all_bits c back begun (length-one_letter n p.qubit p.letter) back-fits ≡ bits_of_fault n items p
+  bits-are : all_bits c back begun (length-one_letter n p.qubit p.letter) back-fits ≡ bits_of_single_error n items p
   bits-are = λ i.
       (ap (λ k. replicate k false) records-split ∙ sym (front-records n 0 (take p.before xs))) i ++ (way_flips n back begun).records
       ++ ((ap (λ k. replicate k false) detectors-split ∙ sym (front-detectors n 0 (take p.before xs))) i ++ (way_flips n back begun).detectors
       ++ (sym (additions-append (way_flips n (take p.before xs) (identity_frame n 0)).additions (way_flips n back begun).additions (replicate (observables_of items) false)
       ∙ ap (with_additions (way_flips n back begun).additions) (front-additions n 0 (take p.before xs) (replicate (observables_of items) false))) i
-      ++ letter_parts (way_over n (drop p.before (sym (take-length xs) i)) begun).letters))
+      ++ part_bits (way_over n (drop p.before (sym (take-length xs) i)) begun).letters))
 
-  pub row-is : effect_row c (inserted_of xs p) ≡ effect_of_fault n items p
+  pub row-is : effect_row c (inserted_of xs p) ≡ effect_of_single_error n items p
   row-is =
-      where-same _ (λ i. slice_index_or (bits_of_fault n items p) i false) 0 (numbers_in c)
+      where-same _ (λ i. slice_index_or (bits_of_single_error n items p) i false) 0 (numbers_in c)
       (λ i ge lt.
       letter-bit c i p.qubit (records_of (take p.before xs)) p.letter back (All-drop (StepFits n) p.before xs fits)
       ∙ number-bit c back begun (length-one_letter n p.qubit p.letter) back-fits i
       ∙ ap (λ bits. slice_index_or bits i false) bits-are)
-      ∙ ap (λ k. numbers_where (λ i. slice_index_or (bits_of_fault n items p) i false) 0 k)
+      ∙ ap (λ k. numbers_where (λ i. slice_index_or (bits_of_single_error n items p) i false) 0 k)
       (sym (size-all c back begun (length-one_letter n p.qubit p.letter) back-fits) ∙ ap length bits-are)
 
   -- as many bits are of records, detectors and observables, and of the string, as are counted
-  pub bits-size : length (bits_of_fault n items p) ≡ numbers_in c
+  pub bits-size : length (bits_of_single_error n items p) ≡ numbers_in c
   bits-size = ap length (sym bits-are) ∙ size-all c back begun (length-one_letter n p.qubit p.letter) back-fits
 
   abbrev pub flipped_bits : List Bool
@@ -281,22 +283,22 @@ module _ (n : ℕ) (items : Items) (fits : All (StepFits n) (unroll items)) (p :
       omega (
         arith,
         bits-size,
-        length-append records (detectors ++ (observables ++ letter_parts left)),
-        length-append detectors (observables ++ letter_parts left),
-        length-append observables (letter_parts left),
+        length-append records (detectors ++ (observables ++ part_bits left)),
+        length-append detectors (observables ++ part_bits left),
+        length-append observables (part_bits left),
         long-parts left,
         left-size,
         length-append records (detectors ++ observables),
         length-append detectors observables,
       )
 
-rows-of : (n : ℕ) (items : Items) → All (StepFits n) (unroll items) → (ps : List FaultPlace)
-    → map (effect_row (counts_of n items)) (map (inserted_of (unroll items)) ps) ≡ map (effect_of_fault n items) ps
+rows-of : (n : ℕ) (items : Items) → All (StepFits n) (unroll items) → (ps : List SingleError)
+    → map (effect_row (numbers_before n items)) (map (inserted_of (unroll items)) ps) ≡ map (effect_of_single_error n items) ps
 rows-of n items fits [] = refl
 rows-of n items fits (p ∷ ps) = λ i. row-is n items fits p i ∷ rows-of n items fits ps i
 
 pub rows-are : (n : ℕ) (everywhere : Bool) (items : Items) (sites : Step → List Site) → All (StepFits n) (unroll items) → ((x : Step) → sites x ≡ sites_at everywhere x)
-    → map (effect_row (counts_of n items)) (inserted_from sites (unroll items)) ≡ map (effect_of_fault n items) (faults_of everywhere (unroll items))
+    → map (effect_row (numbers_before n items)) (inserted_from sites (unroll items)) ≡ map (effect_of_single_error n items) (single_errors_of everywhere (unroll items))
 rows-are n everywhere items sites fits same =
-    ap (map (effect_row (counts_of n items))) (inserted-same sites (sites_at everywhere) (unroll items) same ∙ inserted-are everywhere (unroll items) (unroll items) 0 refl)
-    ∙ rows-of n items fits (faults_of everywhere (unroll items))
+    ap (map (effect_row (numbers_before n items))) (inserted-same sites (sites_at everywhere) (unroll items) same ∙ inserted-are everywhere (unroll items) (unroll items) 0 refl)
+    ∙ rows-of n items fits (single_errors_of everywhere (unroll items))

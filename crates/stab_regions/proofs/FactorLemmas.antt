@@ -1,5 +1,5 @@
 -- Factors: the string of a product, one factor after another, and what it flips and is multiplied by.
-use Rattle.stab_regions.proofs.Names.{◌≡◌, ℕ, zero, suc, ◌+◌, ◌<◌, refl, sym, ◌∙◌, ap, subst, arith, Bool, true, false, ◌||◌, List, [], ◌∷◌, ◌++◌, length, take, drop, drop-cons, get_or, set, replicate, ◌==◌, get_or-set_other, take-append-drop, eqb-false, Letter, I, ◌⊕◌, letter_product, Signed, single, anticommute, strings_anticommute, string_product, parity-comm, parity-false, string_product-assoc, string_product-blank, strings_anticommute-product, strings_anticommute-blank, letter_at, Factor, letter_of, is_on, names_twice, measured_product, length-string_of, or-left, or-right, with_factors, string_of, names_newest, times_where, odd, row, ShowsLetters, MovesLetters, multiplied, MovesRegion}
+use Rattle.stab_regions.proofs.Names.{◌≡◌, ℕ, zero, suc, ◌+◌, ◌<◌, refl, sym, ◌∙◌, ap, subst, arith, Bool, true, false, ◌||◌, List, [], ◌∷◌, ◌++◌, length, take, drop, drop-cons, get_or, set, replicate, ◌==◌, get_or-set_other, take-append-drop, eqb-false, Letter, I, ◌⊕◌, letter_product, Signed, single, anticommute, strings_anticommute, string_product, parity-comm, parity-false, string_product-assoc, string_product-blank, strings_anticommute-product, strings_anticommute-blank, letter_at, Factor, letter_of, is_on, names_twice, measured_product, length-string_of, or-left, or-right, with_factors, string_of, names_newest, product_where, odd, row, ShowsLetters, MovesLetters, multiplied, MovesRegion}
 use Rattle.stab_regions.proofs.ReadLemmas.{length-times}
 use Rattle.stab_regions.proofs.ShowLemmas.{newest-odd, earlier-shows}
 
@@ -59,12 +59,12 @@ string-last n fs f e =
 -- strings of these parities are multiplied by factors, one after another
 
 abbrev pub by_product : ℕ → List Factor → List ℕ → ℕ → Signed → Signed
-by_product n fs parities i s = times_where (odd i parities) (string_of n fs) s
+by_product n fs parities i s = product_where (odd i parities) (string_of n fs) s
 
 pub by_product-none : (n : ℕ) (parities : List ℕ) (x z : List (List ℕ)) → MovesLetters n (by_product n [] parities) x z x z
 by_product-none n parities x z i s long shows = same (odd i parities)
   where
-    same : (b : Bool) → ShowsLetters i x z (times_where b (string_of n []) s).letters
+    same : (b : Bool) → ShowsLetters i x z (product_where b (string_of n []) s).letters
     same true = subst (ShowsLetters i x z) (sym (string_product-blank n s.letters long)) shows
     same false = shows
 
@@ -75,8 +75,8 @@ by_product-more n fs f parities old_x old_z mid_x mid_z new_x new_z distinct fir
     both (odd i parities)
     (next i (by_product n fs parities i s) (length-times n (odd i parities) (string_of n fs) s (length-string_of n fs) long) (first i s long shows))
   where
-    both : (b : Bool) → ShowsLetters i new_x new_z (times_where b (single n f.qubit (letter_of f.letter)) (times_where b (string_of n fs) s)).letters
-        → ShowsLetters i new_x new_z (times_where b (string_of n (fs ++ f ∷ [])) s).letters
+    both : (b : Bool) → ShowsLetters i new_x new_z (product_where b (single n f.qubit (letter_of f.letter)) (product_where b (string_of n fs) s)).letters
+        → ShowsLetters i new_x new_z (product_where b (string_of n (fs ++ f ∷ [])) s).letters
     both true shows =
         subst (ShowsLetters i new_x new_z)
         (sym (ap (λ ls. string_product ls s.letters) (string-last n fs f distinct)
@@ -104,8 +104,8 @@ product-moves n fs inverted taken old_x old_z old new_x new_z new is others move
     }
   where
     -- the sign of what is multiplied does not matter
-    letters-counted : (a b sign : Bool) → a ≡ b → ShowsLetters i new_x new_z (times_where a (string_of n fs) r.string).letters
-        → ShowsLetters i new_x new_z (times_where b (string_of n fs) (record { negative = sign; letters = r.string.letters })).letters
+    letters-counted : (a b sign : Bool) → a ≡ b → ShowsLetters i new_x new_z (product_where a (string_of n fs) r.string).letters
+        → ShowsLetters i new_x new_z (product_where b (string_of n fs) (record { negative = sign; letters = r.string.letters })).letters
     letters-counted true true sign e shows = shows
     letters-counted false false sign e shows = shows
     letters-counted true false sign e shows = cc

@@ -64,20 +64,20 @@ on_ok (Err e) P Q f p = tt
 
 -- what X flips before a gate, and what Z does, if it is made in place: by an exchange, after which one may be added to the other
 
-abbrev pub x_in_place : (exchanged x_both : Bool) → Bool → Bool → Bool
-x_in_place exchanged x_both a b = (if exchanged then b else a) ⊕ (x_both && (if exchanged then a else b))
+abbrev pub x_mixed : (exchanged x_both : Bool) → Bool → Bool → Bool
+x_mixed exchanged x_both a b = (if exchanged then b else a) ⊕ (x_both && (if exchanged then a else b))
 
-abbrev pub z_in_place : (exchanged x_both z_both : Bool) → Bool → Bool → Bool
-z_in_place exchanged x_both z_both a b = (if exchanged then a else b) ⊕ (z_both && x_in_place exchanged x_both a b)
+abbrev pub z_mixed : (exchanged x_both z_both : Bool) → Bool → Bool → Bool
+z_mixed exchanged x_both z_both a b = (if exchanged then a else b) ⊕ (z_both && x_mixed exchanged x_both a b)
 
 abbrev exchanged_by : Gate → Bool
 exchanged_by g = exchanges (letter_image g X).letter (letter_image g Z).letter
 
-x-in_place : (g : Gate) (a b : Bool) → x_in_place (exchanged_by g) (has_both (letter_image g X).letter) a b ≡ x_before g a b
-x-in_place g a b = grind arith
+x-mixed : (g : Gate) (a b : Bool) → x_mixed (exchanged_by g) (has_both (letter_image g X).letter) a b ≡ x_before g a b
+x-mixed g a b = grind arith
 
-z-in_place : (g : Gate) (a b : Bool) → z_in_place (exchanged_by g) (has_both (letter_image g X).letter) (has_both (letter_image g Z).letter) a b ≡ z_before g a b
-z-in_place g a b = grind arith
+z-mixed : (g : Gate) (a b : Bool) → z_mixed (exchanged_by g) (has_both (letter_image g X).letter) (has_both (letter_image g Z).letter) a b ≡ z_before g a b
+z-mixed g a b = grind arith
 
 -- a row that is exchanged for another, if the bit is 1
 
@@ -100,13 +100,13 @@ images-mix g of_x of_z exchanged x_both z_both q x z mid_x mid_z new_x new_z lx 
     let e : exchanged ≡ exchanged_by g = exchanges_is ∙ (λ k. exchanges (is_x k) (is_z k)) in
     let fx : x_both ≡ has_both (letter_image g X).letter = x_is ∙ ap has_both is_x in
     let fz : z_both ≡ has_both (letter_image g Z).letter = z_is ∙ ap has_both is_z in
-    let at_x : (i : ℕ) → odd i (row new_x q) ≡ x_in_place exchanged x_both (odd i (row x q)) (odd i (row z q)) =
+    let at_x : (i : ℕ) → odd i (row new_x q) ≡ x_mixed exchanged x_both (odd i (row x q)) (odd i (row z q)) =
     λ i. tx.here i ∙ (λ k. row-exchanged exchanged x mid_x q (row z q) i lx ex k ⊕ (x_both && row-exchanged exchanged z mid_z q (row x q) i lz ez k)) in
     record {
-      x_here = λ i. at_x i ∙ (λ k. x_in_place (e k) (fx k) (odd i (row x q)) (odd i (row z q))) ∙ x-in_place g _ _;
+      x_here = λ i. at_x i ∙ (λ k. x_mixed (e k) (fx k) (odd i (row x q)) (odd i (row z q))) ∙ x-mixed g _ _;
       z_here = λ i.
           tz.here i ∙ (λ k. row-exchanged exchanged z mid_z q (row x q) i lz ez k ⊕ (z_both && at_x i k))
-          ∙ (λ k. z_in_place (e k) (fx k) (fz k) (odd i (row x q)) (odd i (row z q))) ∙ z-in_place g _ _;
+          ∙ (λ k. z_mixed (e k) (fx k) (fz k) (odd i (row x q)) (odd i (row z q))) ∙ z-mixed g _ _;
       x_elsewhere = λ k ne. tx.elsewhere k ne ∙ row-kept exchanged x mid_x q k (row z q) ne ex;
       z_elsewhere = λ k ne. tz.elsewhere k ne ∙ row-kept exchanged z mid_z q k (row x q) ne ez;
     }

@@ -1,12 +1,12 @@
 -- What is left: a region touches a string after a step as the region before the step touches it before, if no letter is left by a reset.
-use Rattle.stab_regions.proofs.Names.{◌≡◌, ℕ, zero, suc, ◌+◌, ◌<◌, refl, sym, ◌∙◌, ap, arith, Bool, true, false, not, ◌&&◌, List, [], ◌∷◌, ◌++◌, append-nil, length, set, if◌then◌else◌, Letter, I, X, Y, Z, ◌⊕◌, letter_product, letters_anticommute, single, anticommute, strings_anticommute, parity-comm, parity-false, parity-assoc, Step, one, two, controlled, collapse, product, detector, observable, StepFits, looked_up, parity, when, string_of, flip_of, image-length, pair-length, letter_at, length-one_letter, here_one_letter, one_letter-anticommute, get_or-string_product, length-set, Region, with_looks, Frame as RegionFrame, frame_after as region_frame_after}
+use Rattle.stab_regions.proofs.Names.{◌≡◌, ℕ, zero, suc, ◌<◌, refl, sym, ◌∙◌, ap, arith, Bool, true, false, not, ◌&&◌, List, [], ◌∷◌, ◌++◌, append-nil, length, set, if◌then◌else◌, Letter, I, X, Y, Z, ◌⊕◌, letter_product, letters_anticommute, single, anticommute, strings_anticommute, parity-comm, parity-false, parity-assoc, Step, one, two, controlled, collapse, product, detector, observable, StepFits, looked_up, parity, when, string_of, flip_of, image-length, pair-length, letter_at, length-one_letter, here_one_letter, one_letter-anticommute, get_or-string_product, length-set, Region, with_looks, SingleErrorFrame as RegionFrame, single_error_frame_after as region_frame_after}
 use Rattle.stab_gates.proofs.LetterLemmas.{letters_anticommute-I}
 use Rattle.stab_pauli.proofs.StringLemmas.{length-string_product, strings_anticommute-product, strings_anticommute-comm}
 use Rattle.stab_frames.specs.Frames.{Frame, plus, times_where}
 use Rattle.stab_frames.specs.inner.Touches.{acts}
 use Rattle.stab_ways.specs.PutIn.{reset_leaves, way_after}
 use Rattle.stab_regions.proofs.LookLemmas.{parity-append}
-use Rattle.stab_regions.proofs.MovedLemmas.{anticommute-times}
+use Rattle.stab_regions.proofs.FramePointLemmas.{anticommute-times}
 use Rattle.stab_regions.proofs.SignLemmas.{parity-left}
 use Rattle.stab_regions.proofs.TouchLemmas.{touches, touches-next}
 use Rattle.stab_regions.specs.inner.EffectsAt.{cleared, cleared_by, effect_before}
@@ -41,7 +41,7 @@ where-letter : (n q : ℕ) (b : Bool) (l : Letter) (f : List Letter) → q < n
 where-letter n q true l f lt = get_or-string_product f (single n q l).letters q ∙ ap (letter_product (letter_at f q)) (here_one_letter n q l lt)
 where-letter n q false l f lt = refl
 
--- a reset leaves what is there but for its letter
+-- a reset leaves what is there except its letter
 
 left-letter : (l x y : Letter)
     → (letters_anticommute l x && letters_anticommute (flip_of l) y)

@@ -10,34 +10,36 @@ mod SignLemmas
 mod LookLemmas
 mod ReadLemmas
 mod DeterministicLemmas
-mod MovedLemmas
+mod FramePointLemmas
 mod TouchLemmas
 mod RandomLemmas
 pub mod DetectorLemmas
 mod ParityLemmas
 pub mod MoveLemmas
-mod PlaceLemmas
+mod RegionPointLemmas
 mod ObservableLemmas
 mod TableLemmas
-mod FaultLemmas
+mod SingleErrorLemmas
 mod StoredRowLemmas
 mod SiteLemmas
 pub mod AscentLemmas
 pub mod InsertedLemmas
-mod SweepLemmas
 mod BelowLemmas
-pub mod FaultTableLemmas
+pub mod SingleErrorTableLemmas
 mod BitLemmas
-mod FaultBitLemmas
-mod TwoFaultLemmas
-mod ManyFaultLemmas
+mod SingleErrorBitLemmas
+mod TwoSingleErrorLemmas
+mod ManySingleErrorLemmas
 pub mod NegatedLemmas
 pub mod PassLemmas
-pub mod FaultSumLemmas
+pub mod SingleErrorSumLemmas
 mod LeftLemmas
 mod EffectLemmas
 mod NumberLemmas
 pub mod EffectRowLemmas
+mod RowMoveLemmas
 mod EffectMoveLemmas
-mod EffectSweepLemmas
 mod SiteRowLemmas
+mod WalkRowLemmas
+mod SweepLemmas
+mod WalkLemmas

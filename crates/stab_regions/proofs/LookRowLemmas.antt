@@ -12,7 +12,7 @@ names-other p i ne = ap (λ b. b ⊕ false) (ne_eqb p i (λ e. ne (sym e)))
 swapped : (a b c : Bool) → a ⊕ (b ⊕ c) ≡ (b ⊕ (a ⊕ false)) ⊕ c
 swapped a b c = grind arith
 
--- one more lookback, in whatever place
+-- one more lookback, in whatever position
 pub looks-more : (i : ℕ) (rows : List (List ℕ)) (ks : List ℕ) (k : ℕ) (looks : List ℕ) → k < length ks
     → ShowsLooks i rows (get_or ks k 0 ∷ take k ks ++ looks) → ShowsLooks i rows (take (k + 1) ks ++ looks)
 looks-more i rows ks k looks lt shows j =

@@ -1,9 +1,9 @@
--- Moves: what regions at a place become one step before it, if the rows, the records and the marks are changed.
-use Rattle.stab_regions.proofs.Names.{◌≡◌, ℕ, ◌+◌, ◌-◌, ◌<◌, ◌≤◌, refl, sym, ◌∙◌, ap, subst, arith, Bool, true, false, not, ◌||◌, ◌&&◌, List, [], ◌∷◌, ◌++◌, append-nil, length, take, ne_eqb, Vec, if◌then◌else◌, nat_lt, ◌==◌, slice_index_or, Result, OnOk, with_items, drop_of_length-le, take-length, length-replicate, I, Step, one, two, controlled, collapse, product, detector, observable, is_detector, Regions, Region, region_of, region_before, region_through, with_looks, keeps_region, asks_nothing, asks_observable, named, steps_before_detector, named_by, region_of_detector, detectors_before, parity_region, parity_kept, ShowsRegion, MovesRegion, Shows, HasParity, asked_of, in_front_of, MovesBack, MovesTo}
+-- Moves: what regions at a point become one step before it, if the rows, the records and the marks are changed.
+use Rattle.stab_regions.proofs.Names.{◌≡◌, ℕ, ◌+◌, ◌-◌, ◌<◌, ◌≤◌, ◌^◌, ◌⊎◌, inl, inr, refl, sym, ◌∙◌, ap, subst, arith, Bool, true, false, not, ◌||◌, ◌&&◌, List, [], ◌∷◌, ◌++◌, append-nil, length, take, ne_eqb, cases_lt, Vec, if◌then◌else◌, nat_lt, ◌==◌, slice_index_or, with_items, drop_of_length-le, take-length, length-replicate, I, Step, one, two, controlled, collapse, product, detector, observable, is_detector, Region, region_of, region_before, region_through, with_looks, keeps_region, asks_nothing, asks_observable, named_by_detector, steps_before_detector, named_by, region_of_detector, detectors_before, parity_region, parity_kept, RegionWalk, ShowsNumber, AreRowsSized, HasParity, HasOwn, HasNumbers, asked_of, asked_about, in_front_of, corrected_by, MovesRows, MovesTo}
 use Rattle.stab_regions.proofs.DetectorLemmas.{count-other, count-detector}
-use Rattle.stab_regions.proofs.GateLemmas.{on_ok}
+use Rattle.stab_regions.proofs.EffectLemmas.{test-same}
 use Rattle.stab_regions.proofs.ReadLemmas.{size-through}
-use Rattle.stab_regions.proofs.ParityLemmas.{IsNext, is-next, none-before, asked-observable}
+use Rattle.stab_regions.proofs.ParityLemmas.{IsNext, is-next, none-before, asked-observable, asked-detector, asked-other}
 
 -- items that are written over all of a `Vec`
 pub refilled : {X Z : Type 0} (v : Vec X Z) (ws : List X) → length ws ≡ length v.items → (with_items v ws).items ≡ ws
@@ -17,7 +17,7 @@ refilled v ws e =
 
 asked-none : (D before i : ℕ) (x : Step) → is_detector x ≡ false → asks_observable (i - D) x ≡ [] → asked_of D before i x ≡ []
 asked-none D before i x plain silent =
-    (λ t. if nat_lt i D then (if plain t && (i + 1 == before) then named x else []) else silent t) ∙ same (nat_lt i D)
+    (λ t. if nat_lt i D then (if plain t && (i + 1 == before) then named_by_detector x else []) else silent t) ∙ same (nat_lt i D)
   where
     nothing : List ℕ
     nothing = []
@@ -30,29 +30,40 @@ pub twice-not : (b : Bool) → b ≡ not (not b)
 twice-not true = refl
 twice-not false = refl
 
--- old and new regions of which the new ones have these rows, records and marks
-module _ (n : ℕ) (x : Step) (old new : Regions) (plain : is_detector x ≡ false) (silent : (j : ℕ) → asks_observable j x ≡ [])
-    (by_x by_z : List (List ℕ)) (random : List Bool) (is_x : new.by_x.items ≡ by_x) (is_z : new.by_z.items ≡ by_z) (is_random : new.random.items ≡ random)
-    (long_x : length by_x ≡ length old.by_x.items) (long_z : length by_z ≡ length old.by_z.items) (long_random : length random ≡ length old.random.items)
-    (same_detectors : new.detectors ≡ old.detectors) (same_before : new.before ≡ old.before) where
-  pub moves-back : MovesRegion n x old.by_x.items old.by_z.items old.records.items by_x by_z new.records.items
-      → ((i : ℕ) (r : Region) → length r.string.letters ≡ n → Shows old i r → i < length old.random.items
-      → slice_index_or random i false ≡ (not (keeps_region n x r) || slice_index_or old.random.items i false))
-      → MovesBack n x old new
-  moves-back moves marks = record {
-    rows = ap length is_z ∙ long_z;
-    qubits = ap length is_x ∙ long_x;
-    detectors = same_detectors;
-    before = same_before ∙ ap (λ b. if b then old.before - 1 else old.before) (sym plain);
-    marks = ap length is_random ∙ long_random;
-    regions = λ i r long shows.
-        subst (λ looks. Shows new i (with_looks looks (region_before n x r))) (sym (asked-none old.detectors old.before i x plain (silent (i - old.detectors))))
-        (subst (λ rows. ShowsRegion i rows new.by_z.items new.records.items (region_before n x r)) (sym is_x)
-        (subst (λ rows. ShowsRegion i by_x rows new.records.items (region_before n x r)) (sym is_z) (moves i r long shows)));
-    random = λ i r long shows lt. ap (λ bits. slice_index_or bits i false) is_random ∙ marks i r long shows lt;
-  }
+-- a detector or observable asks for its records by its own number, before the step as after it
+asked-same : (n D before i : ℕ) (x : Step) (r : Region) → before ≤ D
+    → region_before n x (with_looks (asked_about 0 before D i x) r) ≡ with_looks (asked_of D before i x) (region_before n x r)
+asked-same n D before i x r le = by_kind x
+  where
+    silent : (y : Step) → is_detector y ≡ false → asks_observable (i - D) y ≡ [] → region_before n y r ≡ with_looks (asked_of D before i y) (region_before n y r)
+    silent y plain none = ap (λ ks. with_looks ks (region_before n y r)) (sym (asked-none D before i y plain none))
 
--- wherever the regions are those at a place, they are so one step before it
+    -- no record has a number
+    unnumbered : (y : Step) → is_detector y ≡ false → asks_observable (i - D) y ≡ []
+        → region_before n y (with_looks (if i + 1 == 0 then 1 ∷ [] else []) r) ≡ with_looks (asked_of D before i y) (region_before n y r)
+    unnumbered y plain none = ap (λ b. region_before n y (with_looks (if b then 1 ∷ [] else []) r)) (ne_eqb (i + 1) 0 (λ e. omega (arith, e))) ∙ silent y plain none
+
+    detector-asked : (ks : List ℕ) → (i < D) ⊎ (D ≤ i) → (if i + 1 == before then ks else []) ≡ asked_of D before i (detector ks)
+    detector-asked ks (inl lt) = sym (asked-detector D before i (detector ks) (i + 1 == before) lt refl)
+    detector-asked ks (inr ge) =
+        ap (λ b. if b then ks else []) (ne_eqb (i + 1) before (λ e. omega (arith, e, ge, le))) ∙ sym (asked-observable D before i (detector ks) ge)
+
+    observable-asked : (j : ℕ) (ks : List ℕ) → (i < D) ⊎ (D ≤ i) → (if i == D + j then ks else []) ≡ asked_of D before i (observable j ks)
+    observable-asked j ks (inl lt) = ap (λ b. if b then ks else []) (ne_eqb i (D + j) (λ e. omega (arith, e, lt))) ∙ sym (asked-other D before i (observable j ks) lt refl)
+    observable-asked j ks (inr ge) =
+        ap (λ b. if b then ks else []) (test-same i (D + j) j (i - D) (λ e. omega (arith, e)) (λ e. omega (arith, e, ge))) ∙ sym (asked-observable D before i (observable j ks) ge)
+
+    by_kind : (y : Step) → region_before n y (with_looks (asked_about 0 before D i y) r) ≡ with_looks (asked_of D before i y) (region_before n y r)
+    by_kind (one g q) = silent (one g q) refl refl
+    by_kind (two g a b) = silent (two g a b) refl refl
+    by_kind (controlled l k q) = silent (controlled l k q) refl refl
+    by_kind (collapse l q true inverted resets) = unnumbered (collapse l q true inverted resets) refl refl
+    by_kind (collapse l q false inverted resets) = silent (collapse l q false inverted resets) refl refl
+    by_kind (product factors inverted) = unnumbered (product factors inverted) refl refl
+    by_kind (detector ks) = ap (λ ls. with_looks ls r) (detector-asked ks (cases_lt i D))
+    by_kind (observable j ks) = ap (λ ls. with_looks ls r) (observable-asked j ks (cases_lt i D))
+
+-- wherever the regions are those at a point, they are so one step before it
 
 back-detectors : (b : Bool) (k dets detectors : ℕ) → k ≤ detectors → (if b then k - 1 else k) ≤ detectors
 back-detectors true k dets detectors le = omega arith
@@ -81,7 +92,7 @@ long-parity n D i back = by_site (nat_lt i D) (nat_lt i (detectors_before D back
     by_site false c = size-through n (asks_observable (i - D)) back (region_of n []) (none [])
 
 -- none of the observables that are counted is beyond them
-beyond : (D count before i : ℕ) (x : Step) (r : Regions) → r.detectors ≡ D → length r.random.items ≡ D + count → D + count ≤ i → HasParity r x
+beyond : (D count before i : ℕ) (x : Step) (r : RegionWalk) → r.rows.observable ≡ D → length r.random.items ≡ D + count → D + count ≤ i → HasParity r x
     → asked_of D before i x ≡ []
 beyond D count before i x r detectors marks le there = asked-observable D before i x (omega arith) ∙ by_kind x there
   where
@@ -94,7 +105,7 @@ beyond D count before i x r detectors marks le there = asked-observable D before
     by_kind (detector ks) there = refl
     by_kind (observable j ks) there = ap (λ b. if b then ks else []) (ne_eqb j (i - D) (λ e. omega (arith, there, detectors, marks, le)))
 
-has-number : (D : ℕ) (x : Step) (back : List Step) (r : Regions) → r.before ≡ detectors_before D back → HasParity r x → is_detector x ≡ true → 0 < detectors_before D back
+has-number : (D : ℕ) (x : Step) (back : List Step) (r : RegionWalk) → r.rows.detector_end ≡ detectors_before D back → HasParity r x → is_detector x ≡ true → 0 < detectors_before D back
 has-number D (detector ks) back r is there e = subst (λ k. 0 < k) is there
 has-number D (one g q) back r is there e = cc
 has-number D (two g a b) back r is there e = cc
@@ -114,45 +125,78 @@ next-before D before x back is = by_kind (is_detector x) refl
         let same = count-other x back e in
         ap (λ b. if b then before - 1 else before) e ∙ omega (arith, same, is)
 
-pub moves-to : (x : Step) (old new : Regions) → HasParity old x → MovesBack (length old.by_x.items) x old new → MovesTo x old new
-moves-to x old new there m n D count back h =
-    let moved : MovesBack n x old new = subst (λ k. MovesBack k x old new) h.qubits m in
+-- marks are raised where a step does not keep the region
+abbrev pub MarksFlipped : (n : ℕ) → Step → (old : RegionWalk) → (random : List Bool) → Type 0
+MarksFlipped n x old random =
+    (i : ℕ) (r : Region) → length r.string.letters ≡ n → ShowsNumber old.rows i r → i < length old.random.items
+    → slice_index_or random i false ≡ (not (keeps_region n x r) || slice_index_or old.random.items i false)
+
+corrected-all : (x : Step) → corrected_by true x ≡ x
+corrected-all (one g q) = refl
+corrected-all (two g a b) = refl
+corrected-all (controlled l k q) = refl
+corrected-all (collapse l q recorded inverted resets) = refl
+corrected-all (product factors inverted) = refl
+corrected-all (detector ks) = refl
+corrected-all (observable j ks) = refl
+
+pub moves-to : (x : Step) (old new : RegionWalk) → HasParity old x → MovesRows (length old.rows.by_x.items) x (corrected_by true x) old.rows new.rows → length new.random.items ≡ length old.random.items
+    → MarksFlipped (length old.rows.by_x.items) x old new.random.items → MovesTo x old new
+moves-to x old new there m long marks n D count back h =
+    let moved : MovesRows n x x old.rows new.rows = (subst (λ (y : Step). MovesRows n x y old.rows new.rows) (corrected-all x) (subst (λ k. MovesRows k x (corrected_by true x) old.rows new.rows) h.qubits m)) in
+    let marked_new : MarksFlipped n x old new.random.items = subst (λ k. MarksFlipped k x old new.random.items) h.qubits marks in
     let next : (i : ℕ) → IsNext n D i x back = λ i. is-next n D i x back (has-number D x back old h.before there) in
+    let shown : (i : ℕ) (r : Region) → length r.string.letters ≡ n → ShowsNumber old.rows i r → ShowsNumber new.rows i (with_looks (asked_of D (detectors_before D back) i x) (region_before n x r)) =
+    λ i r size shows.
+    subst (ShowsNumber new.rows i)
+    ((λ t. region_before n x (with_looks (asked_about (h.sized.records t) (h.before t) (h.detectors t) i x) r))
+    ∙ asked-same n D (detectors_before D back) i x r (omega arith))
+    (moved.regions i r size shows) in
     record {
       sized = record {
         rows = moved.rows ∙ h.sized.rows ∙ sym moved.qubits;
+        records = moved.record_end ∙ omega (arith, h.sized.records);
         before =
-            subst (λ k. k ≤ new.detectors) (sym moved.before)
-            (subst (λ k. in_front_of x old.before ≤ k) (sym moved.detectors) (back-detectors (is_detector x) old.before 0 old.detectors h.sized.before));
-        detectors = omega (arith, moved.detectors, moved.marks, h.sized.detectors);
-        few = omega (arith, moved.marks, h.sized.few);
+            subst (λ k. k ≤ new.rows.observable) (sym moved.detector_end)
+            (subst (λ k. in_front_of x old.rows.detector_end ≤ k) (sym moved.observable) (back-detectors (is_detector x) old.rows.detector_end 0 old.rows.observable h.sized.before));
+        detectors = omega (arith, moved.observable, long, h.sized.detectors);
+        few = omega (arith, long, h.sized.few);
       };
       qubits = moved.qubits ∙ h.qubits;
-      detectors = moved.detectors ∙ h.detectors;
-      before = moved.before ∙ next-before D old.before x back h.before;
-      marks = moved.marks ∙ h.marks;
-      regions = λ i lt.
-          subst (Shows new i)
-          ((λ t. with_looks (asked_of (h.detectors t) (h.before t) i x) (region_before n x (parity_region n D i back))) ∙ sym (next i).region)
-          (moved.regions i (parity_region n D i back) (long-parity n D i back) (h.regions i lt));
+      detectors = moved.observable ∙ h.detectors;
+      before = moved.detector_end ∙ next-before D old.rows.detector_end x back h.before;
+      marks = long ∙ h.marks;
+      regions = λ i lt. subst (ShowsNumber new.rows i) (sym (next i).region) (shown i (parity_region n D i back) (long-parity n D i back) (h.regions i lt));
       others = λ i le.
-          subst (Shows new i)
-          ((λ t. with_looks (asked_of (h.detectors t) (h.before t) i x) (none-before n x t))
+          subst (ShowsNumber new.rows i)
+          (ap (with_looks (asked_of D (detectors_before D back) i x)) (none-before n x)
           ∙ ap (λ looks. with_looks looks (region_of n [])) (beyond D count (detectors_before D back) i x old h.detectors h.marks le there))
-          (moved.regions i (region_of n []) (length-replicate n I) (h.others i le));
+          (shown i (region_of n []) (length-replicate n I) (h.others i le));
       random = λ i lt.
-          moved.random i (parity_region n D i back) (long-parity n D i back) (h.regions i lt) (omega (arith, lt, h.marks))
+          marked_new i (parity_region n D i back) (long-parity n D i back) (h.regions i lt) (omega (arith, lt, h.marks))
           ∙ marked (keeps_region n x (parity_region n D i back)) (parity_kept n D i back) _ (h.random i lt)
           ∙ ap not (sym (next i).kept);
     }
 
--- a step that was moved over is the one that is given
-pub arrives : {A E : Type 0} (result : Result A E) (x y : Step) (old new : Regions) → x ≡ y → HasParity old x → OnOk result (MovesBack (length old.by_x.items) y old new)
-    → OnOk result (MovesTo x old new)
-arrives result x y old new e there =
-    on_ok result _ _ (λ m. moves-to x old new there (subst (λ z. MovesBack (length old.by_x.items) z old new) (sym e) m))
+-- the numbers of a step fit, if its parity is there
+own-fits : (x : Step) (r : RegionWalk) → AreRowsSized r → HasParity r x → HasOwn r.rows.detector_end r.rows.observable x
+own-fits (one g q) r sized there = tt
+own-fits (two g a b) r sized there = tt
+own-fits (controlled l k q) r sized there = tt
+own-fits (collapse l q recorded inverted resets) r sized there = tt
+own-fits (product factors inverted) r sized there = tt
+own-fits (detector ks) r sized there = there
+own-fits (observable j ks) r sized there = small (r.rows.observable + j) (length r.random.items) (2 ^ 32) there sized.few
+  where
+    small : (a b top : ℕ) → a < b → b < top → a < top
+    small a b top lt few = omega (arith, lt, few)
 
--- for any mark of a measurement's record
-pub arrives-whichever : {A E : Type 0} (result : Result A E) (x : Step) (y : Bool → Step) (inverted : Bool) (old new : Regions) → x ≡ y inverted → HasParity old x
-    → OnOk result ((b : Bool) → MovesBack (length old.by_x.items) (y b) old new) → OnOk result (MovesTo x old new)
-arrives-whichever result x y inverted old new e there h = arrives result x (y inverted) old new e there (on_ok result _ _ (λ m. m inverted) h)
+pub numbers-fit : (x : Step) (r : RegionWalk) → AreRowsSized r → HasParity r x → HasNumbers r.rows x
+numbers-fit x r sized there = record {
+  record_few = omega (arith, sized.records);
+  detector_few = small r.rows.detector_end (length r.random.items) (2 ^ 32) (omega (arith, sized.before, sized.detectors)) sized.few;
+  own = own-fits x r sized there;
+}
+  where
+    small : (a b top : ℕ) → a ≤ b → b < top → a < top
+    small a b top le few = omega (arith, le, few)

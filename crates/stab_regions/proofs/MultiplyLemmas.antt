@@ -1,5 +1,5 @@
 -- Multiplying strings by a letter: the rows that change, and the strings that they then show.
-use Rattle.stab_regions.proofs.Names.{◌≡◌, ◌≢◌, ℕ, ◌<◌, sym, ◌∙◌, ap, arith, Bool, true, false, ◌&&◌, ◌⊎◌, inl, inr, List, cases_eq, Letter, X, Z, ◌⊕◌, letter_product, letters_anticommute, Signed, single, get_or-string_product, letter_at, here_one_letter, off_one_letter, times_where, odd, row, TogglesWhere, MovesLetters, multiplied}
+use Rattle.stab_regions.proofs.Names.{◌≡◌, ◌≢◌, ℕ, ◌<◌, sym, ◌∙◌, ap, arith, Bool, true, false, ◌&&◌, ◌⊎◌, inl, inr, List, cases_eq, Letter, X, Z, ◌⊕◌, letter_product, letters_anticommute, Signed, single, get_or-string_product, letter_at, here_one_letter, off_one_letter, product_where, odd, row, TogglesWhere, MovesLetters, multiplied}
 
 by-product : (p l m : Letter) → letters_anticommute p m ⊕ (letters_anticommute l p && true) ≡ letters_anticommute p (letter_product l m)
 by-product p l m = grind arith
@@ -15,20 +15,20 @@ module _ (i n q : ℕ) (p l : Letter) (old new : List (List ℕ)) (s : Signed) (
   plain here k (inr ne) = ap (odd i) (elsewhere k ne) ∙ shows k
 
   times : (here : odd i (row new q) ≡ odd i (row old q) ⊕ (letters_anticommute l p && true)) (k : ℕ) → (k ≡ q) ⊎ (k ≡ q → ⊥)
-      → odd i (row new k) ≡ letters_anticommute p (letter_at (times_where true (single n q l) s).letters k)
+      → odd i (row new k) ≡ letters_anticommute p (letter_at (product_where true (single n q l) s).letters k)
   times here k (inl e) =
       ap (λ j. odd i (row new j)) e ∙ here ∙ ap (λ b. b ⊕ (letters_anticommute l p && true)) (shows q)
       ∙ by-product p l (letter_at s.letters q)
       ∙ ap (λ m. letters_anticommute p (letter_product m (letter_at s.letters q))) (sym (here_one_letter n q l lt))
       ∙ ap (letters_anticommute p) (sym (get_or-string_product (single n q l).letters s.letters q))
-      ∙ ap (λ j. letters_anticommute p (letter_at (times_where true (single n q l) s).letters j)) (sym e)
+      ∙ ap (λ j. letters_anticommute p (letter_at (product_where true (single n q l) s).letters j)) (sym e)
   times here k (inr ne) =
       ap (odd i) (elsewhere k ne) ∙ shows k
       ∙ ap (λ m. letters_anticommute p (letter_product m (letter_at s.letters k))) (sym (off_one_letter n q k l ne))
       ∙ ap (letters_anticommute p) (sym (get_or-string_product (single n q l).letters s.letters k))
 
   row-multiplies : (b : Bool) → odd i (row new q) ≡ odd i (row old q) ⊕ (letters_anticommute l p && b) → (k : ℕ)
-      → odd i (row new k) ≡ letters_anticommute p (letter_at (times_where b (single n q l) s).letters k)
+      → odd i (row new k) ≡ letters_anticommute p (letter_at (product_where b (single n q l) s).letters k)
   row-multiplies true here k = times here k (cases_eq k q)
   row-multiplies false here k = plain here k (cases_eq k q)
 

@@ -13,9 +13,9 @@ pub use Rattle.std.proofs.lemmas.List.Elements.{All-nil, All-cons, All-append, A
 pub use Rattle.std.specs.List.{flat_map, list_any, range_with_len}
 pub use Rattle.std.specs.Prelude.{Option, Some, ◌==◌, if◌then◌else◌, All, nat_lt, slice_index_or, replicate, Result, Ok, Err, OnOk, slice_set, None, slice_index}
 pub use Rattle.std.specs.Vec.{with_items}
-pub use Rattle.stab_items.specs.Cursors.{HasDistinctQubits, step_shown}
+pub use Rattle.stab_items.specs.StepValues.{step_shown}
 pub use Rattle.stab_items.specs.Items.{Items, done, next, block}
-pub use Rattle.stab_items.specs.Steps.{Step, one, two, collapse, detector, observable, measured, product as measured_product, controlled_step, steps_of, rounds, unroll, past, named_observables, observables_of, detectors_of, controlled, product, is_detector, factor_qubits, check_of}
+pub use Rattle.stab_items.specs.Steps.{Step, one, two, collapse, detector, observable, measured, product as measured_product, controlled_step, steps_of, rounds, unroll, past, named_observables, observables_of, detectors_of, controlled, product, is_detector, factor_qubits, check_of, HasDistinctQubits}
 pub use Rattle.stab_items.specs.Views.{circuit_items}
 pub use Rattle.stab_search.proofs.AscendingLemmas.{named-ascending}
 pub use Rattle.stab_search.proofs.Totals.{odd-append}
@@ -49,7 +49,7 @@ pub use Rattle.stab_run.specs.Points.{Point, origin, given, next_point, outputs,
 pub use Rattle.stab_run.specs.ProgramStates.{StepFits}
 pub use Rattle.stab_run.specs.Records.{parity, looked_up}
 pub use Rattle.stab_run.specs.Runs.{State, start, run, when, with_factors, string_of, gate_of, flip_of, applied_where, outcome_at, added, collapsed}
-pub use Rattle.stab_tableau.proofs.FreeLemmas.{anticommuting-member}
+pub use Rattle.stab_tableau.proofs.RandomLemmas.{anticommuting-member}
 pub use Rattle.stab_tableau.proofs.GroupLemmas.{anticommute-product_right}
 pub use Rattle.stab_tableau.proofs.OneLetterLemmas.{length-one_letter, here_one_letter, off_one_letter, one_letter-anticommute}
 pub use Rattle.stab_tableau.proofs.SymmetryLemmas.{IsSymmetry-image, IsSymmetry-pair, image-length, pair-length, image-back, pair-undone}
@@ -60,20 +60,26 @@ pub use Rattle.stab_tableau.specs.Gates.{letter_at, letter_image, inverse, back,
 pub use Rattle.stab_tableau.specs.Groups.{IsStabiliserGroup}
 pub use Rattle.stab_tableau.specs.Traces.{diagonal, Event, applied, applied_pair, projected, member, outcome}
 pub use mathlib.Core.List.{reverse_aux}
-pub use Rattle.stab_regions.specs.FaultLaws.{DeterministicParities, DeterministicParityBits, with_fault, DiffersAsFound, FaultsFlipParities, SitesFlipDeterministicParities, FaultFits, flips_together, FaultsAdd}
-pub use Rattle.stab_regions.specs.Faults.{numbers_where, bit, Site, FaultPlace, in_front, fault_on, faults_on, faults_from, faults_of, sites_at, bits_in, IsDeterministic, IsFaultTable, flips, flipped_by_fault, fault_at, RowsAdd, AreDeterministic, with_gate, gates_at, with_gates_from, with_gates, following, marked_at, all_at}
-pub use Rattle.stab_regions.specs.Frames.{Frame, frame_after, flipped_coins, all_flipped_coins, flipped_from, flipped_with}
+pub use Rattle.stab_regions.specs.SingleErrorLaws.{DeterministicParities, DeterministicParityBits, with_single_error, DiffersAsFound, SingleErrorsFlipParities, SitesFlipDeterministicParities, SingleErrorFits, flips_together, SingleErrorsAdd}
+pub use Rattle.stab_regions.specs.SingleErrors.{numbers_where, bit, Site, SingleError, in_front, single_error_on, single_errors_on, single_errors_from, single_errors_of, sites_at, bits_in, IsDeterministic, IsSingleErrorTable, flips, flipped_by_single_error, single_error_at, RowsAdd, AreDeterministic, with_gate, gates_at, with_gates_from, with_gates, following, marked_at, all_at}
+pub use Rattle.stab_regions.specs.Frames.{SingleErrorFrame, single_error_frame_after, flipped_coins, all_flipped_coins, flipped_from, flipped_with}
 pub use Rattle.stab_regions.specs.Laws.{bit_asked, DeterministicBits, RandomBits}
 pub use Rattle.stab_regions.specs.Parities.{detectors_before, parity_region, parity_kept, parity_deterministic, parity_bit, parity_flips}
-pub use Rattle.stab_regions.specs.Regions.{region_of, region_through, keep_region, asks_nothing, asks_observable, is_deterministic, names_newest, times_where, earlier, look_where, Region, region_before, with_looks, keeps_region, before_measured, deterministic_bit}
-pub use Rattle.stab_regions.specs.Rows.{odd, row, ShowsLetters, MovesLetters, multiplied, MovesRegion, Toggles, TogglesWhere, ShowsLooks, ShowsRegion, bits_at, SameRows}
-pub use Rattle.stab_regions.specs.Tables.{steps_before_detector, named_by, region_of_detector, named}
-pub use Rattle.stab_regions.specs.declared.regions.Regions.{Regions}
+pub use Rattle.stab_regions.specs.Regions.{region_of, region_through, keep_region, asks_nothing, asks_observable, is_deterministic, names_newest, product_where, earlier, look_where, Region, region_before, with_looks, keeps_region, before_measured, deterministic_bit}
+pub use Rattle.stab_regions.specs.Rows.{ShowsLetters, MovesLetters, multiplied, MovesRegion, Toggles, TogglesWhere, ShowsLooks, ShowsRegion, bits_at, SameRows}
+pub use Rattle.stab_search.specs.Tables.{odd, row}
+pub use Rattle.stab_regions.specs.Tables.{steps_before_detector, named_by, region_of_detector, named_by_detector}
 pub use Rattle.stab_regions.specs.declared.sites.Asked.{Asked}
 pub use Rattle.stab_regions.specs.declared.sites.Asked.TheVariants.{Nowhere, Marked, Everywhere}
 pub use Rattle.stab_regions.specs.declared.sites.Sides.{Sides}
+pub use Rattle.stab_regions.specs.declared.counts.Counts.{Counts}
+pub use Rattle.stab_regions.specs.declared.region_rows.RegionRows.{RegionRows}
 pub use Rattle.stab_regions.specs.declared.sweep.Sweep.{Sweep}
-pub use Rattle.stab_regions.specs.inner.RegionsAt.{IsRegionsAt, DetermineDeterministic, AreFlipped, Shows, HasParity, asked_of, in_front_of, MovesBack, MovesTo}
+pub use Rattle.stab_regions.specs.declared.walk.RegionWalk.{RegionWalk}
+pub use Rattle.stab_regions.specs.inner.Inserted.{Inserted, inserted_from, inserted_on, inserted_at, inserted_by}
+pub use Rattle.stab_regions.specs.inner.Passes.{NamesBelow, numbers_before, FitsCounts, MayPass, StandsAfter, GoesBefore}
+pub use Rattle.stab_regions.specs.inner.RegionsAt.{AreRowsSized, IsRegionsAt, DetermineDeterministic, HasParity, asked_of, MovesTo}
+pub use Rattle.stab_regions.specs.inner.RowMoves.{ShowsNumber, in_front_of, asked_about, HasOwn, HasNumbers, BeginsRecord, corrected_by, MovesRows}
 pub use Rattle.stab_regions.specs.inner.Sites.{where_asked, sites_asked, step_qubits, sides_asked}
-pub use Rattle.stab_regions.specs.inner.StoredRows.{is_kept, kept_of, rows_cut, Rises, ends_kept}
-pub use Rattle.stab_regions.specs.inner.Sweeps.{NamesBelow, Inserted, inserted_from, IsRowOf, HaveRows, inserted_on, inserted_at, AreKept, inserted_by, IsSwept, MayPass, StandsAfter, Sweeps}
+pub use Rattle.stab_regions.specs.inner.StoredRows.{is_stored, kept_of, rows_cut, Rises, ends_kept}
+pub use Rattle.stab_regions.specs.inner.Sweeps.{IsWalkAt, parity_row, row_of, IsSwept}

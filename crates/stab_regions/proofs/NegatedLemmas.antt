@@ -1,5 +1,5 @@
 -- Negated regions: one more ! at a record negates each region that names it, and nothing else of any region in front of it.
-use Rattle.stab_regions.proofs.Names.{◌≡◌, ℕ, ◌+◌, ◌-◌, ◌≤◌, refl, sym, ap, ◌∙◌, arith, Bool, true, false, not, ◌&&◌, List, ◌∷◌, [], ◌++◌, if◌then◌else◌, Letter, ◌⊕◌, Factor, Signed, single, with_sign, anticommute, signed_path, sign-sign, inverse, and-left, and-right, Step, one, two, controlled, collapse, product, detector, observable, is_detector, detectors_of, string_of, flip_of, Region, names_newest, earlier, times_where, before_measured, region_before, with_looks, keeps_region, detectors_before, parity_region, parity_kept, asked_of}
+use Rattle.stab_regions.proofs.Names.{◌≡◌, ℕ, ◌+◌, ◌-◌, ◌≤◌, refl, sym, ap, ◌∙◌, arith, Bool, true, false, not, ◌&&◌, List, ◌∷◌, [], ◌++◌, if◌then◌else◌, Letter, ◌⊕◌, Factor, Signed, single, with_sign, anticommute, signed_path, sign-sign, inverse, and-left, and-right, Step, one, two, controlled, collapse, product, detector, observable, is_detector, detectors_of, string_of, flip_of, Region, names_newest, earlier, product_where, before_measured, region_before, with_looks, keeps_region, detectors_before, parity_region, parity_kept, asked_of}
 use Rattle.stab_regions.proofs.SignLemmas.{parity-left, image-sign, pair-sign}
 use Rattle.stab_regions.proofs.DetectorLemmas.{count-detector}
 use Rattle.stab_regions.proofs.ParityLemmas.{IsNext, is-next}
@@ -19,7 +19,7 @@ measured-negated : (m : Signed) (recorded inverted corrected b : Bool) (r : Regi
 measured-negated m recorded inverted corrected b r distinct =
     let counts : Bool = recorded && names_newest r.looks in
     ap (λ s. record { string = s; looks = if recorded then earlier r.looks else r.looks })
-    (ap (times_where (counts ⊕ corrected) m) (signs-swapped (counts && inverted) b r.string)
+    (ap (product_where (counts ⊕ corrected) m) (signs-swapped (counts && inverted) b r.string)
     ∙ times-sign (counts ⊕ corrected) b m (with_sign (counts && inverted) r.string) distinct)
 
 negated-before : (n : ℕ) (x : Step) (b : Bool) (r : Region) → keeps_region n x r ≡ true → region_before n x (negated b r) ≡ negated b (region_before n x r)
@@ -118,7 +118,7 @@ measured-inverted : (m : Signed) (inverted corrected : Bool) (r : Region) → an
 measured-inverted m inverted corrected r distinct =
     let named : Bool = names_newest r.looks in
     ap (λ s. record { string = s; looks = earlier r.looks })
-    (ap (times_where (named ⊕ corrected) m) (ap (λ b. with_sign b r.string) (once named inverted) ∙ sym (sign-sign named (named && inverted) r.string))
+    (ap (product_where (named ⊕ corrected) m) (ap (λ b. with_sign b r.string) (once named inverted) ∙ sym (sign-sign named (named && inverted) r.string))
     ∙ times-sign (named ⊕ corrected) named m (with_sign (named && inverted) r.string) distinct)
   where
     once : (a b : Bool) → (a && not b) ≡ a ⊕ (a && b)

@@ -6,8 +6,10 @@ use Rattle.stab_ways.specs.PutIn.{way_after, way_over, way_flips}
 use Rattle.stab_regions.proofs.LeftLemmas.{way-size}
 use Rattle.stab_regions.proofs.ObservableLemmas.{added-bit}
 use Rattle.stab_regions.proofs.EffectLemmas.{bit_of_number, more-asked, not-asked, newest, test-same, zeros-alone, below-end, end-part, fits-next}
-use Rattle.stab_regions.specs.Effects.{letter_parts}
-use Rattle.stab_regions.specs.inner.EffectsAt.{end_letters, Counts, first_part, FitsCounts}
+use Rattle.stab_regions.specs.Effects.{part_bits}
+use Rattle.stab_regions.specs.inner.EffectsAt.{end_letters, first_part}
+use Rattle.stab_regions.specs.declared.counts.Counts.{Counts}
+use Rattle.stab_regions.specs.inner.Passes.{FitsCounts}
 
 module _ (c : Counts) where
   abbrev n : ℕ
@@ -161,7 +163,7 @@ module _ (c : Counts) where
   -- parts of letters
 
   abbrev IsPart : ℕ → List Step → Frame → Type 0
-  IsPart p back f = bit_of_number c (first_part c + p) back f ≡ slice_index_or (letter_parts (way_over n back f).letters) p false
+  IsPart p back f = bit_of_number c (first_part c + p) back f ≡ slice_index_or (part_bits (way_over n back f).letters) p false
 
   pub part-bit : (p : ℕ) (back : List Step) (f : Frame) → length f.letters ≡ n → FitsCounts c back → IsPart p back f
   part-bit p [] f lf fits = ap (λ k. strings_anticommute f.letters (end_letters (first_part c + p) (first_part c) k)) (sym lf) ∙ end-part p (first_part c) f.letters

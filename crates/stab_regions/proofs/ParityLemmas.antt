@@ -1,12 +1,12 @@
 -- Parities one step backwards: how the region of each before a step, and whether it is kept, follow from those after it.
-use Rattle.stab_regions.proofs.Names.{◌≡◌, ℕ, suc, ◌+◌, ◌-◌, ◌<◌, ◌≤◌, ◌⊎◌, inl, inr, refl, sym, ◌∙◌, ap, subst, arith, Bool, true, false, not, ◌&&◌, List, [], ◌∷◌, append-nil, set, le-ltb, lt-ltb, ne_eqb, if◌then◌else◌, nat_lt, ◌==◌, replicate, cases_lt, cases_eq, eq-eqb, set-get_or, and-false, Letter, I, plain, Signed, identity, single, anticommute, strings_anticommute-blank_right, signed_path, Gate, PairGate, letter_at, letter_image, inverse, put_letter, put_letters, pair_letters, back, back_pair, Step, one, two, controlled, collapse, product, detector, observable, is_detector, string_of, flip_of, Region, region_of, look_where, before_measured, region_before, region_through, with_looks, keeps_region, keep_region, asks_nothing, asks_observable, named, steps_before_detector, named_by, region_of_detector, detectors_before, parity_region, parity_kept, asked_of}
+use Rattle.stab_regions.proofs.Names.{◌≡◌, ℕ, suc, ◌+◌, ◌-◌, ◌<◌, ◌≤◌, ◌⊎◌, inl, inr, refl, sym, ◌∙◌, ap, subst, arith, Bool, true, false, not, ◌&&◌, List, [], ◌∷◌, append-nil, set, le-ltb, lt-ltb, ne_eqb, if◌then◌else◌, nat_lt, ◌==◌, replicate, cases_lt, cases_eq, eq-eqb, set-get_or, and-false, Letter, I, plain, Signed, identity, single, anticommute, strings_anticommute-blank_right, signed_path, Gate, PairGate, letter_at, letter_image, inverse, put_letter, put_letters, pair_letters, back, back_pair, Step, one, two, controlled, collapse, product, detector, observable, is_detector, string_of, flip_of, Region, region_of, look_where, before_measured, region_before, region_through, with_looks, keeps_region, keep_region, asks_nothing, asks_observable, named_by_detector, steps_before_detector, named_by, region_of_detector, detectors_before, parity_region, parity_kept, asked_of}
 use Rattle.stab_regions.proofs.FactorLemmas.{blank-at}
 use Rattle.stab_regions.proofs.DetectorLemmas.{count-other, before-other, named-other}
 use Rattle.std.proofs.lemmas.Bool.{cond-true, cond-false}
 
 -- a region that asks for nothing stays so
 
-none-commutes : (n : ℕ) (m : Signed) → anticommute m (identity n) ≡ false
+pub none-commutes : (n : ℕ) (m : Signed) → anticommute m (identity n) ≡ false
 none-commutes n m = strings_anticommute-blank_right n m.letters
 
 none-image : (g : Gate) (l : Letter) → l ≡ I → letter_image (inverse g) l ≡ record { negative = false; letter = I }
@@ -91,13 +91,13 @@ module _ (n D i : ℕ) (back : List Step) where
 -- what a step asks for of each
 
 pub asked-observable : (D before i : ℕ) (x : Step) → D ≤ i → asked_of D before i x ≡ asks_observable (i - D) x
-asked-observable D before i x le = ap (λ b. if b then (if is_detector x && (i + 1 == before) then named x else []) else asks_observable (i - D) x) (le-ltb i D le)
+asked-observable D before i x le = ap (λ b. if b then (if is_detector x && (i + 1 == before) then named_by_detector x else []) else asks_observable (i - D) x) (le-ltb i D le)
 
-asked-detector : (D before i : ℕ) (x : Step) (here : Bool) → i < D → (is_detector x && (i + 1 == before)) ≡ here → asked_of D before i x ≡ (if here then named x else [])
+pub asked-detector : (D before i : ℕ) (x : Step) (here : Bool) → i < D → (is_detector x && (i + 1 == before)) ≡ here → asked_of D before i x ≡ (if here then named_by_detector x else [])
 asked-detector D before i x here lt e =
-    λ t. if lt-ltb i D lt t then (if e t then named x else []) else asks_observable (i - D) x
+    λ t. if lt-ltb i D lt t then (if e t then named_by_detector x else []) else asks_observable (i - D) x
 
-asked-other : (D before i : ℕ) (x : Step) → i < D → is_detector x ≡ false → asked_of D before i x ≡ []
+pub asked-other : (D before i : ℕ) (x : Step) → i < D → is_detector x ≡ false → asked_of D before i x ≡ []
 asked-other D before i x lt e = asked-detector D before i x false lt (ap (λ b. b && (i + 1 == before)) e)
 
 -- the region of a parity before a step, and whether it is kept, by what they are after it

@@ -1,6 +1,6 @@
 -- Passes: what a letter in front of a step flips, said by letters after it.
 use Rattle.stab_regions.proofs.Names.{◌≡◌, ◌≢◌, ℕ, ◌<◌, ◌≤◌, refl, sym, ap, ◌∙◌, arith, Bool, true, false, not, ◌&&◌, List, [], ◌∷◌, length, set, get_or-set_same, get_or-set_other, length-set, parity-false, Letter, I, ◌⊕◌, letters_anticommute, Factor, letter_of, is_on, names_twice, Signed, single, with_sign, anticommute, Gate, PairGate, letter_image, letter_at, inverse, pair_letters, back, length-one_letter, here_one_letter, off_one_letter, one_letter-anticommute, length-replicate, replicate, or-left, Step, one, two, controlled, collapse, product, detector, observable, detectors_of, string_of, length-string_of, flip_of, Region, names_newest, region_before, parity_region, parity_kept, parity_flips, detectors_before, nat_lt, X, Y, Z, strings_anticommute-blank_right}
-use Rattle.stab_regions.proofs.MovedLemmas.{moved-gate, moved-pair, anticommute-times_right}
+use Rattle.stab_regions.proofs.FramePointLemmas.{moved-gate, moved-pair, anticommute-times_right}
 use Rattle.stab_regions.proofs.MoveLemmas.{long-parity, region_where}
 use Rattle.stab_regions.proofs.FactorLemmas.{blank-at, letter-off}
 use Rattle.stab_regions.proofs.NegatedLemmas.{next-of, kept-here}

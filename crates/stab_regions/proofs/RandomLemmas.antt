@@ -1,16 +1,16 @@
 -- What the pass does not find deterministic: a member of the group that anticommutes with the region shows coins that give the other bit.
-use Rattle.stab_regions.proofs.Names.{◌≡◌, ℕ, ◌+◌, ◌<◌, refl, sym, ◌∙◌, ap, subst, arith, Bool, true, false, not, ◌&&◌, List, [], ◌∷◌, ◌++◌, append-nil, length, add-zero, length-replicate, All-head, All-tail, not-false, Letter, I, ◌⊕◌, Signed, identity, single, minus, with_sign, anticommute, parity-false, parity-twice, strings_anticommute-self, product-self, anticommute-comm, Event, projected, diagonal, member, outcome, IsStabiliserGroup, length-one_letter, group-member, anticommuting-member, not-true, not_both, test_right, Step, one, two, controlled, collapse, product, detector, observable, length-string_of, good-next, IsGood, sign-sign, back-letter, looked_up, parity, when, string_of, gate_of, flip_of, collapsed, outcome_at, Point, origin, trace_after, coins_of, all_coins_of, next_point, StepFits, Region, region_of, region_through, keeps_region, keep_region, is_deterministic, Frame, all_flipped_coins, flipped_from, bit_asked, with_fault, flipped_with, RandomBits, ◌↔◌}
+use Rattle.stab_regions.proofs.Names.{◌≡◌, ℕ, ◌+◌, ◌<◌, refl, sym, ◌∙◌, ap, subst, arith, Bool, true, false, not, ◌&&◌, List, [], ◌∷◌, ◌++◌, append-nil, length, add-zero, length-replicate, All-head, All-tail, not-false, Letter, I, ◌⊕◌, Signed, identity, single, minus, with_sign, anticommute, parity-false, parity-twice, strings_anticommute-self, product-self, anticommute-comm, Event, projected, diagonal, member, outcome, IsStabiliserGroup, length-one_letter, group-member, anticommuting-member, not-true, not_both, test_right, Step, one, two, controlled, collapse, product, detector, observable, length-string_of, good-next, IsGood, sign-sign, back-letter, looked_up, parity, when, string_of, gate_of, flip_of, collapsed, outcome_at, Point, origin, trace_after, coins_of, all_coins_of, next_point, StepFits, Region, region_of, region_through, keeps_region, keep_region, is_deterministic, SingleErrorFrame, all_flipped_coins, flipped_from, bit_asked, with_single_error, flipped_with, RandomBits, ◌↔◌}
 use Rattle.std.proofs.Common.{All}
 use Rattle.stab_regions.proofs.SignLemmas.{member-where}
 use Rattle.stab_regions.proofs.LookLemmas.{look-nothing, parity-none}
 use Rattle.stab_regions.proofs.ReadLemmas.{size-through}
 use Rattle.stab_regions.proofs.DeterministicLemmas.{good-origin, deterministic-bits}
-use Rattle.stab_regions.proofs.MovedLemmas.{IsMoved}
+use Rattle.stab_regions.proofs.FramePointLemmas.{IsMoved}
 use Rattle.stab_regions.proofs.TouchLemmas.{touches, FlipsCoins, coins-flip, flipped-before, touched-bit}
 use Rattle.stab_gates.proofs.ParityLemmas.{parity-not_right}
 
 -- the frame of a string alone
-abbrev pub frame_of : Signed → Frame
+abbrev pub frame_of : Signed → SingleErrorFrame
 frame_of q = record { string = q; flips = [] }
 
 touches-alone : (q : Signed) (r : Region) → touches (frame_of q) r ≡ anticommute q r.string
@@ -203,7 +203,7 @@ flips_asked n asked l q back ks = anticommute (single n q l) (region_through n a
 
 module _ (n : ℕ) (coins others : ℕ → Bool) (asked : Step → List ℕ) (ks : List ℕ) (back : List Step) (l : Letter) (q : ℕ) (lt : q < n)
     (fits_back : All (StepFits n) back) (plain : asked (one (gate_of l) q) ≡ []) where
-  abbrev letter_frame : Frame
+  abbrev letter_frame : SingleErrorFrame
   letter_frame = frame_of (single n q l)
 
   with-letter : (p : Point) → IsMoved n letter_frame p (next_point n others (one (gate_of l) q) p)
@@ -213,18 +213,18 @@ module _ (n : ℕ) (coins others : ℕ → Bool) (asked : Step → List ℕ) (ks
     records = λ k. ap (λ r. looked_up r k) (append-nil p.records) ∙ same-records p.records k;
   }
 
-  with-fault : (front : List Step) (p : Point) → All (StepFits n) front → IsGood n p.trace → ((t : ℕ) → t < p.coin + all_coins_of front → others t ≡ coins t)
+  with-single_error : (front : List Step) (p : Point) → All (StepFits n) front → IsGood n p.trace → ((t : ℕ) → t < p.coin + all_coins_of front → others t ≡ coins t)
       → FlipsCoins (p.coin + all_coins_of front) (all_flipped_coins n back letter_frame) coins others
-      → bit_asked n others asked (with_fault front l q back) ks p ≡ bit_asked n coins asked (front ++ back) ks p ⊕ flips_asked n asked l q back ks
-  with-fault [] p fits good same flips =
+      → bit_asked n others asked (with_single_error front l q back) ks p ≡ bit_asked n coins asked (front ++ back) ks p ⊕ flips_asked n asked l q back ks
+  with-single_error [] p fits good same flips =
       ap (λ js. parity p.records js ⊕ bit_asked n others asked back ks (next_point n others (one (gate_of l) q) p)) plain
       ∙ touched-bit n coins others asked ks back letter_frame p (next_point n others (one (gate_of l) q) p) fits_back (length-one_letter n q l) good (with-letter p)
       (subst (λ c. FlipsCoins c (all_flipped_coins n back letter_frame) coins others) (add-zero p.coin) flips)
       ∙ ap (λ b. bit_asked n coins asked back ks p ⊕ b) (touches-alone (single n q l) (region_through n asked back (region_of n ks)))
-  with-fault (x ∷ front) p fits good same flips =
-      ap (λ z. parity p.records (asked x) ⊕ bit_asked n others asked (with_fault front l q back) ks z) (next-same n coins others x p (λ t less. same t (omega arith)))
+  with-single_error (x ∷ front) p fits good same flips =
+      ap (λ z. parity p.records (asked x) ⊕ bit_asked n others asked (with_single_error front l q back) ks z) (next-same n coins others x p (λ t less. same t (omega arith)))
       ∙ ap (λ b. parity p.records (asked x) ⊕ b)
-      (with-fault front (next_point n coins x p) (All-tail (StepFits n) x front fits) (good-next n coins x p (All-head (StepFits n) x front fits) good)
+      (with-single_error front (next_point n coins x p) (All-tail (StepFits n) x front fits) (good-next n coins x p (All-head (StepFits n) x front fits) good)
       (λ t less. same t (omega arith))
       (subst (λ c. FlipsCoins c (all_flipped_coins n back letter_frame) coins others) (omega arith) flips))
       ∙ assoc (parity p.records (asked x)) (bit_asked n coins asked (front ++ back) ks (next_point n coins x p)) (flips_asked n asked l q back ks)
@@ -233,12 +233,12 @@ module _ (n : ℕ) (coins others : ℕ → Bool) (asked : Step → List ℕ) (ks
       assoc a b c = grind arith
 
 -- whatever is asked for, the letter flips it if and only if it anticommutes with the region there, if the coins are flipped with it
-pub faults-flip-with-their-coins : (n : ℕ) (coins : ℕ → Bool) (front back : List Step) (l : Letter) (q : ℕ) → q < n → All (StepFits n) front → All (StepFits n) back
+pub single_errors-flip-with-their-coins : (n : ℕ) (coins : ℕ → Bool) (front back : List Step) (l : Letter) (q : ℕ) → q < n → All (StepFits n) front → All (StepFits n) back
     → (asked : Step → List ℕ) (ks : List ℕ) → asked (one (gate_of l) q) ≡ []
-    → bit_asked n (flipped_with n front l q back coins) asked (with_fault front l q back) ks origin
+    → bit_asked n (flipped_with n front l q back coins) asked (with_single_error front l q back) ks origin
     ≡ bit_asked n coins asked (front ++ back) ks origin ⊕ flips_asked n asked l q back ks
-faults-flip-with-their-coins n coins front back l q lt ff fb asked ks plain =
+single_errors-flip-with-their-coins n coins front back l q lt ff fb asked ks plain =
     let bits : List Bool = all_flipped_coins n back (frame_of (single n q l)) in
-    with-fault n coins (flipped_with n front l q back coins) asked ks back l q lt fb plain front origin ff (good-origin n)
+    with-single_error n coins (flipped_with n front l q back coins) asked ks back l q lt fb plain front origin ff (good-origin n)
     (λ t less. flipped-before (all_coins_of front) bits coins t (omega arith))
     (subst (λ c. FlipsCoins c bits coins (flipped_with n front l q back coins)) (omega arith) (coins-flip (all_coins_of front) bits coins))

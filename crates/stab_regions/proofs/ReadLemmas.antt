@@ -1,12 +1,12 @@
 -- Reading: at a point a region reads a bit if its string stabilises with the sign that makes it so; steps that keep the region
 -- come to a point where the region after them reads the same bit.
-use Rattle.stab_regions.proofs.Names.{◌≡◌, ℕ, ◌<◌, refl, sym, ◌∙◌, ap, arith, Bool, true, false, not, ◌&&◌, List, [], ◌∷◌, ◌++◌, append-nil, length, if◌then◌else◌, Letter, ◌⊕◌, Signed, single, with_sign, anticommute, times, parity-false, length-product, inverse, back, back_pair, Event, projected, member, length-one_letter, image-length, pair-length, test_left, test_right, Step, one, two, controlled, collapse, product, detector, observable, length-string_of, sign-sign, product-sign_right, looked_up, parity, when, string_of, flip_of, applied_where, outcome_at, Point, next_point, StepFits, Region, names_newest, earlier, times_where, before_measured, region_before, region_through, keeps_region}
+use Rattle.stab_regions.proofs.Names.{◌≡◌, ℕ, ◌<◌, refl, sym, ◌∙◌, ap, arith, Bool, true, false, not, ◌&&◌, List, [], ◌∷◌, ◌++◌, append-nil, length, if◌then◌else◌, Letter, ◌⊕◌, Signed, single, with_sign, anticommute, times, parity-false, length-product, inverse, back, back_pair, Event, projected, member, length-one_letter, image-length, pair-length, test_left, test_right, Step, one, two, controlled, collapse, product, detector, observable, length-string_of, sign-sign, product-sign_right, looked_up, parity, when, string_of, flip_of, applied_where, outcome_at, Point, next_point, StepFits, Region, names_newest, earlier, product_where, before_measured, region_before, region_through, keeps_region}
 use Rattle.stab_regions.proofs.SignLemmas.{image-sign, pair-sign, product-signs, member-where}
 use Rattle.stab_regions.proofs.LookLemmas.{parity-where, parity-when}
 
 -- sizes
 
-pub length-times : (n : ℕ) (bit : Bool) (m p : Signed) → length m.letters ≡ n → length p.letters ≡ n → length (times_where bit m p).letters ≡ n
+pub length-times : (n : ℕ) (bit : Bool) (m p : Signed) → length m.letters ≡ n → length p.letters ≡ n → length (product_where bit m p).letters ≡ n
 length-times n true m p lm lp = length-product n m p lm lp
 length-times n false m p lm lp = lp
 
@@ -35,7 +35,7 @@ commuting m p e = off (anticommute m p) e
     off b e = grind arith
 
 -- after a projection the string has a sign that counts the outcome, if it was multiplied before it
-projected-reads : (m s : Signed) (t : List Event) (o d c : Bool) → anticommute m s ≡ false → member t (with_sign c (times_where d m s)) ≡ true
+projected-reads : (m s : Signed) (t : List Event) (o d c : Bool) → anticommute m s ≡ false → member t (with_sign c (product_where d m s)) ≡ true
     → member (projected m o ∷ t) (with_sign (c ⊕ (d && o)) s) ≡ true
 projected-reads m s t o false c distinct h =
     test_left (anticommute m s) _ _ distinct (ap (λ x. member t (with_sign x s)) (parity-false c) ∙ h)
@@ -46,7 +46,7 @@ projected-reads m s t o true c distinct h =
     round : (o c : Bool) → o ⊕ (c ⊕ o) ≡ c
     round o c = grind arith
 
-pub times-sign : (d v : Bool) (m s : Signed) → anticommute m s ≡ false → times_where d m (with_sign v s) ≡ with_sign v (times_where d m s)
+pub times-sign : (d v : Bool) (m s : Signed) → anticommute m s ≡ false → product_where d m (with_sign v s) ≡ with_sign v (product_where d m s)
 times-sign true v m s distinct = product-sign_right v m s distinct
 times-sign false v m s distinct = refl
 
@@ -70,7 +70,7 @@ module _ (t : List Event) (records : List Bool) (m : Signed) (r : Region) (b rec
 
   before-measured : (corrected : Bool)
       → member t (with_sign (b ⊕ parity records (before_measured m recorded inverted corrected r).looks) (before_measured m recorded inverted corrected r).string) ≡ true
-      → member t (with_sign ((b ⊕ others) ⊕ (counted && inverted)) (times_where (counted ⊕ corrected) m r.string)) ≡ true
+      → member t (with_sign ((b ⊕ others) ⊕ (counted && inverted)) (product_where (counted ⊕ corrected) m r.string)) ≡ true
   before-measured corrected h =
       ap (member t) (sym (ap (with_sign (b ⊕ others)) (times-sign (counted ⊕ corrected) (counted && inverted) m r.string distinct) ∙ sign-sign (b ⊕ others) (counted && inverted) _)) ∙ h
 

@@ -1,5 +1,5 @@
 -- What rows show of a region: its letters flip, and its lookbacks are named.
-use Rattle.stab_regions.proofs.Names.{◌≡◌, ℕ, zero, suc, ◌+◌, ◌-◌, ◌<◌, refl, sym, ◌∙◌, ap, arith, Bool, true, false, ◌&&◌, List, [], ◌∷◌, length, ◌==◌, if◌then◌else◌, Letter, I, X, Y, Z, ◌⊕◌, letters_anticommute, Signed, single, anticommute, letter_at, one_letter-anticommute, controlled, collapse, flip_of, names_newest, earlier, look_where, times_where, odd, row, bits_at, ShowsLetters, MovesLetters, multiplied, ShowsLooks, MovesRegion}
+use Rattle.stab_regions.proofs.Names.{◌≡◌, ℕ, zero, suc, ◌+◌, ◌-◌, ◌<◌, refl, sym, ◌∙◌, ap, arith, Bool, true, false, ◌&&◌, List, [], ◌∷◌, length, ◌==◌, if◌then◌else◌, Letter, I, X, Y, Z, ◌⊕◌, letters_anticommute, Signed, single, anticommute, letter_at, one_letter-anticommute, controlled, collapse, flip_of, names_newest, earlier, look_where, product_where, odd, row, bits_at, ShowsLetters, MovesLetters, multiplied, ShowsLooks, MovesRegion}
 
 -- what a letter flips
 
@@ -63,15 +63,15 @@ collapse-moves n q l recorded inverted resets old_x old_z old new_x new_z new co
     ∙ (λ k.
     (is_taken i ∙ ap (λ b. recorded && b) (shows.looks 0 ∙ sym (newest-odd r.looks))) k
     ⊕ (is_corrected i ∙ ap (λ b. resets && b) (bits-anticommute i n q (flip_of l) old_x old_z r.string lt long shows.letters)) k) in
-    let moved : ShowsLetters i new_x new_z (times_where (odd i counted) (single n q l) r.string).letters = moves i r.string long shows.letters in
+    let moved : ShowsLetters i new_x new_z (product_where (odd i counted) (single n q l) r.string).letters = moves i r.string long shows.letters in
     record {
       letters = letters-counted (odd i counted) _ _ counts moved;
       looks = earlier-shows i recorded old new r.looks shows.looks others;
     }
   where
     -- the sign of what is multiplied does not matter
-    letters-counted : (a b sign : Bool) → a ≡ b → ShowsLetters i new_x new_z (times_where a (single n q l) r.string).letters
-        → ShowsLetters i new_x new_z (times_where b (single n q l) (record { negative = sign; letters = r.string.letters })).letters
+    letters-counted : (a b sign : Bool) → a ≡ b → ShowsLetters i new_x new_z (product_where a (single n q l) r.string).letters
+        → ShowsLetters i new_x new_z (product_where b (single n q l) (record { negative = sign; letters = r.string.letters })).letters
     letters-counted true true sign e shows = shows
     letters-counted false false sign e shows = shows
     letters-counted true false sign e shows = cc

@@ -31,7 +31,7 @@ all-split y (product factors inverted) back = factors-split y back factors
 all-split y (detector ks) back = refl
 all-split y (observable j ks) back = refl
 
--- what is inserted at the places of a step is inserted on its qubits, on the sides that are asked for
+-- what is inserted at the sites of a step is inserted on its qubits, on the sides that are asked for
 pub sites-split : (a : Asked) (x : Step) (back : List Step) →
     flat_map (inserted_at x back) (sites_asked a x) ≡ flat_map (inserted_by (sides_asked a x) x back) (step_qubits x)
 sites-split Nowhere x back = sym (none x back (step_qubits x))

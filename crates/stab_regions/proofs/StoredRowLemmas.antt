@@ -1,5 +1,5 @@
 -- Stored rows: one more row, one of them, and what is left of them once numbers are taken out.
-use Rattle.stab_regions.proofs.Names.{◌≡◌, ℕ, zero, suc, ◌+◌, ◌-◌, ◌<◌, ◌≤◌, refl, sym, ap, ◌∙◌, subst, Bool, true, false, List, [], ◌∷◌, ◌++◌, length, get_or, take, drop, map, arith, slice_set, if◌then◌else◌, length-drop, length-append, length-take, drop_all, take-append-drop, take-append-le, drop-append-le, take_all, take_at, drop_at, drop-drop, drop_more, take_more_set, drop-set-lt, nil_from_length, filter-append, rows_cut, Rises, is_kept, kept_of, ends_kept}
+use Rattle.stab_regions.proofs.Names.{◌≡◌, ℕ, zero, suc, ◌+◌, ◌-◌, ◌<◌, ◌≤◌, refl, sym, ap, ◌∙◌, subst, Bool, true, false, List, [], ◌∷◌, ◌++◌, length, get_or, take, drop, map, arith, slice_set, if◌then◌else◌, length-drop, length-append, length-take, drop_all, take-append-drop, take-append-le, drop-append-le, take_all, take_at, drop_at, drop-drop, drop_more, take_more_set, drop-set-lt, nil_from_length, filter-append, rows_cut, Rises, is_stored, kept_of, ends_kept}
 use Rattle.std.proofs.lemmas.List.{append-nil, append_assoc}
 
 -- ends
@@ -75,7 +75,7 @@ row-is ends numbers k begin end r lt b e =
 -- fewer numbers
 
 kept-split : (kept : List Bool) (m : ℕ) (rest : List ℕ) → kept_of kept rest ≡ kept_of kept (take m rest) ++ kept_of kept (drop m rest)
-kept-split kept m rest = ap (kept_of kept) (sym (take-append-drop m rest)) ∙ filter-append (is_kept kept) (take m rest) (drop m rest)
+kept-split kept m rest = ap (kept_of kept) (sym (take-append-drop m rest)) ∙ filter-append (is_stored kept) (take m rest) (drop m rest)
 
 pub cut-kept : (kept : List Bool) (count b : ℕ) (es rest : List ℕ) →
     rows_cut count (ends_kept kept count b es rest) (kept_of kept rest) ≡ map (kept_of kept) (rows_cut b es rest)
@@ -129,7 +129,7 @@ ends-step kept count b k ends numbers target after lt le is so_far =
 -- no more numbers are left than were there, and a part has as many as it reaches over
 pub kept-few : (kept : List Bool) (xs : List ℕ) → length (kept_of kept xs) ≤ length xs
 kept-few kept [] = omega arith
-kept-few kept (x ∷ xs) = counted (is_kept kept x) (kept-few kept xs)
+kept-few kept (x ∷ xs) = counted (is_stored kept x) (kept-few kept xs)
   where
     counted : (b : Bool) → length (kept_of kept xs) ≤ length xs → length (if b then x ∷ kept_of kept xs else kept_of kept xs) ≤ suc (length xs)
     counted true le = omega arith

@@ -1,8 +1,11 @@
 -- Sweeps: the pass goes on before one step and before several, over pieces of a circuit's steps.
-use Rattle.stab_regions.proofs.Names.{◌≡◌, ℕ, zero, suc, ◌+◌, ◌-◌, ◌<◌, ◌≤◌, sym, ap, ◌∙◌, subst, List, [], ◌∷◌, ◌++◌, map, length, get_or, take, drop, reverse, min, arith, All, None, flat_map, drop_more, drop-drop, drop-map, get_or-map, length-drop, length-map, take_more, take-append-drop, All-nil, All-cons, All-head, All-tail, All-take, All-drop, Items, Step, unroll, check_of, detectors_of, HasDistinctQubits, StepFits, check-steps, Asked, Sweep, sites_asked, sides_asked, step_qubits, IsRegionsAt, Inserted, inserted_by, inserted_from, HaveRows, IsSwept, NamesBelow, MayPass, StandsAfter, Sweeps}
-use Rattle.stab_regions.proofs.SiteLemmas.{sites-split}
+use Rattle.stab_regions.proofs.Names.{◌≡◌, ℕ, zero, suc, ◌+◌, ◌-◌, ◌<◌, ◌≤◌, refl, sym, ap, ◌∙◌, subst, Bool, true, false, List, [], ◌∷◌, ◌++◌, map, map-append, length, get_or, take, drop, reverse, min, arith, All, None, flat_map, drop_more, drop-drop, drop-map, get_or-map, length-drop, length-map, take_more, take-append-drop, All-nil, All-cons, All-head, All-tail, All-take, All-drop, Items, Step, one, two, controlled, collapse, product, detector, observable, unroll, check_of, detectors_of, HasDistinctQubits, StepFits, check-steps, Asked, Sides, Sweep, sites_asked, sides_asked, step_qubits, where_asked, Inserted, inserted_on, inserted_by, inserted_from, Counts, numbers_before, FitsCounts, MayPass, StandsAfter, GoesBefore, IsWalkAt, row_of, IsSwept}
 use Rattle.stab_items.proofs.CountLemmas.{detectors_few}
-use Rattle.stab_regions.proofs.NegatedLemmas.{count-least}
+use Rattle.stab_items.specs.Steps.{makes, records_of}
+use Rattle.stab_regions.proofs.EffectLemmas.{fits-next, fits-drop, fits-all}
+use Rattle.stab_regions.proofs.SiteLemmas.{sites-split, step-within}
+use Rattle.stab_regions.proofs.WalkRowLemmas.{walk-rows}
+use Rattle.stab_regions.specs.inner.SiteRows.{rows_on, rows_around, Ascend}
 
 -- detectors are counted exactly
 pub detectors-exact : (items : Items) (n : ℕ) → check_of items ≡ None → n ≡ min (detectors_of (unroll items)) 1048577 → n ≡ detectors_of (unroll items)
@@ -35,69 +38,116 @@ mapped-last f xs left item some le is =
       sym (drop-map f left xs) ∙ ap (λ n. drop n (map f xs)) (sym next),
     )
 
+-- records are counted exactly
+
+makes-one : (x : Step) → makes x ≤ 1
+makes-one (one g q) = omega arith
+makes-one (two g a b) = omega arith
+makes-one (controlled l k q) = omega arith
+makes-one (collapse l q true inverted resets) = omega arith
+makes-one (collapse l q false inverted resets) = omega arith
+makes-one (product factors inverted) = omega arith
+makes-one (detector ks) = omega arith
+makes-one (observable j ks) = omega arith
+
+few-records : (xs : List Step) → records_of xs ≤ length xs
+few-records [] = omega arith
+few-records (x ∷ xs) = omega (arith, makes-one x, few-records xs)
+
+pub records-exact : (items : Items) (n : ℕ) → check_of items ≡ None → n ≡ min (records_of (unroll items)) 1048577 → n ≡ records_of (unroll items)
+records-exact items n checked is = omega (arith, check-steps items checked, few-records (unroll items), is)
+
 -- which steps may be passed
 
-pub passes-head : (n D count : ℕ) (x : Step) (xs back : List Step) → MayPass n D count (x ∷ xs) back → MayPass n D count (x ∷ []) (xs ++ back)
-passes-head n D count x xs back p = record {
-  fits = All-cons (StepFits n) x [] (All-head (StepFits n) x xs p.fits) (All-nil (StepFits n));
+passes-head : (c : Counts) (x : Step) (xs back : List Step) → MayPass c (x ∷ xs) back → MayPass c (x ∷ []) (xs ++ back)
+passes-head c x xs back p = record {
+  fits = p.fits;
   distinct = All-cons HasDistinctQubits x [] (All-head HasDistinctQubits x xs p.distinct) (All-nil HasDistinctQubits);
-  detectors = p.detectors;
-  observables = All-cons (NamesBelow count) x [] (All-head (NamesBelow count) x xs p.observables) (All-nil (NamesBelow count));
 }
 
-pub passes-tail : (n D count : ℕ) (x : Step) (xs back : List Step) → MayPass n D count (x ∷ xs) back → MayPass n D count xs back
-passes-tail n D count x xs back p = record {
-  fits = All-tail (StepFits n) x xs p.fits;
-  distinct = All-tail HasDistinctQubits x xs p.distinct;
-  detectors = omega (arith, p.detectors, count-least x (xs ++ back));
-  observables = All-tail (NamesBelow count) x xs p.observables;
-}
+passes-tail : (c : Counts) (x : Step) (xs back : List Step) → MayPass c (x ∷ xs) back → MayPass c xs back
+passes-tail c x xs back p = record { fits = fits-next c x (xs ++ back) p.fits; distinct = All-tail HasDistinctQubits x xs p.distinct }
 
-passes-drop : (n D count k : ℕ) (xs back : List Step) → MayPass n D count xs back → MayPass n D count (drop k xs) back
-passes-drop n D count zero xs back p = p
-passes-drop n D count (suc k) [] back p = p
-passes-drop n D count (suc k) (x ∷ xs) back p = passes-drop n D count k xs back (passes-tail n D count x xs back p)
+passes-drop : (c : Counts) (k : ℕ) (xs back : List Step) → MayPass c xs back → MayPass c (drop k xs) back
+passes-drop c zero xs back p = p
+passes-drop c (suc k) [] back p = p
+passes-drop c (suc k) (x ∷ xs) back p = passes-drop c k xs back (passes-tail c x xs back p)
 
-detectors-drop : (k : ℕ) (xs : List Step) → detectors_of (drop k xs) ≤ detectors_of xs
-detectors-drop zero xs = omega arith
-detectors-drop (suc k) [] = omega arith
-detectors-drop (suc k) (x ∷ xs) = omega (arith, detectors-drop k xs, count-least x xs)
-
-pub passes-piece : (n count begin end : ℕ) (xs : List Step) → begin ≤ end → All (StepFits n) xs → All HasDistinctQubits xs → All (NamesBelow count) xs →
-    MayPass n (detectors_of xs) count (take (end - begin) (drop begin xs)) (drop end xs)
-passes-piece n count begin end xs le fits distinct below = record {
-  fits = All-take (StepFits n) (end - begin) (drop begin xs) (All-drop (StepFits n) begin xs fits);
-  distinct = All-take HasDistinctQubits (end - begin) (drop begin xs) (All-drop HasDistinctQubits begin xs distinct);
-  detectors = omega (arith, ap detectors_of (piece begin end xs le), detectors-drop begin xs);
-  observables = All-take (NamesBelow count) (end - begin) (drop begin xs) (All-drop (NamesBelow count) begin xs below);
+pub passes-piece : (n begin end : ℕ) (items : Items) → begin ≤ end → All (StepFits n) (unroll items) → All HasDistinctQubits (unroll items)
+    → MayPass (numbers_before n items) (take (end - begin) (drop begin (unroll items))) (drop end (unroll items))
+passes-piece n begin end items le fits distinct = record {
+  fits = subst (FitsCounts (numbers_before n items)) (sym (piece begin end (unroll items) le)) (fits-drop (numbers_before n items) begin (unroll items) (fits-all n items fits));
+  distinct = All-take HasDistinctQubits (end - begin) (drop begin (unroll items)) (All-drop HasDistinctQubits begin (unroll items) distinct);
 }
 
 -- the pass before several steps
 
-pub sweeps-more : (asked : Asked) (x : Step) (xs : List Step) (old mid new : Sweep) → Sweeps asked xs old mid → Sweeps asked (x ∷ []) mid new → Sweeps asked (x ∷ xs) old new
-sweeps-more asked x xs old mid new first then_one = λ n D count back passes swept.
-    then_one n D count (xs ++ back) (passes-head n D count x xs back passes) (first n D count back (passes-tail n D count x xs back passes) swept)
+pub passes-several : (x : Step) (xs : List Step) (Old Mid New : Counts → List Step → Type 0) → GoesBefore xs Old Mid → GoesBefore (x ∷ []) Mid New → GoesBefore (x ∷ xs) Old New
+passes-several x xs Old Mid New first then_one = λ c back passes at.
+    then_one c (xs ++ back) (passes-head c x xs back passes) (first c back (passes-tail c x xs back passes) at)
 
 -- if it is after all of them, and came before those from number k + 1 on, it is after that with number k
-pub stands-next : (asked : Asked) (xs : List Step) (k : ℕ) (x : Step) (old s : Sweep) → drop k xs ≡ x ∷ drop (k + 1) xs → StandsAfter asked xs old →
-    Sweeps asked (drop (k + 1) xs) old s → StandsAfter asked (x ∷ []) s
-stands-next asked xs k x old s here p sweeps =
-    let passes : MayPass p.n p.D p.count (x ∷ drop (k + 1) xs) p.back = subst (λ (ys : List Step). MayPass p.n p.D p.count ys p.back) here (passes-drop p.n p.D p.count k xs p.back p.passes) in
+pub stands-next : (xs : List Step) (k : ℕ) (x : Step) (Old New : Counts → List Step → Type 0) → drop k xs ≡ x ∷ drop (k + 1) xs → StandsAfter Old xs → GoesBefore (drop (k + 1) xs) Old New
+    → StandsAfter New (x ∷ [])
+stands-next xs k x Old New here p passes_on =
+    let passes : MayPass p.counts (x ∷ drop (k + 1) xs) p.back = subst (λ (ys : List Step). MayPass p.counts ys p.back) here (passes-drop p.counts k xs p.back p.passes) in
     record {
-      n = p.n;
-      D = p.D;
-      count = p.count;
+      counts = p.counts;
       back = drop (k + 1) xs ++ p.back;
-      swept = sweeps p.n p.D p.count p.back (passes-tail p.n p.D p.count x (drop (k + 1) xs) p.back passes) p.swept;
-      passes = passes-head p.n p.D p.count x (drop (k + 1) xs) p.back passes;
+      at = passes_on p.counts p.back (passes-tail p.counts x (drop (k + 1) xs) p.back passes) p.at;
+      passes = passes-head p.counts x (drop (k + 1) xs) p.back passes;
     }
 
--- the pass before one step
+-- the rows around a step
 
-pub swept-more : (n D count : ℕ) (asked : Asked) (x : Step) (back : List Step) (new : Sweep) → IsRegionsAt n D count (x ∷ back) new.regions →
-    HaveRows n D count (flat_map (inserted_by (sides_asked asked x) x back) (step_qubits x) ++ inserted_from (sites_asked asked) back) (reverse new.rows) →
-    IsSwept n D count asked (x ∷ back) new
-swept-more n D count asked x back new at rows = record {
-  regions = at;
-  rows = subst (λ (fs : List Inserted). HaveRows n D count (fs ++ inserted_from (sites_asked asked) back) (reverse new.rows)) (sym (sites-split asked x back)) rows;
-}
+where-map : {A B : Type 0} (f : A → B) (b : Bool) (xs : List A) (ys : List B) → (b ≡ true → ys ≡ map f xs) → where_asked b ys ≡ map f (where_asked b xs)
+where-map f true xs ys e = e refl
+where-map f false xs ys e = refl
+
+around-are : (f : Inserted → List ℕ) (n : ℕ) (sides : Sides) (x : Step) (back : List Step) (fx fz ax az : List (List ℕ)) (qs : List ℕ) → All (λ q. q < n) qs
+    → (sides.front ≡ true → All (Ascend fx fz) qs) → (sides.following ≡ true → All (Ascend ax az) qs)
+    → ((q : ℕ) → q < n → Ascend fx fz q → rows_on fx fz q ≡ map f (inserted_on q (x ∷ back)))
+    → ((q : ℕ) → q < n → Ascend ax az q → rows_on ax az q ≡ map f (inserted_on q back))
+    → flat_map (rows_around sides fx fz ax az) qs ≡ map f (flat_map (inserted_by sides x back) qs)
+around-are f n sides x back fx fz ax az [] within up_f up_a front after = refl
+around-are f n sides x back fx fz ax az (q ∷ qs) within up_f up_a front after =
+    let lt : q < n = All-head (λ q. q < n) q qs within in
+    (λ t.
+    (where-map f sides.front (inserted_on q (x ∷ back)) (rows_on fx fz q) (λ e. front q lt (All-head (Ascend fx fz) q qs (up_f e))) t
+    ++ where-map f sides.following (inserted_on q back) (rows_on ax az q) (λ e. after q lt (All-head (Ascend ax az) q qs (up_a e))) t)
+    ++ around-are f n sides x back fx fz ax az qs (All-tail (λ q. q < n) q qs within) (λ e. All-tail (Ascend fx fz) q qs (up_f e)) (λ e. All-tail (Ascend ax az) q qs (up_a e)) front after t)
+    ∙ ap (λ rows. rows ++ map f (flat_map (inserted_by sides x back) qs)) (sym (map-append f (where_asked sides.front (inserted_on q (x ∷ back))) (where_asked sides.following (inserted_on q back))))
+    ∙ sym (map-append f (inserted_by sides x back q) (flat_map (inserted_by sides x back) qs))
+
+-- the pass before one step, by the rows and sides that are read
+module _ (asked : Asked) (x : Step) (c : Counts) (back : List Step) (old new : Sweep) (same : new.walk.numbered ≡ old.walk.numbered) (fits : FitsCounts c (x ∷ back))
+    (swept : IsSwept asked old c back) (at : IsWalkAt new.walk c (x ∷ back)) (sides : Sides) (is_sides : sides ≡ sides_asked asked x) (fx fz ax az : List (List ℕ))
+    (is_fx : fx ≡ new.walk.rows.by_x.items) (is_fz : fz ≡ new.walk.rows.by_z.items) (is_ax : ax ≡ old.walk.rows.by_x.items) (is_az : az ≡ old.walk.rows.by_z.items) where
+  abbrev f : Inserted → List ℕ
+  f = row_of new.walk.numbered c
+
+  front-rows : (q : ℕ) → q < c.qubits → Ascend fx fz q → rows_on fx fz q ≡ map f (inserted_on q (x ∷ back))
+  front-rows q lt up =
+      (λ t. rows_on (is_fx t) (is_fz t) q)
+      ∙ walk-rows new.walk.numbered new.walk c (x ∷ back) at fits q lt (subst (λ (xs : List (List ℕ)). Ascend xs new.walk.rows.by_z.items q) is_fx (subst (λ (zs : List (List ℕ)). Ascend fx zs q) is_fz up))
+
+  after-rows : (q : ℕ) → q < c.qubits → Ascend ax az q → rows_on ax az q ≡ map f (inserted_on q back)
+  after-rows q lt up =
+      (λ t. rows_on (is_ax t) (is_az t) q)
+      ∙ walk-rows old.walk.numbered old.walk c back swept.walk (fits-next c x back fits) q lt
+      (subst (λ (xs : List (List ℕ)). Ascend xs old.walk.rows.by_z.items q) is_ax (subst (λ (zs : List (List ℕ)). Ascend ax zs q) is_az up))
+      ∙ ap (λ k. map (row_of k c) (inserted_on q back)) (sym same)
+
+  pub swept-more : (sides.front ≡ true → All (Ascend fx fz) (step_qubits x)) → (sides.following ≡ true → All (Ascend ax az) (step_qubits x))
+      → reverse new.rows ≡ flat_map (rows_around sides fx fz ax az) (step_qubits x) ++ reverse old.rows → IsSwept asked new c (x ∷ back)
+  swept-more up_f up_a rows = record {
+    walk = at;
+    rows =
+        rows
+        ∙ ap (λ rest. flat_map (rows_around sides fx fz ax az) (step_qubits x) ++ rest) (swept.rows ∙ ap (λ k. map (row_of k c) (inserted_from (sites_asked asked) back)) (sym same))
+        ∙ ap (λ front. front ++ map f (inserted_from (sites_asked asked) back))
+        (around-are f c.qubits sides x back fx fz ax az (step_qubits x) (step-within c.qubits x (All-head (StepFits c.qubits) x back fits.steps)) up_f up_a front-rows after-rows
+        ∙ ap (λ (s : Sides). map f (flat_map (inserted_by s x back) (step_qubits x))) is_sides
+        ∙ ap (map f) (sym (sites-split asked x back)))
+        ∙ sym (map-append f _ (inserted_from (sites_asked asked) back));
+  }

@@ -4,8 +4,8 @@ pub mod Frames
 pub mod Laws
 pub mod Tables
 pub mod Parities
-pub mod Faults
-pub mod FaultTables
+pub mod SingleErrors
+pub mod SingleErrorTables
 pub mod Effects
 pub mod inner
-pub mod FaultLaws
+pub mod SingleErrorLaws

@@ -7,8 +7,8 @@ use Rattle.stab_gates.specs.Letters.{◌⊕◌, letters_anticommute}
 use Rattle.stab_pauli.specs.Paulis.{Signed, single}
 use Rattle.stab_tableau.specs.Gates.{letter_at}
 use Rattle.stab_items.specs.Steps.{Step}
-pub use Rattle.stab_search.specs.Tables.{odd, row}
-use Rattle.stab_regions.specs.Regions.{Region, times_where, region_before}
+use Rattle.stab_search.specs.Tables.{odd, row}
+use Rattle.stab_regions.specs.Regions.{Region, product_where, region_before}
 
 -- in one row these numbers are named once more, and the other rows stay
 pub record Toggles (old new : List (List ℕ)) (site : ℕ) (numbers : List ℕ) : Type 0 where
@@ -43,7 +43,7 @@ MovesLetters n before old_x old_z new_x new_z =
 
 -- a string times a letter on a qubit, if the parity is among these
 abbrev pub multiplied : ℕ → Letter → ℕ → List ℕ → ℕ → Signed → Signed
-multiplied n l q parities i s = times_where (odd i parities) (single n q l) s
+multiplied n l q parities i s = product_where (odd i parities) (single n q l) s
 
 -- and its lookbacks: row k of the records names it if rec[-(k + 1)] is named an odd number of times
 abbrev pub ShowsLooks : ℕ → List (List ℕ) → List ℕ → Type 0

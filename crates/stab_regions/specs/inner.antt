@@ -1,6 +1,9 @@
 pub mod StoredRows
 pub mod Sites
-pub mod RegionsAt
 pub mod SiteRows
-pub mod Sweeps
+pub mod Inserted
+pub mod Passes
+pub mod RowMoves
+pub mod RegionsAt
 pub mod EffectsAt
+pub mod Sweeps

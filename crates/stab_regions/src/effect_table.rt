@@ -3,23 +3,24 @@ ghost use Rattle.stab_io.specs.declared.refusal.Refusal.TheVariants.{OutOfMemory
 ghost use Rattle.stab_gates.specs.Limits.{most_qubits};
 ghost use Rattle.stab_items.specs.Steps.{check_within, unroll};
 ghost use Rattle.stab_items.specs.Views.{circuit_items};
-ghost use Rattle.stab_regions.specs.Effects.{effect_of_fault};
-ghost use Rattle.stab_regions.specs.Faults.{faults_of};
+ghost use Rattle.stab_regions.specs.Effects.{effect_of_single_error};
+ghost use Rattle.stab_regions.specs.SingleErrors.{single_errors_of};
 
-use crate::effect_sweep::{EffectSweep, sweep_effects};
-use crate::fault_rows::FaultRows;
-use crate::fault_table::asked_for;
+use crate::single_error_rows::SingleErrorRows;
+use crate::single_error_table::asked_for;
+use crate::sweep::{Sweep, sweep_back};
+use crate::walk::Numbered;
 use stab_io::Refusal;
 use stab_items::Circuit;
 use std::alloc::Global;
 use std::marker::Model;
 
-/// What each fault of a circuit flips and leaves. Contracts see for each, in the order of `specs/Faults.antt`, the numbers of what it
+/// What each single error of a circuit flips and leaves. Contracts see for each, in the order of `specs/SingleErrors.antt`, the numbers of what it
 /// flips, ascending: records, then detectors, then observables, and then the parts of the letters that are left at the end, X and then
 /// Z on each qubit.
 pub struct EffectTable {
-    // The last fault's row first.
-    rows: FaultRows,
+    // The last single error's row first.
+    rows: SingleErrorRows,
 }
 
 // Written out, so that a proof sees the drop of a value as one call, and not one for each of its parts.
@@ -40,20 +41,20 @@ impl Model for EffectTable {
 impl EffectTable {
     ghost use Rattle.std.specs.Prelude.{◌≡◌, ◌<◌, [], length, slice_index_or};
 
-    /// The numbers of a fault. Faults are numbered from 0.
-    pub fn row(&self, fault: usize) -> &[u32]
-        requires in_range { fault < length self.now }
-        ensures value { result.now ≡ slice_index_or self.now fault [] }
+    /// The numbers of a single error. Single errors are numbered from 0.
+    pub fn row(&self, single_error: usize) -> &[u32]
+        requires in_range { single_error < length self.now }
+        ensures value { result.now ≡ slice_index_or self.now single_error [] }
     {
-        self.rows.row(self.rows.len() - 1 - fault)
+        self.rows.row(self.rows.len() - 1 - single_error)
     }
 }
 
-/// What each fault of a circuit that was checked on n qubits, at most 1,024, flips and leaves: X and Z at each place that it marks by a
+/// What each single error of a circuit that was checked on n qubits, at most 1,024, flips and leaves: X and Z at each site that it marks by a
 /// gate I, or everywhere.
 ///
 /// Refusal `OutOfMemory` alone.
-pub fn fault_effects(
+pub fn single_error_effects(
     alloc: Global,
     circuit: &Circuit,
     n: usize,
@@ -61,9 +62,10 @@ pub fn fault_effects(
 ) -> Result<EffectTable, Refusal>
     requires in_range { n ≤ most_qubits }
     requires checked { check_within n (circuit_items circuit.now) ≡ None }
-    ensures rows { IfOk result (λ t. t ≡ map (effect_of_fault n (circuit_items circuit.now)) (faults_of everywhere (unroll (circuit_items circuit.now)))) }
+    ensures rows { IfOk result (λ t. t ≡ map (effect_of_single_error n (circuit_items circuit.now)) (single_errors_of everywhere (unroll (circuit_items circuit.now)))) }
     ensures err { IfErr result (λ r. r ≡ OutOfMemory) }
 {
-    let EffectSweep { rows, .. } = sweep_effects(alloc, circuit, n, asked_for(everywhere))?;
+    let asked = asked_for(everywhere);
+    let Sweep { rows, .. } = sweep_back(alloc, circuit, n, Numbered::Effects, asked)?;
     Ok(EffectTable { rows })
 }

@@ -1,6 +1,7 @@
 ghost use Rattle.std.specs.Prelude.{◌≡◌, ◌≢◌, ℕ, ◌+◌, ◌-◌, ◌<◌, List, ◌++◌, length, OnOk};
 ghost use Rattle.stab_regions.specs.Regions.{look_where};
-ghost use Rattle.stab_regions.specs.Rows.{odd, row, Toggles, SameRows, ShowsLooks};
+ghost use Rattle.stab_regions.specs.Rows.{Toggles, SameRows, ShowsLooks};
+ghost use Rattle.stab_search.specs.Tables.{odd, row};
 
 use crate::parities::Parities;
 use std::alloc::{AllocError, Global};
@@ -29,7 +30,7 @@ fn pad(alloc: Global, records: &mut VecDeque<Parities>, site: usize) -> Result<(
     Ok(())
 }
 
-/// Toggles `rec[-(place + 1)]` in the regions of these parities.
+/// Toggles `rec[-(site + 1)]` in the regions of these parities.
 pub fn look(
     alloc: Global,
     records: &mut VecDeque<Parities>,

@@ -1,8 +1,8 @@
 ghost use Rattle.std.specs.Prelude.{◌≡◌, ℕ, Bool, false, not, ◌<◌, ◌||◌, nat_eq, length, slice_index_or};
 ghost use Rattle.stab_search.specs.Ascending.{IsAscending};
-ghost use Rattle.stab_regions.specs.Rows.{odd};
+ghost use Rattle.stab_search.specs.Tables.{odd};
 
-/// Makes a bit 1; a place past the end has none.
+/// Makes a bit 1; a number past the end has none.
 fn set_at(bits: &mut [bool], site: usize)
     ensures same_length { length bits.new ≡ length bits.old }
     ensures value { (i : ℕ) → i < length bits.old → slice_index_or bits.new i false ≡ (nat_eq site i || slice_index_or bits.old i false) }

@@ -23,7 +23,7 @@ impl Parities {
     ghost use Rattle.std.specs.Prelude.{◌≡◌, ℕ, false, [], ◌∷◌, nat_eq, length, IfOk};
     ghost use Rattle.stab_gates.specs.Letters.{◌⊕◌};
     ghost use Rattle.stab_search.specs.Ascending.{IsAscending};
-    ghost use Rattle.stab_regions.specs.Rows.{odd};
+    ghost use Rattle.stab_search.specs.Tables.{odd};
 
     /// None, which takes no memory.
     pub fn none(alloc: Global) -> Parities

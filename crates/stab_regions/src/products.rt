@@ -3,8 +3,9 @@ ghost use Rattle.stab_pauli.specs.Paulis.{Signed, anticommute};
 ghost use Rattle.stab_instructions.specs.Products.{names_twice};
 ghost use Rattle.stab_items.specs.Steps.{product};
 ghost use Rattle.stab_run.specs.Runs.{string_of};
-ghost use Rattle.stab_regions.specs.Regions.{times_where};
-ghost use Rattle.stab_regions.specs.Rows.{odd, ShowsLetters, MovesLetters, MovesRegion};
+ghost use Rattle.stab_regions.specs.Regions.{product_where};
+ghost use Rattle.stab_regions.specs.Rows.{ShowsLetters, MovesLetters, MovesRegion};
+ghost use Rattle.stab_search.specs.Tables.{odd};
 
 use crate::lookbacks::newest;
 use crate::parities::Parities;
@@ -26,7 +27,7 @@ fn multiply_product(
     requires same_length { length by_z.old ≡ length by_x.old }
     ensures same_x { length by_x.new ≡ length by_x.old }
     ensures same_z { length by_z.new ≡ length by_z.old }
-    ensures strings { OnOk result (MovesLetters (length by_x.old) (λ i s. times_where (odd i parities.now) (string_of (length by_x.old) factors.now) s) by_x.old by_z.old by_x.new by_z.new) }
+    ensures strings { OnOk result (MovesLetters (length by_x.old) (λ i s. product_where (odd i parities.now) (string_of (length by_x.old) factors.now) s) by_x.old by_z.old by_x.new by_z.new) }
 {
     for factor in factors {
         let (letter, qubit) = (factor.letter.letter(), factor.qubit.number());
@@ -35,7 +36,7 @@ fn multiply_product(
     Ok(())
 }
 
-/// Moves regions to the place before a measured product: its outcome counts if its record does.
+/// Moves regions to the point before a measured product: its outcome counts if its record does.
 pub fn before_product(
     alloc: Global,
     by_x: &mut [Parities],

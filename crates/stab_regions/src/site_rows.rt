@@ -1,18 +1,18 @@
 ghost use Rattle.std.specs.Prelude.{◌≡◌, ℕ, ◌-◌, ◌*◌, ◌<◌, ◌≤◌, [], ◌∷◌, ◌++◌, true, List, All, length, reverse, slice_index_or, OnOk};
 ghost use Rattle.std.specs.List.{flat_map};
-ghost use Rattle.stab_items.specs.Cursors.{step_shown};
+ghost use Rattle.stab_items.specs.StepValues.{step_shown};
 ghost use Rattle.stab_regions.specs.inner.Sites.{step_qubits, where_asked};
 ghost use Rattle.stab_regions.specs.inner.SiteRows.{rows_on, rows_around, Ascend};
 
-use crate::fault_rows::FaultRows;
 use crate::parities::Parities;
+use crate::single_error_rows::SingleErrorRows;
 use crate::sites::{Sides, qubit_in, qubits_in};
 use stab_items::Step;
 use std::alloc::AllocError;
 
 /// Puts the rows of X and then Z on a qubit after others.
 fn keep_on(
-    kept: &mut FaultRows,
+    kept: &mut SingleErrorRows,
     by_x: &[Parities],
     by_z: &[Parities],
     qubit: usize,
@@ -28,9 +28,9 @@ fn keep_on(
     Ok(())
 }
 
-/// Keeps the rows of X and Z on each of a step's qubits after it, if faults there are asked for.
+/// Keeps the rows of X and Z on each of a step's qubits after it, if single errors there are asked for.
 pub fn keep_all(
-    kept: &mut FaultRows,
+    kept: &mut SingleErrorRows,
     by_x: &[Parities],
     by_z: &[Parities],
     asked: bool,
@@ -51,9 +51,9 @@ pub fn keep_all(
     Ok(())
 }
 
-/// Puts the rows of X and Z on a qubit before others, which are kept the last first, if faults there are asked for.
+/// Puts the rows of X and Z on a qubit before others, which are kept the last first, if single errors there are asked for.
 fn add_front(
-    rows: &mut FaultRows,
+    rows: &mut SingleErrorRows,
     by_x: &[Parities],
     by_z: &[Parities],
     asked: bool,
@@ -74,8 +74,8 @@ fn add_front(
 
 /// The same of the last two of this many rows that are kept.
 fn add_kept(
-    rows: &mut FaultRows,
-    kept: &FaultRows,
+    rows: &mut SingleErrorRows,
+    kept: &SingleErrorRows,
     asked: bool,
     end: usize,
 ) -> Result<(), AllocError>
@@ -92,10 +92,10 @@ fn add_kept(
 
 /// Adds the rows of all letters that are asked for at a step, by the rows in front of it and those that are kept of its qubits after it.
 pub fn add_all(
-    rows: &mut FaultRows,
+    rows: &mut SingleErrorRows,
     by_x: &[Parities],
     by_z: &[Parities],
-    kept: &FaultRows,
+    kept: &SingleErrorRows,
     sides: Sides,
     step: Step,
 ) -> Result<(), AllocError>

@@ -1,11 +1,11 @@
 ghost use Rattle.std.specs.Prelude.{◌≡◌, ◌<◌, length, slice_index};
-ghost use Rattle.stab_items.specs.Cursors.{step_shown};
+ghost use Rattle.stab_items.specs.StepValues.{step_shown};
 ghost use Rattle.stab_regions.specs.inner.Sites.{sides_asked, marks, all_sides as all_sides_of, step_qubits};
 
 use stab_items::Step;
 use stab_tableau::Gate;
 
-/// Where faults are asked for.
+/// Where single errors are asked for.
 #[derive(Clone, Copy)]
 pub(crate) enum Asked {
     Nowhere,
@@ -14,14 +14,14 @@ pub(crate) enum Asked {
     Everywhere,
 }
 
-/// On which sides of a step faults are asked for, on each of its qubits.
+/// On which sides of a step single errors are asked for, on each of its qubits.
 #[derive(Clone, Copy)]
 pub(crate) struct Sides {
     pub front: bool,
     pub following: bool,
 }
 
-/// The sides of a step where faults are asked for.
+/// The sides of a step where single errors are asked for.
 pub fn sides_at(asked: Asked, step: Step) -> Sides
     ensures value { result ≡ sides_asked asked (step_shown step.entry) }
 {
@@ -48,7 +48,7 @@ fn is_marked(step: Step) -> bool
     }
 }
 
-/// All sides of a step that faults may be on.
+/// All sides of a step that single errors may be on.
 fn all_sides(step: Step) -> Sides
     ensures value { result ≡ all_sides_of (step_shown step.entry) }
 {

@@ -1,7 +1,8 @@
 ghost use Rattle.std.specs.Prelude.{◌≡◌, ℕ, Bool, ◌+◌, ◌<◌, ◌&&◌, length, IfOk, OnOk, if◌then◌else◌};
 ghost use Rattle.stab_items.specs.Steps.{controlled, collapse};
 ghost use Rattle.stab_run.specs.Runs.{flip_of};
-ghost use Rattle.stab_regions.specs.Rows.{odd, row, bits_at, MovesRegion};
+ghost use Rattle.stab_regions.specs.Rows.{bits_at, MovesRegion};
+ghost use Rattle.stab_search.specs.Tables.{odd, row};
 
 use crate::lookbacks::{look_back, newest};
 use crate::parities::Parities;
@@ -11,7 +12,7 @@ use stab_run::flip;
 use std::alloc::{AllocError, Global};
 use std::collections::VecDeque;
 
-/// Moves regions to the place before a letter that a record controls: the record counts if the
+/// Moves regions to the point before a letter that a record controls: the record counts if the
 /// letter flips.
 pub fn before_controlled(
     alloc: Global,
@@ -63,7 +64,7 @@ fn taken(alloc: Global, records: &mut VecDeque<Parities>, recorded: bool) -> Par
     }
 }
 
-/// Moves regions to the place before a measurement of a letter: its outcome counts if its record
+/// Moves regions to the point before a measurement of a letter: its outcome counts if its record
 /// does, and if what is corrected by it flips.
 pub fn before_collapse(
     alloc: Global,

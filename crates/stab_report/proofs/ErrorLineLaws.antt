@@ -1,12 +1,12 @@
 -- Laws of error lines: the parts that are written of an error, one after another.
-use Rattle.stab_report.proofs.Names.{◌≡◌, ◌+◌, ◌-◌, suc, arith, flat_map, range_with_len, refl, sym, ap, ◌∙◌, ℕ, ◌<◌, false, List, [], ◌∷◌, ◌++◌, length, get_or, append_assoc, append-nil, codes, decimal, Some, get_or_default, length-map, letter_text, Items, Path, path_text, Kinds, FaultPlace, row, Error, first_fault, ErrorTableState, IsErrorTable, error_at, kinds_of, path_at, texts_joined, letter_name, where_text, what_text, numbered_line, line_end, up_to, count_line, missing_line}
+use Rattle.stab_report.proofs.Names.{◌≡◌, ◌+◌, ◌-◌, suc, arith, flat_map, range_with_len, refl, sym, ap, ◌∙◌, ℕ, ◌<◌, false, List, [], ◌∷◌, ◌++◌, length, get_or, append_assoc, append-nil, codes, decimal, Some, get_or_default, length-map, letter_text, Items, Path, path_text, Kinds, SingleError, row, Error, first_single_error, ErrorTableState, IsErrorTable, error_at, kinds_of, path_at, texts_joined, letter_name, where_text, what_text, numbered_line, line_end, up_to, count_line, missing_line}
 
 -- a letter and its qubit, by their two parts
-pub joined-letter : (f : FaultPlace) (symbol digits : List ℕ) → symbol ≡ letter_text f.letter → digits ≡ decimal f.qubit → texts_joined (symbol ∷ digits ∷ []) ≡ letter_name f
+pub joined-letter : (f : SingleError) (symbol digits : List ℕ) → symbol ≡ letter_text f.letter → digits ≡ decimal f.qubit → texts_joined (symbol ∷ digits ∷ []) ≡ letter_name f
 joined-letter f symbol digits is_symbol is_digits = rw (is_symbol, is_digits, append-nil (decimal f.qubit)) refl
 
 -- a product of two, by its five parts
-pub joined-letters : (f g : FaultPlace) (symbol digits other others : List ℕ) → symbol ≡ letter_text f.letter → digits ≡ decimal f.qubit → other ≡ letter_text g.letter → others ≡ decimal g.qubit
+pub joined-letters : (f g : SingleError) (symbol digits other others : List ℕ) → symbol ≡ letter_text f.letter → digits ≡ decimal f.qubit → other ≡ letter_text g.letter → others ≡ decimal g.qubit
     → texts_joined (symbol ∷ digits ∷ codes "*" ∷ other ∷ others ∷ []) ≡ letter_name f ++ (codes "*" ++ letter_name g)
 joined-letters f g symbol digits other others is_symbol is_digits is_other is_others =
     rw (is_symbol, is_digits, is_other, is_others, append-nil (decimal g.qubit))
@@ -42,13 +42,13 @@ pub joined-where : (before : ℕ) (path : Path) (front : List ℕ) → front ≡
 joined-where before path front is = ap (λ l. (l ++ codes " ") ++ (path_text path ++ codes " ")) is
 
 -- the line of the error of a number, by the error, its path and its row
-pub joined-error : (items : Items) (t : ErrorTableState) (k before step : ℕ) (kinds : Kinds) (path : Path) (e : Error) (f : FaultPlace) (flipped : List ℕ) → kinds ≡ kinds_of items
-    → e ≡ error_at t.errors k → f ≡ first_fault e → before ≡ f.before → step ≡ f.step → path_at items step ≡ path → flipped ≡ row t.table.rows k
+pub joined-error : (items : Items) (t : ErrorTableState) (k before step : ℕ) (kinds : Kinds) (path : Path) (e : Error) (f : SingleError) (flipped : List ℕ) → kinds ≡ kinds_of items
+    → e ≡ error_at t.errors k → f ≡ first_single_error e → before ≡ f.before → step ≡ f.step → path_at items step ≡ path → flipped ≡ row t.table.rows k
     → where_text before path ++ what_text kinds e flipped ≡ numbered_line items t k
 joined-error items t k before step kinds path e f flipped is_kinds is_error is_first is_before is_step is_path is_row =
-    let first : f ≡ first_fault (error_at t.errors k) = is_first ∙ ap first_fault is_error in
-    let front : before ≡ (first_fault (error_at t.errors k)).before = is_before ∙ ap (λ (x : FaultPlace). x.before) first in
-    let here : path ≡ path_at items (first_fault (error_at t.errors k)).step = sym is_path ∙ ap (path_at items) (is_step ∙ ap (λ (x : FaultPlace). x.step) first) in
+    let first : f ≡ first_single_error (error_at t.errors k) = is_first ∙ ap first_single_error is_error in
+    let front : before ≡ (first_single_error (error_at t.errors k)).before = is_before ∙ ap (λ (x : SingleError). x.before) first in
+    let here : path ≡ path_at items (first_single_error (error_at t.errors k)).step = sym is_path ∙ ap (path_at items) (is_step ∙ ap (λ (x : SingleError). x.step) first) in
     rw (is_kinds, is_error, is_row, front, here) refl
 
 -- the error of a number, whatever is used for one beyond the end

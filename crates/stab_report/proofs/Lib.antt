@@ -3,8 +3,8 @@ pub mod WritingLaws
 pub mod SendingLaws
 pub mod MemoryLaws
 pub mod FaultLineLaws
-pub mod FaultTextLaws
-pub mod FaultSiteLaws
-pub mod FaultBitLaws
+pub mod SingleErrorTextLaws
+pub mod SingleErrorSiteLaws
+pub mod SingleErrorBitLaws
 pub mod ErrorLineLaws
 pub mod RandomLaws

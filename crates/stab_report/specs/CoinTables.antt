@@ -4,11 +4,11 @@ use Rattle.std.specs.Prelude.{◌≡◌, ℕ, Bool, List, ◌++◌, codes, Resul
 use Rattle.std.specs.List.{flat_map}
 use Rattle.stab_io.specs.Devices.{InputView, OutputView}
 use Rattle.stab_io.specs.declared.refusal.Fault.{Fault}
-use Rattle.stab_circuit.specs.Items.{Items}
-use Rattle.stab_circuit.specs.Steps.{unroll, qubits_of, records_of, detectors_of}
+use Rattle.stab_items.specs.Items.{Items}
+use Rattle.stab_items.specs.Steps.{unroll, qubits_of, records_of, detectors_of}
 use Rattle.stab_results.specs.declared.format.Kinds.{Kinds}
 use Rattle.stab_results.specs.declared.format.Kinds.TheVariants.{Whole}
-use Rattle.stab_results.specs.Formats.{entry, one_places, shot_bytes}
+use Rattle.stab_results.specs.Formats.{entry, one_positions, shot_bytes}
 use Rattle.stab_report.specs.Coins.{ShotBits, CoinRow, IsCoinTable, table_of}
 use Rattle.stab_report.specs.Places.{step_of_coin, path_of_coin}
 use Rattle.stab_jobs.specs.declared.job.FaultLayout.{FaultLayout}
@@ -27,16 +27,16 @@ whole_kinds items = Whole (records_of (unroll items)) (detectors_of (unroll item
 -- the line of a coin: how many steps are in front, the path of its item, its number, and the bits that it flips, as `17 3/0 c12 M4 M9 D2 L0`
 abbrev pub coin_line : Items → (coin : ℕ) → (flips : List Bool) → List ℕ
 coin_line items t flips =
-    row_head (step_of_coin (unroll items) t) (path_of_coin items t) (codes "c") t ++ (flat_map (entry (whole_kinds items)) (one_places flips) ++ codes "\n")
+    row_head (step_of_coin (unroll items) t) (path_of_coin items t) (codes "c") t ++ (flat_map (entry (whole_kinds items)) (one_positions flips) ++ codes "\n")
 
 -- what is written of a coin: its line, or a shot of the bits that it flips
-abbrev pub coin_text : FaultLayout → Items → (coin : ℕ) → (flips : List Bool) → List ℕ
-coin_text Lines items t flips = coin_line items t flips
-coin_text (Shots format) items t flips = shot_bytes format (whole_kinds items) flips
+abbrev pub coin_entry : FaultLayout → Items → (coin : ℕ) → (flips : List Bool) → List ℕ
+coin_entry Lines items t flips = coin_line items t flips
+coin_entry (Shots format) items t flips = shot_bytes format (whole_kinds items) flips
 
 -- what is written of a table
 abbrev pub coins_text : FaultLayout → Items → List CoinRow → List ℕ
-coins_text layout items rows = flat_map (λ (row : CoinRow). coin_text layout items row.coin (whole_bits row.flips)) rows
+coins_text layout items rows = flat_map (λ (row : CoinRow). coin_entry layout items row.coin (whole_bits row.flips)) rows
 
 -- the coins that decide, on the circuit's own qubits, are those of a table, and the text of it was sent
 abbrev pub SendsTable : {T : Type 0} → (Items → List CoinRow → List ℕ) → OutputView → OutputView → Items → Result T Fault → Type 0

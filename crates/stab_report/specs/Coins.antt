@@ -2,13 +2,13 @@
 -- Source: this project's own, after the Pauli frames of C. Gidney, Stim (2021), which add.
 use Rattle.std.specs.Prelude.{◌≡◌, ℕ, ◌==◌, Bool, List, [], ◌∷◌, All, map, if◌then◌else◌}
 use Rattle.stab_gates.specs.Letters.{◌⊕◌}
-use Rattle.stab_circuit.specs.Items.{Items}
-use Rattle.stab_circuit.specs.Steps.{unroll}
+use Rattle.stab_items.specs.Items.{Items}
+use Rattle.stab_items.specs.Steps.{unroll}
 use Rattle.stab_run.specs.Coins.{zero_coins}
 use Rattle.stab_run.specs.ProgramStates.{StepFits}
 use Rattle.stab_run.specs.Runs.{State, run_of}
 use Rattle.stab_frames.specs.Flips.{flipped}
-use Rattle.stab_results.specs.Formats.{one_places}
+use Rattle.stab_results.specs.Formats.{one_positions}
 
 -- the bits that a run gives
 pub record ShotBits : Type 0 where
@@ -52,13 +52,13 @@ with_rows coins (r ∷ rows) bits = with_rows coins rows (if coins r.coin then i
 -- A row for each coin that decides an outcome, in order: for all random bits, runs with it flipped and without differ in its row's bits;
 -- those of any other coin are the same; and the bits of a run are those with coins 0, inverted by the rows of the coins that are 1.
 pub record IsCoinTable (n : ℕ) (items : Items) (rows : List CoinRow) : Type 0 where
-  pub listed : (coins : ℕ → Bool) → rows ≡ map (row_by n items coins) (one_places (run_of n coins items).free)
+  pub listed : (coins : ℕ → Bool) → rows ≡ map (row_by n items coins) (one_positions (run_of n coins items).free)
   pub others : (coins : ℕ → Bool) (t : ℕ) → All (λ (r : CoinRow). r.coin ≡ t → ⊥) rows → run_of n (coin_flipped t coins) items ≡ run_of n coins items
   pub adds : (coins : ℕ → Bool) → shot_bits_of (run_of n coins items) ≡ with_rows coins rows (shot_bits_of (run_of n zero_coins items))
 
 -- the table of items that nothing refuses
 abbrev pub table_of : (n : ℕ) → Items → List CoinRow
-table_of n items = map (row_by n items zero_coins) (one_places (run_of n zero_coins items).free)
+table_of n items = map (row_by n items zero_coins) (one_positions (run_of n zero_coins items).free)
 
 -- items whose steps are on n qubits have a table of coins
 abbrev pub CoinsHaveRows : Type 0

@@ -3,13 +3,13 @@
 use Rattle.std.specs.Prelude.{◌≡◌, ℕ, Bool, List, Result}
 use Rattle.stab_io.specs.Devices.{InputView, OutputView}
 use Rattle.stab_io.specs.declared.refusal.Fault.{Fault}
-use Rattle.stab_circuit.specs.Items.{Items}
-use Rattle.stab_circuit.specs.Steps.{unroll, qubits_of, detectors_of}
+use Rattle.stab_items.specs.Items.{Items}
+use Rattle.stab_items.specs.Steps.{unroll, qubits_of, detectors_of}
 use Rattle.stab_results.specs.declared.format.Format.{Format}
 use Rattle.stab_results.specs.declared.format.Kinds.{Kinds}
 use Rattle.stab_results.specs.declared.format.Kinds.TheVariants.{Detectors}
 use Rattle.stab_results.specs.Formats.{shot_bytes}
-use Rattle.stab_regions.specs.Faults.{AreDeterministic}
+use Rattle.stab_regions.specs.SingleErrors.{AreDeterministic}
 use Rattle.stab_report.specs.Endings.{Ends, SendsFound}
 
 -- the bits of a circuit are its detectors, and after them its observables

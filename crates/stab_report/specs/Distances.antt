@@ -8,12 +8,12 @@ use Rattle.stab_io.specs.declared.refusal.Refusal.TheVariants.{OutOfMemory, NotD
 use Rattle.stab_io.specs.declared.refusal.Fault.{Fault}
 use Rattle.stab_io.specs.Refusals.{whole}
 use Rattle.stab_gates.specs.LetterTexts.{letter_text}
-use Rattle.stab_circuit.specs.Items.{Items}
-use Rattle.stab_circuit.specs.Steps.{observables_of, qubits_of}
+use Rattle.stab_items.specs.Items.{Items}
+use Rattle.stab_items.specs.Steps.{observables_of, qubits_of}
 use Rattle.stab_items.specs.Paths.{Path, path_text}
 use Rattle.stab_results.specs.declared.format.Kinds.{Kinds}
 use Rattle.stab_results.specs.Formats.{entry}
-use Rattle.stab_regions.specs.Faults.{FaultPlace, bits_in, IsDeterministic}
+use Rattle.stab_regions.specs.SingleErrors.{SingleError, bits_in, IsDeterministic}
 use Rattle.stab_search.specs.declared.answer.Answer.{Answer}
 use Rattle.stab_search.specs.declared.answer.Answer.TheVariants.{Least, NoneWithin, NoneAtAll}
 use Rattle.stab_search.specs.Tables.{row}
@@ -23,18 +23,18 @@ use Rattle.stab_search.specs.Questions.{Asks}
 use Rattle.stab_jobs.specs.declared.job.DistanceOptions.{DistanceOptions}
 use Rattle.stab_jobs.specs.declared.job.SearchedLayout.{SearchedLayout}
 use Rattle.stab_jobs.specs.declared.job.SearchedLayout.TheVariants.{Table, Wcnf}
-use Rattle.stab_error_model.specs.Errors.{Error, letter, letters, wrong_record, first_fault, errors_of}
+use Rattle.stab_error_model.specs.Errors.{Error, letter, letters, wrong_record, first_single_error, errors_of}
 use Rattle.stab_error_model.specs.Parts.{AreSearched}
 use Rattle.stab_error_model.specs.ErrorTables.{ErrorTableState, IsErrorTable}
 use Rattle.stab_error_model.specs.Unseen.{IsDistance, IsSetCount, ReportsUnseen, error_at}
 use Rattle.stab_report.specs.declared.random.Random.{Random}
 use Rattle.stab_report.specs.Deterministic.{kinds_of}
 use Rattle.stab_report.specs.Endings.{Ends}
-use Rattle.stab_report.specs.FaultTables.{IsFirstRandom, EndsOrNames}
+use Rattle.stab_report.specs.SingleErrorTables.{IsFirstRandom, EndsOrNames}
 use Rattle.stab_report.specs.Places.{path_at}
 
 -- a letter on a qubit, as X3
-abbrev pub letter_name : FaultPlace → List ℕ
+abbrev pub letter_name : SingleError → List ℕ
 letter_name f = letter_text f.letter ++ decimal f.qubit
 
 -- an error: X3, or X3*Z4 for a product of two letters, or M17 for a wrong record
@@ -53,11 +53,11 @@ what_text kinds e flipped = error_name e ++ (flat_map (entry kinds) flipped ++ c
 
 -- the line of an error, as `1207 3/0/2 X17*Z4 D24 L0`
 abbrev pub error_line : Kinds → Path → Error → (flipped : List ℕ) → List ℕ
-error_line kinds path e flipped = where_text (first_fault e).before path ++ what_text kinds e flipped
+error_line kinds path e flipped = where_text (first_single_error e).before path ++ what_text kinds e flipped
 
 -- the line of the error of a number
 abbrev pub numbered_line : Items → ErrorTableState → ℕ → List ℕ
-numbered_line items t k = error_line (kinds_of items) (path_at items (first_fault (error_at t.errors k)).step) (error_at t.errors k) (row t.table.rows k)
+numbered_line items t k = error_line (kinds_of items) (path_at items (first_single_error (error_at t.errors k)).step) (error_at t.errors k) (row t.table.rows k)
 
 -- of which errors a distance is
 abbrev pub of_errors : (graphlike everywhere : Bool) → List ℕ
@@ -151,9 +151,9 @@ abbrev pub for_observable : DistanceOptions → ℕ → DistanceOptions
 for_observable options j = record options { observable = Some j }
 
 -- an answer about each observable in turn, from this one on
-abbrev pub AreAnswers : DistanceOptions → Items → ErrorTableState → (first : ℕ) → List Answer → Type 0
-AreAnswers options items t first [] = Unit {0}
-AreAnswers options items t first (answer ∷ answers) = IsDistanceOf (for_observable options first) items t answer × AreAnswers options items t (first + 1) answers
+abbrev pub AreDistanceAnswers : DistanceOptions → Items → ErrorTableState → (first : ℕ) → List Answer → Type 0
+AreDistanceAnswers options items t first [] = Unit {0}
+AreDistanceAnswers options items t first (answer ∷ answers) = IsDistanceOf (for_observable options first) items t answer × AreDistanceAnswers options items t (first + 1) answers
 
 -- what is written of them, in order
 abbrev pub answer_texts : DistanceOptions → Items → ErrorTableState → (first : ℕ) → List Answer → List ℕ
@@ -166,7 +166,7 @@ pub record IsEachText (options : DistanceOptions) (items : Items) (bytes : List 
   pub are : AreErrorsOf options items t
   pub answers : List Answer
   pub each : length answers ≡ observables_of items
-  pub distances : AreAnswers options items t 0 answers
+  pub distances : AreDistanceAnswers options items t 0 answers
   pub text : bytes ≡ answer_texts options items t 0 answers
 
 -- why there is no answer: a bit that is not deterministic, or memory that was refused

@@ -6,7 +6,7 @@ use Rattle.stab_io.specs.declared.refusal.Refusal.TheVariants.{WriteFault, OutOf
 use Rattle.stab_io.specs.declared.refusal.Fault.{Fault}
 use Rattle.stab_io.specs.Refusals.{whole}
 use Rattle.stab_circuit.specs.Inputs.{GaveText, RefusesText}
-use Rattle.stab_circuit.specs.Items.{Items}
+use Rattle.stab_items.specs.Items.{Items}
 use Rattle.stab_circuit.specs.Readings.{IsCircuit, IsFaultOf}
 
 -- the output took these bytes and was flushed once, and did not fail

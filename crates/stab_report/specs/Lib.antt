@@ -7,8 +7,8 @@ pub mod Rows
 pub mod Deterministic
 pub mod Deciders
 pub mod Places
-pub mod PlacedFaults
-pub mod FaultTables
+pub mod PlacedSingleErrors
+pub mod SingleErrorTables
 pub mod Distances
 pub mod PartTexts
 pub mod DoubtLines

@@ -3,8 +3,8 @@
 use Rattle.std.specs.Prelude.{◌≡◌, ◌<◌, ◌≤◌, ◌⊎◌, ℕ, Bool, List, ◌++◌, codes, decimal, Option, Some, None, Result, Ok, Err}
 use Rattle.stab_io.specs.Devices.{InputView, OutputView}
 use Rattle.stab_io.specs.declared.refusal.Fault.{Fault}
-use Rattle.stab_circuit.specs.Items.{Items}
-use Rattle.stab_circuit.specs.Steps.{observables_of}
+use Rattle.stab_items.specs.Items.{Items}
+use Rattle.stab_items.specs.Steps.{observables_of}
 use Rattle.stab_report.specs.DoubtLines.{ReportsDoubts, doubts_of}
 use Rattle.stab_report.specs.Endings.{GaveCircuit}
 use Rattle.stab_report.specs.FaultLines.{TookOrFailed}

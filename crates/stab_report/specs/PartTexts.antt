@@ -5,7 +5,7 @@ use Rattle.std.specs.List.{flat_map, range_with_len}
 use Rattle.std.specs.Option.{unwrap_or}
 use Rattle.stab_io.specs.Devices.{InputView, OutputView}
 use Rattle.stab_io.specs.declared.refusal.Fault.{Fault}
-use Rattle.stab_circuit.specs.Items.{Items}
+use Rattle.stab_items.specs.Items.{Items}
 use Rattle.stab_search.specs.declared.answer.Answer.{Answer}
 use Rattle.stab_search.specs.declared.answer.Answer.TheVariants.{Least, NoneWithin, NoneAtAll}
 use Rattle.stab_search.specs.declared.search_part.PartAnswer.{PartAnswer}
@@ -15,7 +15,7 @@ use Rattle.stab_jobs.specs.declared.job.DistanceOptions.{DistanceOptions}
 use Rattle.stab_error_model.specs.ErrorTables.{ErrorTableState}
 use Rattle.stab_report.specs.declared.random.Random.{Random}
 use Rattle.stab_report.specs.Distances.{AreErrorsOf, none_line, set_text}
-use Rattle.stab_report.specs.FaultTables.{EndsOrNames}
+use Rattle.stab_report.specs.SingleErrorTables.{EndsOrNames}
 
 -- the same options, for all errors and any observable
 abbrev pub of_part : DistanceOptions → DistanceOptions

@@ -1,8 +1,8 @@
 -- Places: the items of steps, of coins and of detectors and observables, by their paths.
 -- Source: this project's own.
 use Rattle.std.specs.Prelude.{ℕ, ◌-◌, ◌==◌, nat_lt, Bool, false, List, [], ◌∷◌, length, slice_index_or, if◌then◌else◌}
-use Rattle.stab_circuit.specs.Items.{Items}
-use Rattle.stab_circuit.specs.Steps.{Step, observable, unroll}
+use Rattle.stab_items.specs.Items.{Items}
+use Rattle.stab_items.specs.Steps.{Step, observable, unroll}
 use Rattle.stab_items.specs.Paths.{Path}
 use Rattle.stab_items.specs.StepPaths.{outside, paths_of}
 use Rattle.stab_regions.specs.Tables.{steps_before_detector}

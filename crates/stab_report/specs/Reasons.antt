@@ -6,11 +6,11 @@ use Rattle.stab_io.specs.Devices.{InputView, OutputView}
 use Rattle.stab_io.specs.declared.refusal.Refusal.{Refusal}
 use Rattle.stab_io.specs.declared.refusal.Fault.{Fault}
 use Rattle.stab_items.specs.Prints.{item_coordinates}
-use Rattle.stab_circuit.specs.Items.{Items, OneItem, entries}
-use Rattle.stab_circuit.specs.Steps.{unroll, qubits_of, detectors_of, observables_of}
+use Rattle.stab_items.specs.Items.{Items, OneItem, entries}
+use Rattle.stab_items.specs.Steps.{unroll, qubits_of, detectors_of, observables_of}
 use Rattle.stab_items.specs.Paths.{Path, path_text}
 use Rattle.stab_items.specs.Places.{item_at}
-use Rattle.stab_regions.specs.Faults.{bits_in, IsDeterministic}
+use Rattle.stab_regions.specs.SingleErrors.{bits_in, IsDeterministic}
 use Rattle.stab_report.specs.Coins.{CoinRow, IsCoinTable}
 use Rattle.stab_report.specs.declared.random.Bit.{Bit}
 use Rattle.stab_report.specs.declared.random.Bit.TheVariants.{Detector, Observable}

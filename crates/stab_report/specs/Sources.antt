@@ -1,8 +1,8 @@
 -- Sources: the coins of a shot, and its run.
 -- Source: this project's own.
 use Rattle.std.specs.Prelude.{ℕ, Bool}
-use Rattle.stab_circuit.specs.Items.{Items}
-use Rattle.stab_circuit.specs.Steps.{qubits_of}
+use Rattle.stab_items.specs.Items.{Items}
+use Rattle.stab_items.specs.Steps.{qubits_of}
 use Rattle.stab_run.specs.Coins.{list_coin, seed_coin}
 use Rattle.stab_run.specs.Runs.{State, run_of}
 use Rattle.stab_jobs.specs.declared.job.Source.{Source}

@@ -1,2 +1,2 @@
 -- Definitions that only private contracts cite.
-pub mod FaultSites
+pub mod SingleErrorSites

@@ -1,13 +1,14 @@
 //! Marks that may be meant in another way, as lines.
 ghost use Rattle.std.specs.Prelude.{◌≡◌, ◌<◌, None, All, length};
 ghost use Rattle.stab_io.specs.Devices.{WritesAll};
-ghost use Rattle.stab_circuit.specs.Steps.{check_of, unroll};
+ghost use Rattle.stab_items.specs.Steps.{check_of, unroll};
 ghost use Rattle.stab_items.specs.Views.{circuit_items};
 ghost use Rattle.stab_report.specs.DoubtLines.{ReportsDoubts, doubt_line, doubt_lines, doubt_text};
 
-use stab_circuit::{Circuit, write_path};
+use stab_circuit::Circuit;
 use stab_error_model::{Doubt, DoubtfulMark};
 use stab_io::{Output, Refusal, write_all};
+use stab_items::write_path;
 
 /// Why a mark is doubtful, as its line ends.
 fn reason(doubt: Doubt) -> &'static [u8]

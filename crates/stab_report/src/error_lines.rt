@@ -2,7 +2,7 @@
 ghost use Rattle.std.specs.Prelude.{◌≡◌, ◌<◌, None, All, length};
 ghost use Rattle.std.specs.List.{flat_map};
 ghost use Rattle.stab_io.specs.Devices.{WritesAll};
-ghost use Rattle.stab_circuit.specs.Steps.{check_of};
+ghost use Rattle.stab_items.specs.Steps.{check_of};
 ghost use Rattle.stab_items.specs.Views.{circuit_items};
 ghost use Rattle.stab_error_model.specs.ErrorTables.{StepsInside};
 ghost use Rattle.stab_error_model.specs.Placed.{error_shown};
@@ -11,9 +11,10 @@ ghost use Rattle.stab_report.specs.Distances.{error_name, numbered_line, error_l
 
 use crate::writing::write_texts;
 use itoa::Buffer;
-use stab_circuit::{Circuit, Path, write_path};
+use stab_circuit::{Circuit, Path};
 use stab_error_model::{Error, ErrorTable};
 use stab_io::{Output, Refusal, write_all};
+use stab_items::write_path;
 use stab_results::{Kinds, write_entries};
 
 /// Writes the name of an error.

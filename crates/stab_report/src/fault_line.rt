@@ -6,8 +6,8 @@ ghost use Rattle.stab_report.specs.Texts.{placed_coin};
 
 use crate::random::{Bit, Decider, FaultsRefused, Random};
 use crate::writing::write_texts;
-use stab_circuit::write_path;
 use stab_io::{Fault, Output, Refusal, write_all};
+use stab_items::write_path;
 
 /// Writes the line that says a fault: `stabsim: line L: refused N Name`, without `line L: `
 /// if the fault has no line, and a line feed. It takes no memory.

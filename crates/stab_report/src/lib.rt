@@ -2,18 +2,18 @@
 //!
 //! In the order in which data flows; each module uses only those before it:
 //!
-//! - `random`: why nothing was written of faults or errors, with the bit that is not the same for all coins and a coin that decides it.
+//! - `random`: why nothing was written of errors, with the bit that is not the same for all coins and a coin that decides it.
 //! - `writing`: texts one after another, the front of a row's line, and the flush that ends a run.
 //! - `fault_line`: the lines that say a fault.
-//! - `fault_sites`: the places for faults at a step. `fault_places`: the faults of a circuit.
-//! - `fault_lines`, `fault_bits`: a table of faults as lines, and as shots.
+//! - `single_error_sites`: the sites for single errors at a step. `single_error_places`: the single errors of a circuit.
+//! - `single_error_lines`, `single_error_bits`: a table of single errors as lines, and as shots.
 //! - `error_lines`: errors as lines.
 //! - `doubt_lines`: marks that may be meant in another way, as lines.
 //! - `missing_observable`: an observable that the circuit lacks, as a line.
 //!
 //! `specs/` says what each reply is, for `stab_commands`, which finds it, and for `stab_script`, which asks for it: how a
 //! call ends (`Endings`), rows of a group (`Rows`), which bits are the same for all random bits (`Deterministic`), what
-//! faults flip (`FaultTables`), distances (`Distances`), marks that may be meant in another way (`DoubtLines`), observables that
+//! single errors flip (`SingleErrorTables`), distances (`Distances`), marks that may be meant in another way (`DoubtLines`), observables that
 //! are asked for but not there (`MissingObservables`), coins that decide (`Deciders`, `CoinTables`, `Reasons`).
 //!
 //! Source: this project's own.
@@ -23,21 +23,21 @@
 
 mod doubt_lines;
 mod error_lines;
-mod fault_bits;
 mod fault_line;
-mod fault_lines;
-mod fault_places;
-mod fault_sites;
 mod missing_observable;
 mod random;
+mod single_error_bits;
+mod single_error_lines;
+mod single_error_places;
+mod single_error_sites;
 mod writing;
 
 pub use doubt_lines::report_doubts;
 pub use error_lines::{write_all_errors, write_errors, write_where};
-pub use fault_bits::{write_row, write_shots};
 pub use fault_line::{write_decider, write_fault, write_refused};
-pub use fault_lines::{write_lines, write_place};
-pub use fault_places::{PlacedFault, placed_faults};
 pub use missing_observable::report_missing;
 pub use random::{Bit, Decider, FaultsRefused, Random};
+pub use single_error_bits::{write_row, write_shots};
+pub use single_error_lines::{write_lines, write_place};
+pub use single_error_places::{PlacedSingleError, placed_single_errors};
 pub use writing::{finish, write_head, write_texts};

@@ -1,4 +1,4 @@
-//! What a table of faults, or a distance, is refused for.
+//! What a table of single errors, or a distance, is refused for.
 
 use stab_circuit::Path;
 use stab_io::Fault;
@@ -30,7 +30,7 @@ pub struct Random {
     pub decider: Decider,
 }
 
-/// Why no table of faults, or no distance, was written.
+/// Why no table of single errors, or no distance, was written.
 #[derive(Clone, Copy, Debug, PartialEq, Eq)]
 pub struct FaultsRefused {
     pub fault: Fault,

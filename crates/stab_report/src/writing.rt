@@ -5,8 +5,9 @@ ghost use Rattle.stab_report.specs.Endings.{FlushesOrFault};
 ghost use Rattle.stab_report.specs.Texts.{row_head, texts_joined};
 
 use itoa::Buffer;
-use stab_circuit::{Path, write_path};
+use stab_circuit::Path;
 use stab_io::{DeviceFault, Fault, Output, Refusal, write_all};
+use stab_items::write_path;
 
 /// Writes texts one after another.
 pub fn write_texts<O: Output>(out: &mut O, texts: &[&[u8]]) -> Result<(), Refusal>

@@ -2,7 +2,7 @@
 use Rattle.std.proofs.Common.{◌≡◌, ◌<◌, ◌≤◌, ◌+◌, ◌-◌, ◌++◌, ℕ, suc, Bool, true, false, not, ◌||◌, List, [], ◌∷◌, length, take, drop, replicate, get_or, arith, refl, sym, ap, ◌∙◌}
 use Rattle.std.proofs.Math.Seq.{drop-cons}
 use Rattle.std.proofs.lemmas.List.{take-append-drop, drop-drop, drop_all, length-drop, length-take-le}
-use Rattle.stab_results.specs.Formats.{one_places, one_positions_from, b8_bytes}
+use Rattle.stab_results.specs.Formats.{one_positions, one_positions_from, b8_bytes}
 use Rattle.stab_results.proofs.OneLemmas.{no_one}
 
 -- a 0 is gone past
@@ -27,7 +27,7 @@ are_replicated start (false ∷ bits) none = ap (λ l. false ∷ l) (are_replica
 
 -- a block without a 1 is gone past
 pub past_block : (bits rest block : List Bool) (position size : ℕ) → rest ≡ drop position bits → block ≡ take size rest → size ≤ length bits - position →
-    one_places block ≡ [] → one_positions_from (position + size) (drop (position + size) bits) ≡ one_positions_from position (drop position bits)
+    one_positions block ≡ [] → one_positions_from (position + size) (drop (position + size) bits) ≡ one_positions_from position (drop position bits)
 past_block bits rest block position size after front within none =
     let long : length block ≡ size = ap length front ∙ length-take-le size rest (omega (arith, ap length after, length-drop position bits)) in
     let cut : drop position bits ≡ block ++ drop size rest = sym after ∙ sym (take-append-drop size rest) ∙ ap (λ l. l ++ drop size rest) (sym front) in
@@ -39,17 +39,17 @@ past_block bits rest block position size after front within none =
 
 -- if none of some bits and the next is 1, the search for positions goes on after it
 pub goes_past : (bits : List Bool) (any : Bool) (position : ℕ) → position < length bits →
-    (any ≡ false → one_places bits ≡ one_positions_from position (drop position bits)) → (any || get_or bits position false) ≡ false →
-    one_places bits ≡ one_positions_from (position + 1) (drop (position + 1) bits)
+    (any ≡ false → one_positions bits ≡ one_positions_from position (drop position bits)) → (any || get_or bits position false) ≡ false →
+    one_positions bits ≡ one_positions_from (position + 1) (drop (position + 1) bits)
 goes_past bits true position within before none = absurd (cc)
 goes_past bits false position within before none = before refl ∙ past_zero bits position within none
 
 -- with no bit left there is no 1
 pub none_left : (bits : List Bool) (any : Bool) (position : ℕ) → length bits ≤ position →
-    (any ≡ false → one_places bits ≡ one_positions_from position (drop position bits)) → not any ≡ true → one_places bits ≡ []
+    (any ≡ false → one_positions bits ≡ one_positions_from position (drop position bits)) → not any ≡ true → one_positions bits ≡ []
 none_left bits true position past before none = absurd (cc)
 none_left bits false position past before none = before refl ∙ ap (one_positions_from position) (drop_all position bits past)
 
 -- a block of 64 bits without a 1 is eight bytes 0 in b8
-pub zero_bytes : (bits : List Bool) → length bits ≡ 64 → one_places bits ≡ [] → b8_bytes bits ≡ replicate 8 0
+pub zero_bytes : (bits : List Bool) → length bits ≡ 64 → one_positions bits ≡ [] → b8_bytes bits ≡ replicate 8 0
 zero_bytes bits long none = ap b8_bytes (are_replicated 0 bits none ∙ ap (λ n. replicate n false) long)

@@ -15,8 +15,8 @@ one_positions_from position (false ∷ bits) = one_positions_from (position + 1)
 one_positions_from position (true ∷ bits) = position ∷ one_positions_from (position + 1) bits
 
 -- the positions of the 1 bits, counted from 0
-abbrev pub one_places : List Bool → List ℕ
-one_places bits = one_positions_from 0 bits
+abbrev pub one_positions : List Bool → List ℕ
+one_positions bits = one_positions_from 0 bits
 
 -- the character of a bit
 abbrev pub digit : Bool → List ℕ
@@ -50,7 +50,7 @@ run_bytes zeros = replicate (zeros / 255) 0xff ++ (zeros % 255) ∷ []
 
 -- r8: one 1 is appended, and each 1 has the bytes of its run
 abbrev pub r8_bytes : List Bool → List ℕ
-r8_bytes bits = flat_map run_bytes (gaps_from 0 (one_places (bits ++ true ∷ [])))
+r8_bytes bits = flat_map run_bytes (gaps_from 0 (one_positions (bits ++ true ∷ [])))
 
 -- the byte of a comma
 abbrev pub comma : ℕ
@@ -58,7 +58,7 @@ comma = 44
 
 -- hits: the positions of the 1 bits in decimal, joined by commas, then a line end
 abbrev pub hits_bytes : List Bool → List ℕ
-hits_bytes bits = join_with_byte comma (map decimal (one_places bits)) ++ codes "\n"
+hits_bytes bits = join_with_byte comma (map decimal (one_positions bits)) ++ codes "\n"
 
 -- the entry of a 1 bit among this many detectors and then observables
 abbrev pub detected_entry : (count position : ℕ) → List ℕ
@@ -72,7 +72,7 @@ entry (Whole records detectors) position = if nat_lt position records then codes
 
 -- dets: `shot`, then the entry of each 1 bit, then a line end
 abbrev pub dets_bytes : Kinds → List Bool → List ℕ
-dets_bytes kinds bits = codes "shot" ++ flat_map (entry kinds) (one_places bits) ++ codes "\n"
+dets_bytes kinds bits = codes "shot" ++ flat_map (entry kinds) (one_positions bits) ++ codes "\n"
 
 -- the bytes of a shot
 abbrev pub shot_bytes : Format → Kinds → List Bool → List ℕ
@@ -83,7 +83,7 @@ shot_bytes Hits kinds bits = hits_bytes bits
 shot_bytes Dets kinds bits = dets_bytes kinds bits
 
 -- how many of a shot's bits are detectors
-abbrev pub detectors_of : Kinds → ℕ
-detectors_of Measurements = 0
-detectors_of (Detectors count) = count
-detectors_of (Whole records detectors) = detectors
+abbrev pub detector_bits_of : Kinds → ℕ
+detector_bits_of Measurements = 0
+detector_bits_of (Detectors count) = count
+detector_bits_of (Whole records detectors) = detectors

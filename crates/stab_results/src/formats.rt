@@ -1,11 +1,11 @@
 ghost use Rattle.std.specs.Prelude.{◌≡◌, ◌≤◌, ◌∷◌, [], ◌++◌, length};
 ghost use Rattle.std.specs.Fmt.{decimal};
 ghost use Rattle.std.specs.List.{flat_map};
-ghost use Rattle.stab_results.specs.Formats.{digit, f01_bytes, number, b8_bytes, run_bytes, r8_bytes, hits_bytes, one_places, detected_entry, entry, dets_bytes, shot_bytes};
+ghost use Rattle.stab_results.specs.Formats.{digit, f01_bytes, number, b8_bytes, run_bytes, r8_bytes, hits_bytes, one_positions, detected_entry, entry, dets_bytes, shot_bytes};
 
 use crate::byte_buffer::ByteBuffer;
 use crate::format::{Format, Kinds};
-use crate::one_places::{BLOCK, OnePositions, are_zeros};
+use crate::one_positions::{BLOCK, OnePositions, are_zeros};
 use stab_io::{Output, Refusal};
 
 /// The character of a bit.
@@ -162,7 +162,7 @@ impl ByteBuffer {
         kinds: Kinds,
         bits: &[bool],
     ) -> Result<(), Refusal>
-        ensures puts { Puts (O.seen out.old) (O.seen out.new) self.old self.new (flat_map (entry kinds) (one_places bits.now)) result }
+        ensures puts { Puts (O.seen out.old) (O.seen out.new) self.old self.new (flat_map (entry kinds) (one_positions bits.now)) result }
     {
         for position in OnePositions::new(bits) {
             self.put_entry(out, kinds, position)?;

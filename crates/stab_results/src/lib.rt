@@ -2,7 +2,7 @@
 //!
 //! - `format`: the five formats, and what kinds of bits a shot has.
 //! - `byte_buffer`: bytes gathered on their way to an output, which then gets many at a time.
-//! - `one_places`: the positions of the 1 bits, one after another.
+//! - `one_positions`: the positions of the 1 bits, one after another.
 //! - `formats`: a shot in each of the formats.
 //! - `shot`: `write_shot`, `write_entries` and `write_ones`, which the other crates call.
 //!
@@ -16,7 +16,7 @@
 mod byte_buffer;
 mod format;
 mod formats;
-mod one_places;
+mod one_positions;
 mod shot;
 
 pub use format::{Format, Kinds};

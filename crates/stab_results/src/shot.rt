@@ -1,7 +1,7 @@
 ghost use Rattle.std.specs.Prelude.{◌≤◌, [], length};
 ghost use Rattle.std.specs.List.{flat_map};
 ghost use Rattle.stab_io.specs.Devices.{WritesAll, WritesAllOrFault};
-ghost use Rattle.stab_results.specs.Formats.{entry, one_places, shot_bytes, detectors_of};
+ghost use Rattle.stab_results.specs.Formats.{entry, one_positions, shot_bytes, detector_bits_of};
 ghost use Rattle.stab_results.specs.inner.ByteBuffer.{Puts};
 
 use crate::byte_buffer::ByteBuffer;
@@ -37,7 +37,7 @@ pub fn write_shot<O: Output>(
     kinds: Kinds,
     bits: &[bool],
 ) -> Result<(), Fault>
-    requires within { detectors_of kinds ≤ length bits.now }
+    requires within { detector_bits_of kinds ≤ length bits.now }
     ensures writes { WritesAllOrFault (O.seen out.old) (O.seen out.new) (shot_bytes format kinds bits.now) result }
 {
     match send_shot(out, format, kinds, bits) {
@@ -72,7 +72,7 @@ pub fn write_entries<O: Output>(out: &mut O, kinds: Kinds, positions: &[u32]) ->
 
 /// Gathers the entries of all 1 bits, and sends them.
 fn send_ones<O: Output>(out: &mut O, kinds: Kinds, bits: &[bool]) -> Result<(), Refusal>
-    ensures puts { Puts (O.seen out.old) (O.seen out.new) [] [] (flat_map (entry kinds) (one_places bits.now)) result }
+    ensures puts { Puts (O.seen out.old) (O.seen out.new) [] [] (flat_map (entry kinds) (one_positions bits.now)) result }
 {
     let mut byte_buffer = ByteBuffer::new();
     byte_buffer.put_ones(out, kinds, bits)?;
@@ -81,7 +81,7 @@ fn send_ones<O: Output>(out: &mut O, kinds: Kinds, bits: &[bool]) -> Result<(), 
 
 /// Writes the entries of the 1 bits of a shot as `write_entries` does.
 pub fn write_ones<O: Output>(out: &mut O, kinds: Kinds, bits: &[bool]) -> Result<(), Refusal>
-    ensures writes { WritesAll (O.seen out.old) (O.seen out.new) (flat_map (entry kinds) (one_places bits.now)) result }
+    ensures writes { WritesAll (O.seen out.old) (O.seen out.new) (flat_map (entry kinds) (one_positions bits.now)) result }
 {
     send_ones(out, kinds, bits)
 }

@@ -7,7 +7,7 @@ pub use Rattle.std.proofs.lemmas.List.Elements.{All-append}
 pub use Rattle.std.specs.Bool.{OnTrue}
 pub use Rattle.std.specs.Cmp.Lexicographic.{pointwise}
 pub use Rattle.stab_items.proofs.SameLemmas.{same_mapped}
-pub use Rattle.stab_items.specs.Cursors.{steps_shown, lookbacks_of, step_shown}
+pub use Rattle.stab_items.specs.StepValues.{steps_shown, lookbacks_of, step_shown}
 pub use Rattle.stab_items.specs.Repeats.{IsRepeat, AreRepeats}
 pub use Rattle.stab_items.specs.Steps.{Step, rounds, one, measured, unroll, controlled_step, detector, product, LooksWithin, looks_too_far}
 pub use Rattle.stab_items.specs.Views.{circuit_items}

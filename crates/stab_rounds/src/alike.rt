@@ -4,7 +4,7 @@ ghost use Rattle.std.specs.Bool.{OnTrue};
 ghost use Rattle.stab_io.specs.declared.refusal.Refusal.TheVariants.{OutOfMemory};
 ghost use Rattle.stab_items.specs.Steps.{unroll, check_of, most_steps, rounds};
 ghost use Rattle.stab_items.specs.Views.{circuit_items};
-ghost use Rattle.stab_items.specs.Cursors.{steps_shown};
+ghost use Rattle.stab_items.specs.StepValues.{steps_shown};
 
 use crate::same::begin_with;
 use stab_io::Refusal;

@@ -2,7 +2,7 @@
 ghost use Rattle.std.specs.Prelude.{◌≡◌, ◌+◌, ◌≤◌, ◌∷◌, [], length, take, drop, map};
 ghost use Rattle.std.specs.Bool.{OnTrue};
 ghost use Rattle.stab_items.specs.Steps.{one, two, collapse, product, observable, controlled_step, measured};
-ghost use Rattle.stab_items.specs.Cursors.{step_shown, steps_shown, lookbacks_of};
+ghost use Rattle.stab_items.specs.StepValues.{step_shown, steps_shown, lookbacks_of};
 
 use stab_gates::{Gate, Letter, PairGate};
 use stab_instructions::{Axis, ControlledPair, Factor, MeasureTarget, Measurement, Qubit};

@@ -1,5 +1,5 @@
 -- Fixed outcomes: if no coin decides, it makes no difference which number the next coin has.
-use Rattle.stab_run.proofs.Names.{◌≡◌, ℕ, ◌+◌, refl, ◌∙◌, ap, Bool, true, false, ◌&&◌, not, List, [], ◌∷◌, ◌++◌, arith, if◌then◌else◌, ◌⊕◌, Signed, single, minus, Event, member, is_free, projected, Step, one, two, controlled, collapse, product, detector, observable, ones, when, string_of, outcome_at, collapsed, Point, nothing, joined, given, trace_after, coins_of, next_point, point_after, outputs, with_coin, FixedOutcomesNeedNoCoins}
+use Rattle.stab_run.proofs.Names.{◌≡◌, ℕ, ◌+◌, refl, ◌∙◌, ap, Bool, true, false, ◌&&◌, not, List, [], ◌∷◌, ◌++◌, arith, if◌then◌else◌, ◌⊕◌, Signed, single, minus, Event, member, is_random, projected, Step, one, two, controlled, collapse, product, detector, observable, ones, when, string_of, outcome_at, collapsed, Point, nothing, joined, given, trace_after, coins_of, next_point, point_after, outputs, with_coin, FixedOutcomesNeedNoCoins}
 use Rattle.stab_run.proofs.RecordLemmas.{ones-append}
 
 decided : (a b c d : Bool) → ones ((not a && not b) ∷ []) ≡ 0 → (if a then false else (if b then true else c)) ≡ (if a then false else (if b then true else d))
@@ -8,7 +8,7 @@ decided false true c d none = refl
 decided false false c d none = absurd (omega (arith, none))
 
 -- an outcome that is not random is the same with each coin
-outcome-fixed : (coins : ℕ → Bool) (p : Signed) (trace : List Event) (c d : ℕ) → ones (is_free trace p ∷ []) ≡ 0 → outcome_at coins p trace c ≡ outcome_at coins p trace d
+outcome-fixed : (coins : ℕ → Bool) (p : Signed) (trace : List Event) (c d : ℕ) → ones (is_random trace p ∷ []) ≡ 0 → outcome_at coins p trace c ≡ outcome_at coins p trace d
 outcome-fixed coins p trace c d none = decided (member trace p) (member trace (minus p)) (coins c) (coins d) none
 
 module _ (n : ℕ) (coins : ℕ → Bool) (c : ℕ) (a : Point) where
@@ -18,12 +18,12 @@ module _ (n : ℕ) (coins : ℕ → Bool) (c : ℕ) (a : Point) where
   given-fixed (controlled l k q) none = refl
   given-fixed (collapse l q recorded inverted resets) none = λ i. record nothing {
     records = when recorded (inverted ⊕ outcome-fixed coins (single n q l) a.trace c a.coin none i);
-    free = is_free a.trace (single n q l) ∷ [];
+    free = is_random a.trace (single n q l) ∷ [];
     outcomes = outcome-fixed coins (single n q l) a.trace c a.coin none i ∷ [];
   }
   given-fixed (product factors inverted) none = λ i. record nothing {
     records = (inverted ⊕ outcome-fixed coins (string_of n factors) a.trace c a.coin none i) ∷ [];
-    free = is_free a.trace (string_of n factors) ∷ [];
+    free = is_random a.trace (string_of n factors) ∷ [];
     outcomes = outcome-fixed coins (string_of n factors) a.trace c a.coin none i ∷ [];
   }
   given-fixed (detector ks) none = refl

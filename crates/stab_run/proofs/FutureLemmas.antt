@@ -1,5 +1,5 @@
 -- Futures: points with the same members and number of the next coin give the same by every step that reads the same of their records.
-use Rattle.stab_run.proofs.Names.{◌≡◌, ℕ, ◌+◌, refl, sym, ◌∙◌, ap, subst, Bool, true, false, ◌&&◌, List, [], ◌∷◌, ◌++◌, length, Letter, ◌⊕◌, Signed, single, parity-false, Event, projected, member, is_free, SameGroup, length-one_letter, same-applied, same-applied_pair, same-projected, same-outcome, same-free, Step, one, two, controlled, collapse, product, detector, observable, lookbacks, looked_up, parity, when, string_of, gate_of, flip_of, applied_where, outcome_at, Point, nothing, joined, given, trace_after, coins_of, next_point, AgreeAt, SameFuture}
+use Rattle.stab_run.proofs.Names.{◌≡◌, ℕ, ◌+◌, refl, sym, ◌∙◌, ap, subst, Bool, true, false, ◌&&◌, List, [], ◌∷◌, ◌++◌, length, Letter, ◌⊕◌, Signed, single, parity-false, Event, projected, member, is_random, SameGroup, length-one_letter, same-applied, same-applied_pair, same-projected, same-outcome, same-random, Step, one, two, controlled, collapse, product, detector, observable, lookbacks, looked_up, parity, when, string_of, gate_of, flip_of, applied_where, outcome_at, Point, nothing, joined, given, trace_after, coins_of, next_point, AgreeAt, SameFuture}
 use Rattle.stab_run.proofs.ProductLemmas.{length-string_of}
 
 module _ (n : ℕ) (coins : ℕ → Bool) (a b : Point) (group : SameGroup n (member a.trace) (member b.trace)) (coin : a.coin ≡ b.coin) where
@@ -7,8 +7,8 @@ module _ (n : ℕ) (coins : ℕ → Bool) (a b : Point) (group : SameGroup n (me
   outcome-same p size =
       same-outcome n (member a.trace) (member b.trace) p size group (coins a.coin) ∙ ap (λ t. outcome_at coins p b.trace t) coin
 
-  free-same : (p : Signed) → length p.letters ≡ n → is_free a.trace p ≡ is_free b.trace p
-  free-same p size = same-free n (member a.trace) (member b.trace) p size group
+  random-same : (p : Signed) → length p.letters ≡ n → is_random a.trace p ≡ is_random b.trace p
+  random-same p size = same-random n (member a.trace) (member b.trace) p size group
 
   projected-same : (p : Signed) → length p.letters ≡ n
       → SameGroup n (member (projected p (outcome_at coins p a.trace a.coin) ∷ a.trace)) (member (projected p (outcome_at coins p b.trace b.coin) ∷ b.trace))
@@ -28,12 +28,12 @@ module _ (n : ℕ) (coins : ℕ → Bool) (a b : Point) (group : SameGroup n (me
   given-same (controlled l k q) read = refl
   given-same (collapse l q recorded inverted resets) read = λ i. record nothing {
     records = when recorded (inverted ⊕ outcome-same (single n q l) (length-one_letter n q l) i);
-    free = free-same (single n q l) (length-one_letter n q l) i ∷ [];
+    free = random-same (single n q l) (length-one_letter n q l) i ∷ [];
     outcomes = outcome-same (single n q l) (length-one_letter n q l) i ∷ [];
   }
   given-same (product factors inverted) read = λ i. record nothing {
     records = (inverted ⊕ outcome-same (string_of n factors) (length-string_of n factors) i) ∷ [];
-    free = free-same (string_of n factors) (length-string_of n factors) i ∷ [];
+    free = random-same (string_of n factors) (length-string_of n factors) i ∷ [];
     outcomes = outcome-same (string_of n factors) (length-string_of n factors) i ∷ [];
   }
   given-same (detector ks) read = λ i. record nothing { detectors = read i ∷ [] }

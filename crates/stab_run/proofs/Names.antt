@@ -30,21 +30,21 @@ pub use Rattle.stab_instructions.specs.declared.product.Factor.{Factor}
 pub use Rattle.stab_instructions.specs.declared.range.MeasureTarget.{MeasureTarget}
 pub use Rattle.stab_pauli.proofs.SignedLemmas.{product-twice, length-product}
 pub use Rattle.stab_pauli.specs.Paulis.{Signed, single, minus, identity, with_sign, anticommute}
-pub use Rattle.stab_tableau.proofs.MemberLemmas.{same-applied, same-applied_pair, same-projected, same-outcome, same-free}
+pub use Rattle.stab_tableau.proofs.MemberLemmas.{same-applied, same-applied_pair, same-projected, same-outcome, same-random}
 pub use Rattle.stab_tableau.proofs.OneLetterLemmas.{length-one_letter}
 pub use Rattle.stab_tableau.proofs.TraceLemmas.{IsSound-outcome}
 pub use Rattle.stab_tableau.specs.Gates.{back}
 pub use Rattle.stab_tableau.specs.Groups.{SameGroup, IsStabiliserGroup}
-pub use Rattle.stab_tableau.specs.Rules.{outcome_by, projected_by, is_free_by}
+pub use Rattle.stab_tableau.specs.Rules.{outcome_by, projected_by, is_random_by}
 pub use Rattle.stab_tableau.specs.Tableaus.{stabilises, TableauState}
-pub use Rattle.stab_tableau.specs.Traces.{Event, member, is_free, projected, outcome, Fits, IsSound, applied, applied_pair}
+pub use Rattle.stab_tableau.specs.Traces.{Event, member, is_random, projected, outcome, Fits, IsSound, applied, applied_pair}
 pub use Rattle.stab_run.specs.Coins.{key_bytes, seed_coin}
 pub use Rattle.stab_run.specs.Cuts.{lengths_of, front_of, rest_of}
 pub use Rattle.stab_run.specs.Ends.{with_coin, AgreeBack}
 pub use Rattle.stab_run.specs.Laws.{FixedOutcomesNeedNoCoins, SameFutureBack, AgreeAt, SameFuture, IsSoundRun, AgreeWhere, DependsOnCoinsAt}
 pub use Rattle.stab_run.specs.Points.{Point, coins_of, all_coins_of, next_point, point_after, nothing, joined, given, trace_after, outputs, RunOutput, origin, state_at, point_of, with_additions}
-pub use Rattle.stab_run.specs.ProgramStates.{StepFits, ProgramState, IsAt, ComesTo, IsRun, applied_by, program_state, output_of}
+pub use Rattle.stab_run.specs.ProgramStates.{StepFits, ProgramState, IsAt, ProgramComesTo, IsRun, applied_by, program_state, output_of}
 pub use Rattle.stab_run.specs.Records.{ones, looked_up, parity}
-pub use Rattle.stab_run.specs.RoundLaws.{copies}
+pub use Rattle.stab_run.specs.RoundLaws.{output_copies}
 pub use Rattle.stab_run.specs.Runs.{when, string_of, outcome_at, collapsed, gate_of, flip_of, applied_where, with_factors, State, start, effect, run}
 unfoldable pub use Rattle.stab_run.specs.Runs.{run_of}

@@ -1,5 +1,5 @@
 -- Rounds of steps: how many and how far they look, and that those which no coin decides come again.
-use Rattle.stab_run.proofs.Names.{◌≡◌, ℕ, zero, suc, ◌+◌, ◌*◌, refl, sym, ◌∙◌, ap, subst, Bool, false, List, ◌++◌, append_assoc, nat_lt, arith, window-rounds, looks_too_far_window, member, SameGroup, Step, rounds, records_of, looks_too_far, ones, Point, RunOutput, joined, all_coins_of, point_after, outputs, AgreeBack, with_coin, copies}
+use Rattle.stab_run.proofs.Names.{◌≡◌, ℕ, zero, suc, ◌+◌, ◌*◌, refl, sym, ◌∙◌, ap, subst, Bool, false, List, ◌++◌, append_assoc, nat_lt, arith, window-rounds, looks_too_far_window, member, SameGroup, Step, rounds, records_of, looks_too_far, ones, Point, RunOutput, joined, all_coins_of, point_after, outputs, AgreeBack, with_coin, output_copies}
 pub use Rattle.stab_items.proofs.StepLemmas.{length-rounds}
 use Rattle.stab_run.proofs.RunLemmas.{after-append, outputs-append}
 use Rattle.stab_run.proofs.FixedLemmas.{fixed-future}
@@ -61,7 +61,7 @@ module _ (n : ℕ) (coins : ℕ → Bool) (m : ℕ) (xs : List Step) (a : Point)
 
 pub rounds-again : (n : ℕ) (coins : ℕ → Bool) (m k : ℕ) (xs : List Step) (a : Point) → looks_too_far m xs ≡ false →
     ones (outputs n coins xs a).free ≡ 0 → AgreeBack n m (with_coin (point_after n coins xs a).coin a) (point_after n coins xs a) →
-    (outputs n coins (rounds k xs) (point_after n coins xs a) ≡ copies k (outputs n coins xs a))
+    (outputs n coins (rounds k xs) (point_after n coins xs a) ≡ output_copies k (outputs n coins xs a))
     × SameGroup n (member (point_after n coins xs a).trace) (member (point_after n coins (rounds k xs) (point_after n coins xs a)).trace)
 rounds-again n coins m zero xs a near none agree = (refl, λ p size. refl)
 rounds-again n coins m (suc k) xs a near none agree =
@@ -71,6 +71,6 @@ rounds-again n coins m (suc k) xs a near none agree =
     let more = rounds-again n coins m k xs r near (none-again n coins m xs a near none agree) back in (
       outputs-append n coins xs (rounds k xs) r
           ∙ ap (joined (outputs n coins xs r)) more.0
-          ∙ ap (λ o. joined o (copies k o)) same,
+          ∙ ap (λ o. joined o (output_copies k o)) same,
       λ p size. back.group p size ∙ more.1 p size ∙ ap (λ (t : Point). member t.trace p) (sym (after-append n coins xs (rounds k xs) r)),
     )

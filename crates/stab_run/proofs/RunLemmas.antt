@@ -1,5 +1,5 @@
 -- Runs: steps one after another, and how the program follows each.
-use Rattle.stab_run.proofs.Names.{◌≡◌, ℕ, ◌+◌, refl, sym, ◌∙◌, ap, subst, Bool, true, false, ◌&&◌, List, [], ◌∷◌, ◌++◌, append_assoc, append-nil, All, length, take-append_seam, drop-append_seam, All-take, All-drop, length-append, Letter, I, ◌⊕◌, Signed, single, Gate, back, Event, projected, member, is_free, SameGroup, outcome_by, is_free_by, projected_by, length-one_letter, same-applied, same-projected, same-outcome, same-free, Factor, Step, one, collapse, product, detector, parity, when, string_of, gate_of, flip_of, applied_where, outcome_at, Point, RunOutput, nothing, joined, given, trace_after, coins_of, next_point, point_after, outputs, StepFits, ProgramState, IsAt, ComesTo, IsRun, applied_by}
+use Rattle.stab_run.proofs.Names.{◌≡◌, ℕ, ◌+◌, refl, sym, ◌∙◌, ap, subst, Bool, true, false, ◌&&◌, List, [], ◌∷◌, ◌++◌, append_assoc, append-nil, All, length, take-append_seam, drop-append_seam, All-take, All-drop, length-append, Letter, I, ◌⊕◌, Signed, single, Gate, back, Event, projected, member, is_random, SameGroup, outcome_by, is_random_by, projected_by, length-one_letter, same-applied, same-projected, same-outcome, same-random, Factor, Step, one, collapse, product, detector, parity, when, string_of, gate_of, flip_of, applied_where, outcome_at, Point, RunOutput, nothing, joined, given, trace_after, coins_of, next_point, point_after, outputs, StepFits, ProgramState, IsAt, ProgramComesTo, IsRun, applied_by}
 use Rattle.stab_run.proofs.ProductLemmas.{length-string_of}
 
 -- outputs one after another
@@ -58,7 +58,7 @@ IsRun-same n m c d xs a b same_size same_coins f = subst (λ k. IsRun k c xs a b
 
 one-run : (n : ℕ) (coins : ℕ → Bool) (x : Step) (a b : ProgramState) (p : Point) → IsAt n a p
     → SameGroup n b.stabilised (member (trace_after n coins x p))
-    → length (given n coins x p).free ≡ coins_of x → b.output ≡ joined a.output (given n coins x p) → ComesTo n coins (x ∷ []) a b p
+    → length (given n coins x p).free ≡ coins_of x → b.output ≡ joined a.output (given n coins x p) → ProgramComesTo n coins (x ∷ []) a b p
 one-run n coins x a b p s group flags output = record {
   shows = record {
     group = group;
@@ -102,7 +102,7 @@ pub record IsMeasurement (n : ℕ) (m : Signed) (l : Letter) (q : ℕ) (recorded
   pub flips : (r : Signed) → length r.letters ≡ n → b.stabilised r ≡ applied_by (resets && bit) l q measured r
   pub output : b.output ≡ record a.output {
     records = a.output.records ++ when recorded (inverted ⊕ bit);
-    free = a.output.free ++ is_free_by a.stabilised m ∷ [];
+    free = a.output.free ++ is_random_by a.stabilised m ∷ [];
     outcomes = a.output.outcomes ++ bit ∷ [];
   }
 
@@ -140,17 +140,17 @@ module _ (n : ℕ) (coins : ℕ → Bool) (m : Signed) (size : length m.letters 
 
   measured-output : b.output ≡ joined a.output (record nothing {
     records = when recorded (inverted ⊕ outcome_at coins m p.trace p.coin);
-    free = is_free p.trace m ∷ [];
+    free = is_random p.trace m ∷ [];
     outcomes = outcome_at coins m p.trace p.coin ∷ [];
   })
   measured-output =
       h.output
       ∙ (λ i. record a.output {
         records = a.output.records ++ when recorded (inverted ⊕ same_bit i);
-        free = a.output.free ++ same-free n a.stabilised (member p.trace) m size s.group i ∷ [];
+        free = a.output.free ++ same-random n a.stabilised (member p.trace) m size s.group i ∷ [];
         outcomes = a.output.outcomes ++ same_bit i ∷ [];
       })
-      ∙ sym (joined-measured a.output (when recorded (inverted ⊕ outcome_at coins m p.trace p.coin)) (is_free p.trace m ∷ []) (outcome_at coins m p.trace p.coin ∷ []))
+      ∙ sym (joined-measured a.output (when recorded (inverted ⊕ outcome_at coins m p.trace p.coin)) (is_random p.trace m ∷ []) (outcome_at coins m p.trace p.coin ∷ []))
 
 pub run-collapse : (n : ℕ) (coins : ℕ → Bool) (x : Step) (l : Letter) (q : ℕ) (recorded inverted resets : Bool)
     → x ≡ collapse l q recorded inverted resets → (a b : ProgramState) (bit : Bool)
@@ -169,7 +169,7 @@ pub run-product : (n : ℕ) (coins : ℕ → Bool) (x : Step) (factors : List Fa
     → ((r : Signed) → length r.letters ≡ n → b.stabilised r ≡ projected_by a.stabilised m bit r)
     → b.output ≡ record a.output {
       records = a.output.records ++ (inverted ⊕ bit) ∷ [];
-      free = a.output.free ++ is_free_by a.stabilised m ∷ [];
+      free = a.output.free ++ is_random_by a.stabilised m ∷ [];
       outcomes = a.output.outcomes ++ bit ∷ [];
     } → IsRun n coins (x ∷ []) a b
 run-product n coins x factors inverted is m m_is a b bit m_outcome m_projects output =
@@ -188,7 +188,7 @@ run-product n coins x factors inverted is m m_is a b bit m_outcome m_projects ou
       flips = λ r lr. refl;
       output =
           output
-          ∙ (λ i. record a.output { records = a.output.records ++ (inverted ⊕ bit) ∷ []; free = a.output.free ++ is_free_by a.stabilised (m_is i) ∷ []; outcomes = a.output.outcomes ++ bit ∷ [] });
+          ∙ (λ i. record a.output { records = a.output.records ++ (inverted ⊕ bit) ∷ []; free = a.output.free ++ is_random_by a.stabilised (m_is i) ∷ []; outcomes = a.output.outcomes ++ bit ∷ [] });
     }
 
 -- the first of the steps that are left, and the others

@@ -1,5 +1,5 @@
 -- States: a run is the point where it ends with what it gives, and only random coins decide it.
-use Rattle.stab_run.proofs.Names.{◌≡◌, ℕ, ◌+◌, refl, sym, ◌∙◌, ap, Bool, true, false, not, ◌&&◌, List, [], ◌∷◌, ◌++◌, append_assoc, append-nil, add-zero, length, get_or, if◌then◌else◌, slice_index_or, length-append, ◌⊕◌, Signed, minus, single, Event, applied, applied_pair, projected, member, outcome, is_free, Items, Step, one, two, controlled, collapse, product, detector, observable, unroll, observables_of, looked_up, parity, State, start, when, string_of, applied_where, collapsed, effect, run, run_of, Point, RunOutput, joined, given, next_point, point_after, outputs, point_of, state_at, AgreeWhere, DependsOnCoinsAt}
+use Rattle.stab_run.proofs.Names.{◌≡◌, ℕ, ◌+◌, refl, sym, ◌∙◌, ap, Bool, true, false, not, ◌&&◌, List, [], ◌∷◌, ◌++◌, append_assoc, append-nil, add-zero, length, get_or, if◌then◌else◌, slice_index_or, length-append, ◌⊕◌, Signed, minus, single, Event, applied, applied_pair, projected, member, outcome, is_random, Items, Step, one, two, controlled, collapse, product, detector, observable, unroll, observables_of, looked_up, parity, State, start, when, string_of, applied_where, collapsed, effect, run, run_of, Point, RunOutput, joined, given, next_point, point_after, outputs, point_of, state_at, AgreeWhere, DependsOnCoinsAt}
 
 -- a point and its outputs
 
@@ -21,9 +21,9 @@ given-state n coins (one g q) s p o = refl
 given-state n coins (two g a b) s p o = refl
 given-state n coins (controlled l k q) s p o = refl
 given-state n coins (collapse l q recorded inverted resets) s p o =
-    ap (λ f. record (state_at p o s) { free = f }) (append_assoc s.free (is_free s.trace (single n q l) ∷ []) o.free)
+    ap (λ f. record (state_at p o s) { free = f }) (append_assoc s.free (is_random s.trace (single n q l) ∷ []) o.free)
 given-state n coins (product factors inverted) s p o =
-    ap (λ f. record (state_at p o s) { free = f }) (append_assoc s.free (is_free s.trace (string_of n factors) ∷ []) o.free)
+    ap (λ f. record (state_at p o s) { free = f }) (append_assoc s.free (is_random s.trace (string_of n factors) ∷ []) o.free)
 given-state n coins (detector ks) s p o = ap (λ d. record (state_at p o s) { detectors = d }) (append_assoc s.detectors (parity s.records ks ∷ []) o.detectors)
 given-state n coins (observable j ks) s p o = refl
 
@@ -47,13 +47,13 @@ both_true true b coin e = cc
 both_true false true coin e = cc
 both_true false false coin e = refl
 
-pub free-outcome : (trace : List Event) (p : Signed) → is_free trace p ≡ true → (coin : Bool) → outcome trace p coin ≡ coin
-free-outcome trace p e coin = both_true (member trace p) (member trace (minus p)) coin e
+pub random-outcome : (trace : List Event) (p : Signed) → is_random trace p ≡ true → (coin : Bool) → outcome trace p coin ≡ coin
+random-outcome trace p e coin = both_true (member trace p) (member trace (minus p)) coin e
 
-pub fixed-outcome : (trace : List Event) (p : Signed) → is_free trace p ≡ false → (coin other : Bool) → outcome trace p coin ≡ outcome trace p other
+pub fixed-outcome : (trace : List Event) (p : Signed) → is_random trace p ≡ false → (coin other : Bool) → outcome trace p coin ≡ outcome trace p other
 fixed-outcome trace p e coin other = both_false (member trace p) (member trace (minus p)) coin other e
 
-same_outcome : (trace : List Event) (p : Signed) (coin other : Bool) (flag : Bool) → is_free trace p ≡ flag → (flag ≡ true → coin ≡ other)
+same_outcome : (trace : List Event) (p : Signed) (coin other : Bool) (flag : Bool) → is_random trace p ≡ flag → (flag ≡ true → coin ≡ other)
     → outcome trace p other ≡ outcome trace p coin
 same_outcome trace p coin other true e same = ap (outcome trace p) (sym (same refl))
 same_outcome trace p coin other false e same = fixed-outcome trace p e other coin
@@ -64,8 +64,8 @@ counted-effect : (n : ℕ) (coins : ℕ → Bool) (x : Step) (s : State) → s.c
 counted-effect n coins (one g q) s e = e
 counted-effect n coins (two g a b) s e = e
 counted-effect n coins (controlled l k q) s e = e
-counted-effect n coins (collapse l q recorded inverted resets) s e = ap (λ k. k + 1) e ∙ sym (length-append s.free (is_free s.trace (single n q l) ∷ []))
-counted-effect n coins (product factors inverted) s e = ap (λ k. k + 1) e ∙ sym (length-append s.free (is_free s.trace (string_of n factors) ∷ []))
+counted-effect n coins (collapse l q recorded inverted resets) s e = ap (λ k. k + 1) e ∙ sym (length-append s.free (is_random s.trace (single n q l) ∷ []))
+counted-effect n coins (product factors inverted) s e = ap (λ k. k + 1) e ∙ sym (length-append s.free (is_random s.trace (string_of n factors) ∷ []))
 counted-effect n coins (detector ks) s e = e
 counted-effect n coins (observable j ks) s e = e
 
@@ -93,19 +93,19 @@ effect-same n coins others (collapse l q recorded inverted resets) xs s e same =
       trace = collapsed n l q resets o s.trace;
       coin = s.coin + 1;
       records = s.records ++ when recorded (inverted ⊕ o);
-      free = s.free ++ is_free s.trace (single n q l) ∷ [];
+      free = s.free ++ is_random s.trace (single n q l) ∷ [];
     })
-    (same_outcome s.trace (single n q l) (coins s.coin) (others s.coin) (is_free s.trace (single n q l)) refl
-    (λ free. same s.coin (flag-following n coins xs s (effect n coins (collapse l q recorded inverted resets) s) (is_free s.trace (single n q l)) e refl ∙ free)))
+    (same_outcome s.trace (single n q l) (coins s.coin) (others s.coin) (is_random s.trace (single n q l)) refl
+    (λ free. same s.coin (flag-following n coins xs s (effect n coins (collapse l q recorded inverted resets) s) (is_random s.trace (single n q l)) e refl ∙ free)))
 effect-same n coins others (product factors inverted) xs s e same =
     ap (λ o. record s {
       trace = projected (string_of n factors) o ∷ s.trace;
       coin = s.coin + 1;
       records = s.records ++ (inverted ⊕ o) ∷ [];
-      free = s.free ++ is_free s.trace (string_of n factors) ∷ [];
+      free = s.free ++ is_random s.trace (string_of n factors) ∷ [];
     })
-    (same_outcome s.trace (string_of n factors) (coins s.coin) (others s.coin) (is_free s.trace (string_of n factors)) refl
-    (λ free. same s.coin (flag-following n coins xs s (effect n coins (product factors inverted) s) (is_free s.trace (string_of n factors)) e refl ∙ free)))
+    (same_outcome s.trace (string_of n factors) (coins s.coin) (others s.coin) (is_random s.trace (string_of n factors)) refl
+    (λ free. same s.coin (flag-following n coins xs s (effect n coins (product factors inverted) s) (is_random s.trace (string_of n factors)) e refl ∙ free)))
 effect-same n coins others (detector ks) xs s e same = refl
 effect-same n coins others (observable j ks) xs s e same = refl
 

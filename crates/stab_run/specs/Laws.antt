@@ -5,7 +5,7 @@
 -- the future depends on, is this project's own.
 use Rattle.std.specs.Prelude.{◌≡◌, ℕ, ◌+◌, Bool, true, false, List, All, None, slice_index_or}
 use Rattle.stab_pauli.specs.Paulis.{Signed}
-use Rattle.stab_tableau.specs.Traces.{Event, member, outcome, is_free, Fits, IsSound}
+use Rattle.stab_tableau.specs.Traces.{Event, member, outcome, is_random, Fits, IsSound}
 use Rattle.stab_tableau.specs.Groups.{SameGroup}
 use Rattle.stab_items.specs.Items.{Items}
 use Rattle.stab_items.specs.Steps.{Step, unroll, records_of, looks_too_far, check_within}
@@ -24,11 +24,11 @@ RunsArePointsWithOutputs =
     run n coins xs s ≡ state_at (point_after n coins xs (point_of s)) (outputs n coins xs (point_of s)) s
 
 -- a random outcome is the coin, and any other does not depend on it
-abbrev pub CoinsDecideFreeOutcomes : Type 0
-CoinsDecideFreeOutcomes =
+abbrev pub CoinsDecideRandomOutcomes : Type 0
+CoinsDecideRandomOutcomes =
     (trace : List Event) (p : Signed) →
-    (is_free trace p ≡ true → (coin : Bool) → outcome trace p coin ≡ coin)
-    × (is_free trace p ≡ false → (coin other : Bool) → outcome trace p coin ≡ outcome trace p other)
+    (is_random trace p ≡ true → (coin : Bool) → outcome trace p coin ≡ coin)
+    × (is_random trace p ≡ false → (coin other : Bool) → outcome trace p coin ≡ outcome trace p other)
 
 -- two sequences of coins have the same coins where the flags are 1
 abbrev pub AgreeWhere : List Bool → (ℕ → Bool) → (ℕ → Bool) → Type 0
@@ -39,8 +39,8 @@ abbrev pub DependsOnCoinsAt : List Bool → ℕ → (ℕ → Bool) → Items →
 DependsOnCoinsAt flags n coins items = (others : ℕ → Bool) → AgreeWhere flags coins others → run_of n others items ≡ run_of n coins items
 
 -- a run depends on the coins that its own flags name
-abbrev pub RunsDependOnFreeCoins : Type 0
-RunsDependOnFreeCoins = (n : ℕ) (coins : ℕ → Bool) (items : Items) → DependsOnCoinsAt (run_of n coins items).free n coins items
+abbrev pub RunsDependOnDecidingCoins : Type 0
+RunsDependOnDecidingCoins = (n : ℕ) (coins : ℕ → Bool) (items : Items) → DependsOnCoinsAt (run_of n coins items).free n coins items
 
 -- what happens in a run is on n qubits, and no projection is on an outcome that the state before it rules out
 abbrev pub IsSoundRun : ℕ → (ℕ → Bool) → Items → Type 0

@@ -3,7 +3,7 @@
 use Rattle.std.specs.Prelude.{ℕ, ◌+◌, Bool, List, [], ◌∷◌, ◌++◌}
 use Rattle.stab_gates.specs.Letters.{◌⊕◌}
 use Rattle.stab_pauli.specs.Paulis.{single}
-use Rattle.stab_tableau.specs.Traces.{Event, applied, applied_pair, projected, is_free}
+use Rattle.stab_tableau.specs.Traces.{Event, applied, applied_pair, projected, is_random}
 use Rattle.stab_items.specs.Steps.{Step, one, two, controlled, collapse, product, detector, observable}
 use Rattle.stab_run.specs.declared.records.Addition.{Addition}
 use Rattle.stab_run.specs.Records.{looked_up, parity}
@@ -47,12 +47,12 @@ given n coins (two g a b) p = nothing
 given n coins (controlled l k q) p = nothing
 given n coins (collapse l q recorded inverted resets) p = record nothing {
   records = when recorded (inverted ⊕ outcome_at coins (single n q l) p.trace p.coin);
-  free = is_free p.trace (single n q l) ∷ [];
+  free = is_random p.trace (single n q l) ∷ [];
   outcomes = outcome_at coins (single n q l) p.trace p.coin ∷ [];
 }
 given n coins (product factors inverted) p = record nothing {
   records = (inverted ⊕ outcome_at coins (string_of n factors) p.trace p.coin) ∷ [];
-  free = is_free p.trace (string_of n factors) ∷ [];
+  free = is_random p.trace (string_of n factors) ∷ [];
   outcomes = outcome_at coins (string_of n factors) p.trace p.coin ∷ [];
 }
 given n coins (detector ks) p = record nothing { detectors = parity p.records ks ∷ [] }

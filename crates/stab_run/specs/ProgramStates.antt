@@ -47,10 +47,10 @@ pub record IsAt (n : ℕ) (s : ProgramState) (p : Point) : Type 0 where
   pub records : s.output.records ≡ p.records
 
 -- from the point the program went where the steps end, and gathered what they give
-pub record ComesTo (n : ℕ) (coins : ℕ → Bool) (xs : List Step) (old new : ProgramState) (p : Point) : Type 0 where
+pub record ProgramComesTo (n : ℕ) (coins : ℕ → Bool) (xs : List Step) (old new : ProgramState) (p : Point) : Type 0 where
   pub shows : IsAt n new (point_after n coins xs p)
   pub output : new.output ≡ joined old.output (outputs n coins xs p)
 
 -- the program went through the steps, from whatever point it was at
 abbrev pub IsRun : ℕ → (ℕ → Bool) → List Step → ProgramState → ProgramState → Type 0
-IsRun n coins xs old new = (p : Point) → IsAt n old p → ComesTo n coins xs old new p
+IsRun n coins xs old new = (p : Point) → IsAt n old p → ProgramComesTo n coins xs old new p

@@ -9,7 +9,7 @@ use Rattle.stab_gates.specs.Letters.{◌⊕◌}
 use Rattle.stab_pauli.specs.Paulis.{Signed, single}
 use Rattle.stab_gates.specs.declared.gate.Gate.{Gate}
 use Rattle.stab_gates.specs.declared.gate.Gate.TheVariants as on
-use Rattle.stab_tableau.specs.Traces.{Event, applied, applied_pair, projected, outcome, is_free}
+use Rattle.stab_tableau.specs.Traces.{Event, applied, applied_pair, projected, outcome, is_random}
 use Rattle.stab_instructions.specs.declared.product.Factor.{Factor}
 use Rattle.stab_instructions.specs.Axes.{letter_of}
 use Rattle.stab_items.specs.Items.{Items}
@@ -96,7 +96,7 @@ effect n coins (collapse l q recorded inverted resets) s =
       trace = collapsed n l q resets bit s.trace;
       coin = s.coin + 1;
       records = s.records ++ when recorded (inverted ⊕ bit);
-      free = s.free ++ is_free s.trace (single n q l) ∷ [];
+      free = s.free ++ is_random s.trace (single n q l) ∷ [];
     }
 effect n coins (product factors inverted) s =
     let bit = outcome_at coins (string_of n factors) s.trace s.coin in
@@ -104,7 +104,7 @@ effect n coins (product factors inverted) s =
       trace = projected (string_of n factors) bit ∷ s.trace;
       coin = s.coin + 1;
       records = s.records ++ (inverted ⊕ bit) ∷ [];
-      free = s.free ++ is_free s.trace (string_of n factors) ∷ [];
+      free = s.free ++ is_random s.trace (string_of n factors) ∷ [];
     }
 effect n coins (detector ks) s = record s { detectors = s.detectors ++ parity s.records ks ∷ [] }
 effect n coins (observable j ks) s = record s { observables = added j (parity s.records ks) s.observables }

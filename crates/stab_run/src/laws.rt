@@ -1,6 +1,6 @@
 //! Laws of runs. Each function does nothing: its contract is the law, and the check proves it.
 
-ghost use Rattle.stab_run.specs.Laws.{CheckedStepsFit, FixedOutcomesNeedNoCoins, RunsArePointsWithOutputs, CoinsDecideFreeOutcomes, RunsDependOnFreeCoins, RunsAreSound, SameFuture, SameFutureBack};
+ghost use Rattle.stab_run.specs.Laws.{CheckedStepsFit, FixedOutcomesNeedNoCoins, RunsArePointsWithOutputs, CoinsDecideRandomOutcomes, RunsDependOnDecidingCoins, RunsAreSound, SameFuture, SameFutureBack};
 ghost use Rattle.stab_run.specs.RoundLaws.{RoundsComeAgain};
 
 /// A run ends at the point where its steps end, with what the steps give put after what there
@@ -10,13 +10,13 @@ pub fn runs_are_points_with_outputs()
 {}
 
 /// An outcome that is random is the coin, and any other does not depend on the coin.
-pub fn coins_decide_free_outcomes()
-    ensures law { CoinsDecideFreeOutcomes }
+pub fn coins_decide_random_outcomes()
+    ensures law { CoinsDecideRandomOutcomes }
 {}
 
 /// A run does not depend on the coins whose outcomes were not random.
-pub fn runs_depend_on_free_coins()
-    ensures law { RunsDependOnFreeCoins }
+pub fn runs_depend_on_deciding_coins()
+    ensures law { RunsDependOnDecidingCoins }
 {}
 
 /// If nothing refuses the items of any faultless lines on n qubits, the trace of their run fits

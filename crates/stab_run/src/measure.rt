@@ -3,7 +3,7 @@
 ghost use Rattle.std.specs.Prelude.{◌≡◌, ◌+◌, ◌<◌, ◌≤◌, ◌∷◌, [], true, length, All};
 ghost use Rattle.stab_pauli.specs.Paulis.{Signed, single};
 ghost use Rattle.stab_tableau.specs.Tableaus.{stabilises};
-ghost use Rattle.stab_tableau.specs.Rules.{outcome_by, is_free_by, projected_by};
+ghost use Rattle.stab_tableau.specs.Rules.{outcome_by, is_random_by, projected_by};
 ghost use Rattle.stab_tableau.specs.Pivots.{IsPivot};
 ghost use Rattle.stab_run.specs.Records.{ones};
 ghost use Rattle.stab_run.specs.Runs.{string_of};
@@ -26,7 +26,7 @@ pub fn measure<C: Coins>(
     ensures same_coins { C.sequence coins.new ≡ C.sequence coins.old }
     ensures asks { C.asks coins.new ≤ C.asks coins.old + ones (result.free ∷ []) }
     ensures outcome { result.outcome ≡ outcome_by (stabilises tableau.old) (single tableau.old.qubits qubit letter) (C.sequence coins.old coin) }
-    ensures free { result.free ≡ is_free_by (stabilises tableau.old) (single tableau.old.qubits qubit letter) }
+    ensures free { result.free ≡ is_random_by (stabilises tableau.old) (single tableau.old.qubits qubit letter) }
     ensures members { (p : Signed) → length p.letters ≡ tableau.old.qubits → stabilises tableau.new p ≡ projected_by (stabilises tableau.old) (single tableau.old.qubits qubit letter) result.outcome p }
 {
     match tableau.fixed_letter(letter, qubit) {
@@ -54,7 +54,7 @@ pub fn measure_with_pivot<C: Coins>(
     ensures same_coins { C.sequence coins.new ≡ C.sequence coins.old }
     ensures asks { C.asks coins.new ≤ C.asks coins.old + ones (result.free ∷ []) }
     ensures outcome { result.outcome ≡ outcome_by (stabilises tableau.old) (single tableau.old.qubits qubit letter) (C.sequence coins.old coin) }
-    ensures free { result.free ≡ is_free_by (stabilises tableau.old) (single tableau.old.qubits qubit letter) }
+    ensures free { result.free ≡ is_random_by (stabilises tableau.old) (single tableau.old.qubits qubit letter) }
     ensures members { (p : Signed) → length p.letters ≡ tableau.old.qubits → stabilises tableau.new p ≡ projected_by (stabilises tableau.old) (single tableau.old.qubits qubit letter) result.outcome p }
     ensures pivot_length { length pivot.new.letters ≡ length pivot.old.letters }
     ensures pivot { result.free ≡ true → IsPivot tableau.old.qubits (stabilises tableau.old) (single tableau.old.qubits qubit letter) pivot.new.letters }
@@ -93,7 +93,7 @@ pub fn measure_string<C: Coins>(
     ensures same_coins { C.sequence coins.new ≡ C.sequence coins.old }
     ensures asks { C.asks coins.new ≤ C.asks coins.old + ones (result.free ∷ []) }
     ensures outcome { result.outcome ≡ outcome_by (stabilises tableau.old) string.now (C.sequence coins.old coin) }
-    ensures free { result.free ≡ is_free_by (stabilises tableau.old) string.now }
+    ensures free { result.free ≡ is_random_by (stabilises tableau.old) string.now }
     ensures members { (p : Signed) → length p.letters ≡ tableau.old.qubits → stabilises tableau.new p ≡ projected_by (stabilises tableau.old) string.now result.outcome p }
 {
     // Since members are a group, a fixed outcome leaves the state as it is.
@@ -122,7 +122,7 @@ pub fn measure_string_with_pivot<C: Coins>(
     ensures same_coins { C.sequence coins.new ≡ C.sequence coins.old }
     ensures asks { C.asks coins.new ≤ C.asks coins.old + ones (result.free ∷ []) }
     ensures outcome { result.outcome ≡ outcome_by (stabilises tableau.old) string.now (C.sequence coins.old coin) }
-    ensures free { result.free ≡ is_free_by (stabilises tableau.old) string.now }
+    ensures free { result.free ≡ is_random_by (stabilises tableau.old) string.now }
     ensures members { (p : Signed) → length p.letters ≡ tableau.old.qubits → stabilises tableau.new p ≡ projected_by (stabilises tableau.old) string.now result.outcome p }
     ensures pivot_length { length pivot.new.letters ≡ length pivot.old.letters }
     ensures pivot { result.free ≡ true → IsPivot tableau.old.qubits (stabilises tableau.old) string.now pivot.new.letters }

@@ -104,7 +104,7 @@ pub fn apply_step<C: Coins>(
     ensures string { length string.new.letters ≡ length string.old.letters }
     ensures same_coins { C.sequence coins.new ≡ C.sequence coins.old }
     ensures asks { C.asks coins.new ≤ C.asks coins.old + coins_of (step_shown step.entry) }
-    ensures asks_free { OnOk result (C.asks coins.new + ones outputs.old.free.items ≤ C.asks coins.old + ones outputs.new.free.items) }
+    ensures asks_random { OnOk result (C.asks coins.new + ones outputs.old.free.items ≤ C.asks coins.old + ones outputs.new.free.items) }
     ensures run { OnOk result (IsRun tableau.old.qubits (C.sequence coins.old) (step_shown step.entry ∷ []) (program_state tableau.old (output_of outputs.old)) (program_state tableau.new (output_of outputs.new))) }
 {
     *applied += 1;

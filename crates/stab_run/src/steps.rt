@@ -37,7 +37,7 @@ pub fn apply_steps<C: Coins>(
     ensures string { length string.new.letters ≡ length string.old.letters }
     ensures same_coins { C.sequence coins.new ≡ C.sequence coins.old }
     ensures asks { C.asks coins.new ≤ C.asks coins.old + all_coins_of (steps_shown steps.entry) }
-    ensures asks_free { OnOk result (C.asks coins.new + ones outputs.old.free.items ≤ C.asks coins.old + ones outputs.new.free.items) }
+    ensures asks_random { OnOk result (C.asks coins.new + ones outputs.old.free.items ≤ C.asks coins.old + ones outputs.new.free.items) }
     ensures run { OnOk result (IsRun tableau.old.qubits (C.sequence coins.old) (steps_shown steps.entry) (program_state tableau.old (output_of outputs.old)) (program_state tableau.new (output_of outputs.new))) }
 {
     match steps {
@@ -140,7 +140,7 @@ fn measure_targets<C: Coins>(
     ensures string { length string.new.letters ≡ length string.old.letters }
     ensures same_coins { C.sequence coins.new ≡ C.sequence coins.old }
     ensures asks { C.asks coins.new ≤ C.asks coins.old + length targets.now }
-    ensures asks_free { OnOk result (C.asks coins.new + ones outputs.old.free.items ≤ C.asks coins.old + ones outputs.new.free.items) }
+    ensures asks_random { OnOk result (C.asks coins.new + ones outputs.old.free.items ≤ C.asks coins.old + ones outputs.new.free.items) }
     ensures run { OnOk result (IsRun tableau.old.qubits (C.sequence coins.old) (map (measured measurement) targets.now) (program_state tableau.old (output_of outputs.old)) (program_state tableau.new (output_of outputs.new))) }
 {
     for target in targets {

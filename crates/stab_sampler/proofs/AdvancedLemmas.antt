@@ -1,10 +1,10 @@
 -- Advanced lanes: lanes that are again as they were at a checkpoint go over the rounds that are left as they went over those since.
-use Rattle.stab_sampler.proofs.Names.{◌≡◌, ℕ, ◌+◌, ◌-◌, ◌*◌, ◌<◌, ◌≤◌, refl, sym, ◌∙◌, ap, subst, List, ◌++◌, length, take, arith, take_at, Letter, Step, rounds, Repeat, round_of, IsRepeat, Lengths, joined-assoc, looked_up, RunOutput, joined, all_coins_of, rest_of, copies, after_rounds, more-rounds, coins-append, rounds-rounds, rounds-within, RunPivots, frame_over, flips_over, frame-append, flips-append, Difference, frame_of_difference, next_coin, Follows, no_difference, IsKeptAfter, [], drop, drop_at, drop_all, lengths_of, without_outcomes}
+use Rattle.stab_sampler.proofs.Names.{◌≡◌, ℕ, ◌+◌, ◌-◌, ◌*◌, ◌<◌, ◌≤◌, refl, sym, ◌∙◌, ap, subst, List, ◌++◌, length, take, arith, take_at, Letter, Step, rounds, Repeat, round_of, IsRepeat, Lengths, joined-assoc, looked_up, RunOutput, joined, all_coins_of, rest_of, output_copies, after_rounds, more-rounds, coins-append, rounds-rounds, rounds-within, RunPivots, frame_over, flips_over, frame-append, flips-append, Difference, frame_of_difference, next_coin, DiffersAlong, no_difference, IsKeptAfter, [], drop, drop_at, drop_all, lengths_of, without_outcomes}
 use Rattle.stab_sampler.proofs.FollowLemmas.{follows-append}
 use Rattle.stab_sampler.proofs.FoldLemmas.{HasNone, follows-again}
 
 -- the last of some steps, by all of them and the first
-follows-rest : (n : ℕ) (pivots : RunPivots) (xs ys : List Step) (a b c : Difference) → Follows n pivots (xs ++ ys) a c → Follows n pivots xs a b → Follows n pivots ys b c
+follows-rest : (n : ℕ) (pivots : RunPivots) (xs ys : List Step) (a b c : Difference) → DiffersAlong n pivots (xs ++ ys) a c → DiffersAlong n pivots xs a b → DiffersAlong n pivots ys b c
 follows-rest n pivots xs ys a b c whole first = record {
   frame =
       whole.frame
@@ -34,7 +34,7 @@ rest-kept a b none = λ i. record {
 module _ (n : ℕ) (pivots : RunPivots) (steps : List Step) (r : Repeat) (is : IsRepeat steps r) (early done times : ℕ) (later : early < done)
     (within : done + times * (done - early) ≤ r.rounds) (letters : List Letter) (lengths : Lengths)
     (checkpoint : IsKeptAfter n pivots (take (after_rounds r early) steps) letters lengths) (now : Difference)
-    (advanced : Follows n pivots (take (after_rounds r done) steps) (no_difference n) now) (same : letters ≡ now.letters)
+    (advanced : DiffersAlong n pivots (take (after_rounds r done) steps) (no_difference n) now) (same : letters ≡ now.letters)
     (back : (k : ℕ) → k ≤ r.window → looked_up (take lengths.records now.flips.records) k ≡ looked_up now.flips.records k) where
   abbrev first : List Step
   first = take (after_rounds r early) steps
@@ -50,8 +50,8 @@ module _ (n : ℕ) (pivots : RunPivots) (steps : List Step) (r : Repeat) (is : I
       ap (λ k. take (after_rounds r k) steps) {x = done} {y = early + (done - early)} (omega (arith, later))
       ∙ more-rounds steps r is early (done - early) (omega (arith, later, within))
 
-  passed : Follows n pivots since before now
-  passed = follows-rest n pivots first since (no_difference n) before now (subst (λ xs. Follows n pivots xs (no_difference n) now) steps_now advanced) checkpoint.advanced
+  passed : DiffersAlong n pivots since before now
+  passed = follows-rest n pivots first since (no_difference n) before now (subst (λ xs. DiffersAlong n pivots xs (no_difference n) now) steps_now advanced) checkpoint.advanced
 
   rest_is : rest_of lengths now.flips ≡ without_outcomes (flips_over n pivots since (next_coin before) (frame_of_difference before))
   rest_is =
@@ -71,12 +71,12 @@ module _ (n : ℕ) (pivots : RunPivots) (steps : List Step) (r : Repeat) (is : I
   coin_then = ap (λ (l : Lengths). l.free) checkpoint.long
 
   pub advanced-again : (coins : ℕ) (new : Difference) → coins ≡ next_coin now - lengths.free → HasNone pivots lengths.free (coins * (times + 1))
-      → new ≡ record { letters = now.letters; flips = joined now.flips (copies times (rest_of lengths now.flips)) }
-      → Follows n pivots (take (after_rounds r (done + times * (done - early))) steps) (no_difference n) new
+      → new ≡ record { letters = now.letters; flips = joined now.flips (output_copies times (rest_of lengths now.flips)) }
+      → DiffersAlong n pivots (take (after_rounds r (done + times * (done - early))) steps) (no_difference n) new
   advanced-again coins new counted none is_new =
-      subst (λ xs. Follows n pivots xs (no_difference n) new) (sym steps_then)
+      subst (λ xs. DiffersAlong n pivots xs (no_difference n) new) (sym steps_then)
       (follows-append n pivots (take (after_rounds r done) steps) (rounds times since) (no_difference n) now new advanced
-      (subst (Follows n pivots (rounds times since) now) (sym made)
+      (subst (DiffersAlong n pivots (rounds times since) now) (sym made)
       (follows-again n r.window pivots since before now (rounds-within r.window (done - early) (round_of r steps) is.within) passed
       (sym checkpoint.same ∙ same) alike_back none_then times now
       (record { letters = sym (sym checkpoint.same ∙ same); flips = λ k le. sym (alike_back k le) }) none_now)))
@@ -97,8 +97,8 @@ module _ (n : ℕ) (pivots : RunPivots) (steps : List Step) (r : Repeat) (is : I
           ap pivots.strings {x = next_coin now + t} {y = lengths.free + (all_coins_of since + t)} (omega (arith, passed.coin, coin_then))
           ∙ none (all_coins_of since + t) (omega (arith, lt, coins_are, whole coins times, ap (λ c. times * c) coins_are))
 
-      made : new ≡ record { letters = now.letters; flips = joined now.flips (copies times (without_outcomes (flips_over n pivots since (next_coin before) (frame_of_difference before)))) }
-      made = is_new ∙ ap (λ o. record { letters = now.letters; flips = joined now.flips (copies times o) }) rest_is
+      made : new ≡ record { letters = now.letters; flips = joined now.flips (output_copies times (without_outcomes (flips_over n pivots since (next_coin before) (frame_of_difference before)))) }
+      made = is_new ∙ ap (λ o. record { letters = now.letters; flips = joined now.flips (output_copies times o) }) rest_is
 
       steps_then : take (after_rounds r (done + times * (done - early))) steps ≡ take (after_rounds r done) steps ++ rounds times since
       steps_then =

@@ -1,5 +1,5 @@
 -- Checkpoints: lists that are repeated, flags of which none is 1, and letters that are the same one by one.
-use Rattle.stab_sampler.proofs.Names.{◌≡◌, ℕ, zero, suc, ◌+◌, ◌-◌, ◌*◌, ◌<◌, ◌≤◌, refl, sym, ◌∙◌, ap, subst, Bool, true, false, List, [], ◌∷◌, ◌++◌, append-nil, append_assoc, length, take, drop, map, get_or, inl, inr, arith, cases_lt, length-append, length-map, length-drop, map-append, drop-map, drop-append-le, drop_all, take_at, get_or-map, get_or-drop, ext_get_or, I, ones, RunOutput, joined, copies, rest_of, Lengths, ones-split, Letters, Lanes, lane_letters, letter_in, lane_output, times}
+use Rattle.stab_sampler.proofs.Names.{◌≡◌, ℕ, zero, suc, ◌+◌, ◌-◌, ◌*◌, ◌<◌, ◌≤◌, refl, sym, ◌∙◌, ap, subst, Bool, true, false, List, [], ◌∷◌, ◌++◌, append-nil, append_assoc, length, take, drop, map, get_or, inl, inr, arith, cases_lt, length-append, length-map, length-drop, map-append, drop-map, drop-append-le, drop_all, take_at, get_or-map, get_or-drop, ext_get_or, I, ones, RunOutput, joined, output_copies, rest_of, Lengths, ones-split, Letters, Lanes, lane_letters, letter_in, lane_output, times}
 use Rattle.std.proofs.Common.{◌⊎◌}
 
 -- a list this often
@@ -53,7 +53,7 @@ appended-none items from k le =
 -- outputs this often
 
 copies-times : (k : ℕ) (o : RunOutput)
-    → copies k o ≡ record { records = times k o.records; free = times k o.free; outcomes = times k o.outcomes; detectors = times k o.detectors; additions = times k o.additions }
+    → output_copies k o ≡ record { records = times k o.records; free = times k o.free; outcomes = times k o.outcomes; detectors = times k o.detectors; additions = times k o.additions }
 copies-times zero o = refl
 copies-times (suc k) o = ap (joined o) (copies-times k o)
 
@@ -68,7 +68,7 @@ pub output-again : {W : Type 0} (at : W → ℕ → Bool) (l : ℕ) (old new : L
     → new.free.items ≡ old.free.items ++ times k (drop lengths.free old.free.items)
     → new.detectors.items ≡ old.detectors.items ++ times k (drop lengths.detectors old.detectors.items)
     → new.sums.items ≡ old.sums.items ++ times k (drop lengths.additions old.sums.items)
-    → lane_output at l new ≡ joined (lane_output at l old) (copies k (rest_of lengths (lane_output at l old)))
+    → lane_output at l new ≡ joined (lane_output at l old) (output_copies k (rest_of lengths (lane_output at l old)))
 output-again at l old new lengths k records free detectors sums =
     (λ i. record {
       records = map-put (λ w. at w l) old.records.items new.records.items k lengths.records records i;

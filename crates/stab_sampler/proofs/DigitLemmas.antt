@@ -1,6 +1,6 @@
 -- Numbers by their bits: the number of binary digits, and a byte of a word.
 use Rattle.stab_sampler.proofs.Names.{◌≡◌, ℕ, zero, suc, refl, ◌+◌, ◌*◌, ◌/◌, ◌^◌, ◌<◌, ◌≤◌, ◌%◌, ap, sym, ◌∙◌, eqb, Bool, true, false, List, [], ◌∷◌, length, get_or, arith, if◌then◌else◌, mod-pow-add, bit_at-suc, bit_at_lowest, number, word_bit, byte_at}
-use Rattle.stab_sampler.proofs.MovedBitLemmas.{word_bit-down}
+use Rattle.stab_sampler.proofs.ShiftedBitLemmas.{word_bit-down}
 
 -- the lowest bit of a number
 lowest : (x : ℕ) (b : Bool) → word_bit x 0 ≡ b → x % 2 ≡ (if b then 1 else 0)

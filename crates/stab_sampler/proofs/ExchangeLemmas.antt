@@ -1,7 +1,7 @@
 -- Exchanges: bits that the halves of 64 words exchange, each word with its partner.
-use Rattle.stab_sampler.proofs.Names.{◌≡◌, ℕ, refl, ◌+◌, ◌-◌, ◌*◌, ◌/◌, ◌^◌, ◌<◌, ◌≤◌, ◌%◌, ap, sym, ◌∙◌, eqb, Bool, true, false, ◌&&◌, inl, inr, arith, List, get_or, bit_xor, ◌⊎◌, if◌then◌else◌, ◌⊕◌, word_bit, differing, first_exchanged, second_exchanged}
+use Rattle.stab_sampler.proofs.Names.{◌≡◌, ℕ, refl, ◌+◌, ◌-◌, ◌*◌, ◌/◌, ◌^◌, ◌<◌, ◌≤◌, ◌%◌, ap, sym, ◌∙◌, eqb, Bool, true, false, ◌&&◌, inl, inr, arith, List, get_or, bit_xor, ◌⊎◌, if◌then◌else◌, ◌⊕◌, word_bit, differing_bits, first_exchanged, second_exchanged}
 use Rattle.stab_sampler.proofs.WordLemmas.{word_bit-xor}
-use Rattle.stab_sampler.proofs.MovedBitLemmas.{word_bit-and, word_bit-down, word_bit-up, word_bit-up_below, word_bit-cut, word_bit-cut_off}
+use Rattle.stab_sampler.proofs.ShiftedBitLemmas.{word_bit-and, word_bit-down, word_bit-up, word_bit-up_below, word_bit-cut, word_bit-cut_off}
 
 -- a mask's bits, this many positions higher
 abbrev pub raised : (mask s : ℕ) → ℕ
@@ -36,7 +36,7 @@ by_size : (s k : ℕ) → (k < s) ⊎ ((s ≤ k) × (k < 64)) ⊎ (64 ≤ k)
 by_size s k = grind arith
 
 module _ (a b mask s : ℕ) where
-  differing-at : (k : ℕ) → word_bit (differing a b mask s) k ≡ (word_bit a (k + s) ⊕ word_bit b k) && word_bit mask k
+  differing-at : (k : ℕ) → word_bit (differing_bits a b mask s) k ≡ (word_bit a (k + s) ⊕ word_bit b k) && word_bit mask k
   differing-at k = word_bit-and (bit_xor (a / 2 ^ s) b) mask k ∙ ap (λ x. x && word_bit mask k) (word_bit-xor (a / 2 ^ s) b k ∙ ap (λ x. x ⊕ word_bit b k) (word_bit-down a s k))
 
   -- a number that is moved up, and cut off
@@ -54,26 +54,26 @@ module _ (a b mask s : ℕ) where
   raised-following : (n k : ℕ) → 64 ≤ k → word_bit (n * 2 ^ s % 18446744073709551616) k ≡ false
   raised-following n k le = word_bit-cut_off (n * 2 ^ s % 18446744073709551616) 64 k (omega arith) le
 
-  lifted : (k : ℕ) → word_bit (differing a b mask s * 2 ^ s % 18446744073709551616) k ≡ (word_bit a k ⊕ word_bit b (k - s)) && word_bit (raised mask s) k
+  lifted : (k : ℕ) → word_bit (differing_bits a b mask s * 2 ^ s % 18446744073709551616) k ≡ (word_bit a k ⊕ word_bit b (k - s)) && word_bit (raised mask s) k
   lifted k = by_position (by_size s k)
     where
-      by_position : (k < s) ⊎ ((s ≤ k) × (k < 64)) ⊎ (64 ≤ k) → word_bit (differing a b mask s * 2 ^ s % 18446744073709551616) k ≡ (word_bit a k ⊕ word_bit b (k - s)) && word_bit (raised mask s) k
-      by_position (inl lt) = raised-below (differing a b mask s) k lt ∙ sym (and-false _ _ (raised-below mask k lt))
+      by_position : (k < s) ⊎ ((s ≤ k) × (k < 64)) ⊎ (64 ≤ k) → word_bit (differing_bits a b mask s * 2 ^ s % 18446744073709551616) k ≡ (word_bit a k ⊕ word_bit b (k - s)) && word_bit (raised mask s) k
+      by_position (inl lt) = raised-below (differing_bits a b mask s) k lt ∙ sym (and-false _ _ (raised-below mask k lt))
       by_position (inr (inl h)) =
           let back : k - s + s ≡ k = omega (arith, h.0) in
-          raised-at (differing a b mask s) k h.0 h.1 ∙ differing-at (k - s)
+          raised-at (differing_bits a b mask s) k h.0 h.1 ∙ differing-at (k - s)
           ∙ (λ i. (word_bit a (back i) ⊕ word_bit b (k - s)) && sym (raised-at mask k h.0 h.1) i)
-      by_position (inr (inr le)) = raised-following (differing a b mask s) k le ∙ sym (and-false _ _ (raised-following mask k le))
+      by_position (inr (inr le)) = raised-following (differing_bits a b mask s) k le ∙ sym (and-false _ _ (raised-following mask k le))
 
   first_exchanged-at : (k : ℕ) → word_bit (first_exchanged a b mask s) k ≡ (if word_bit (raised mask s) k then word_bit b (k - s) else word_bit a k)
   first_exchanged-at k =
-      word_bit-xor a (differing a b mask s * 2 ^ s % 18446744073709551616) k
+      word_bit-xor a (differing_bits a b mask s * 2 ^ s % 18446744073709551616) k
       ∙ ap (λ x. word_bit a k ⊕ x) (lifted k)
       ∙ picks-raised (word_bit a k) (word_bit b (k - s)) (word_bit (raised mask s) k)
 
   second_exchanged-at : (k : ℕ) → word_bit (second_exchanged a b mask s) k ≡ (if word_bit mask k then word_bit a (k + s) else word_bit b k)
   second_exchanged-at k =
-      word_bit-xor b (differing a b mask s) k
+      word_bit-xor b (differing_bits a b mask s) k
       ∙ ap (λ x. word_bit b k ⊕ x) (differing-at k)
       ∙ picks (word_bit b k) (word_bit a (k + s)) (word_bit mask k)
 

@@ -1,14 +1,10 @@
 -- Folding: frames that steps can't distinguish flip the same, and so do lanes that are again as they were, if nothing is drawn.
-use Rattle.stab_sampler.proofs.Names.{◌≡◌, ℕ, zero, suc, ◌+◌, ◌*◌, ◌<◌, ◌≤◌, refl, sym, ◌∙◌, ap, subst, true, false, ◌&&◌, List, [], ◌∷◌, ◌++◌, append-nil, append_assoc, length, nat_lt, arith, None, list_any, length-append, length-replicate, single, image, image_pair, Step, rounds, one, two, controlled, collapse, product, detector, observable, makes, lookbacks, looks_too_far, looked_up, flip_of, string_of, RunOutput, nothing, joined, coins_of, all_coins_of, copies, joined-nothing, joined-assoc, looked_up-more, parity-same, or-left, or-right, plus, Frame, times_where, RunPivots, flips_outcome, letters_measured, letters_after, flips_given, frame_after, frame_over, flips_over, Difference, frame_of_difference, next_coin, Follows, without_outcomes}
+use Rattle.stab_sampler.proofs.Names.{◌≡◌, ℕ, zero, suc, ◌+◌, ◌*◌, ◌<◌, ◌≤◌, refl, sym, ◌∙◌, ap, subst, false, List, [], ◌∷◌, ◌++◌, append-nil, append_assoc, length, nat_lt, arith, None, list_any, length-append, length-replicate, Step, rounds, one, makes, lookbacks, looks_too_far, looked_up, RunOutput, nothing, joined, coins_of, all_coins_of, output_copies, joined-nothing, joined-assoc, looked_up-more, or-left, or-right, Frame, RunPivots, letters_after, flips_given, frame_after, frame_over, flips_over, Difference, frame_of_difference, next_coin, DiffersAlong, without_outcomes}
 use Rattle.stab_sampler.proofs.FollowLemmas.{follows-none, follows-append}
-use Rattle.stab_recording.proofs.FlippedLemmas.{flips-free}
+use Rattle.stab_recording.proofs.FlippedLemmas.{flips-random}
+use Rattle.stab_frames.proofs.AlikeLemmas.{AreAlike, letters-seen, given-seen, given-makes}
 use Rattle.stab_frames.proofs.TreatedLemmas.{IsTreatedAlike, letters-treated, given-treated}
-use Rattle.stab_frames.specs.FrameSteps.{flip_by, letters_for, one_flipped}
-
--- two frames have the same letters, and flip the same as far back as rec[-m]
-pub record AreAlike (m : ℕ) (f g : Frame) : Type 0 where
-  pub letters : f.letters ≡ g.letters
-  pub flips : (k : ℕ) → k ≤ m → looked_up f.flips k ≡ looked_up g.flips k
+use Rattle.stab_frames.specs.FrameSteps.{flip_by, letters_for}
 
 -- no pivot is recorded of this many outcomes from a coin number on
 abbrev pub HasNone : RunPivots → (coin count : ℕ) → Type 0
@@ -29,45 +25,13 @@ module _ (n m : ℕ) (pivots : RunPivots) (c d : ℕ) (f g : Frame) (same : AreA
   both : (x : Step) → HasNone pivots c (coins_of x) → HasNone pivots d (coins_of x) → coins_of x ≡ 1 → IsTreatedAlike pivots pivots c d
   both x here there some = treated (here 0 (omega (arith, some))) (there 0 (omega (arith, some)))
 
-  letters-seen : (x : Step) → list_any (nat_lt m) (lookbacks x) ≡ false → letters_after n pivots x d f ≡ letters_after n pivots x d g
-  letters-seen (one h q) near = ap (λ l. (image h q (plus l)).letters) same.letters
-  letters-seen (two h p q) near = ap (λ l. (image_pair h p q (plus l)).letters) same.letters
-  letters-seen (controlled l k q) near = λ i. times_where (same.flips k (within (or-left (nat_lt m k) false near)) i) (single n q l).letters (same.letters i)
-    where
-      within : nat_lt m k ≡ false → k ≤ m
-      within e = grind arith
-  letters-seen (collapse l q recorded inverted resets) near =
-      ap (λ s. times_where (resets && flips_outcome pivots d (single n q l) s) (single n q (flip_of l)).letters (letters_measured pivots d (single n q l) s)) same.letters
-  letters-seen (product factors inverted) near = ap (letters_measured pivots d (string_of n factors)) same.letters
-  letters-seen (detector ks) near = same.letters
-  letters-seen (observable j ks) near = same.letters
-
   letters-alike : (x : Step) → list_any (nat_lt m) (lookbacks x) ≡ false → HasNone pivots c (coins_of x) → HasNone pivots d (coins_of x)
       → letters_after n pivots x c f ≡ letters_after n pivots x d g
-  letters-alike x near here there = letters-treated n pivots pivots c d f x (both x here there) ∙ letters-seen x near
-
-  given-seen : (x : Step) → list_any (nat_lt m) (lookbacks x) ≡ false → flips_given n pivots x d f ≡ flips_given n pivots x d g
-  given-seen (one h q) near = refl
-  given-seen (two h p q) near = refl
-  given-seen (controlled l k q) near = refl
-  given-seen (collapse l q recorded inverted resets) near = ap (λ s. one_flipped recorded (flips_outcome pivots d (single n q l) s)) same.letters
-  given-seen (product factors inverted) near = ap (λ s. one_flipped true (flips_outcome pivots d (string_of n factors) s)) same.letters
-  given-seen (detector ks) near = ap (λ b. record nothing { detectors = b ∷ [] }) (parity-same m f.flips g.flips same.flips ks near)
-  given-seen (observable j ks) near = ap (λ b. record nothing { additions = record { observable = j; bit = b } ∷ [] }) (parity-same m f.flips g.flips same.flips ks near)
+  letters-alike x near here there = letters-treated n pivots pivots c d f x (both x here there) ∙ letters-seen n m pivots d f g same x near
 
   given-alike : (x : Step) → list_any (nat_lt m) (lookbacks x) ≡ false → HasNone pivots c (coins_of x) → HasNone pivots d (coins_of x)
       → flips_given n pivots x c f ≡ flips_given n pivots x d g
-  given-alike x near here there = given-treated n pivots pivots c d f x (both x here there) ∙ given-seen x near
-
-given-makes : (n : ℕ) (pivots : RunPivots) (x : Step) (c : ℕ) (f : Frame) → length (flips_given n pivots x c f).records ≡ makes x
-given-makes n pivots (one g q) c f = refl
-given-makes n pivots (two g p q) c f = refl
-given-makes n pivots (controlled l k q) c f = refl
-given-makes n pivots (collapse l q true inverted resets) c f = refl
-given-makes n pivots (collapse l q false inverted resets) c f = refl
-given-makes n pivots (product factors inverted) c f = refl
-given-makes n pivots (detector ks) c f = refl
-given-makes n pivots (observable j ks) c f = refl
+  given-alike x near here there = given-treated n pivots pivots c d f x (both x here there) ∙ given-seen n m pivots d f g same x near
 
 -- and steps
 pub over-alike : (n m : ℕ) (pivots : RunPivots) (xs : List Step) (c d : ℕ) (f g : Frame) → looks_too_far m xs ≡ false → AreAlike m f g
@@ -109,7 +73,7 @@ frame-flips n pivots (x ∷ xs) c f =
 
 -- a lane went over steps, and is again as it was before them, as far back as these look
 
-module _ (n m : ℕ) (pivots : RunPivots) (xs : List Step) (a b : Difference) (near : looks_too_far m xs ≡ false) (advanced : Follows n pivots xs a b)
+module _ (n m : ℕ) (pivots : RunPivots) (xs : List Step) (a b : Difference) (near : looks_too_far m xs ≡ false) (advanced : DiffersAlong n pivots xs a b)
     (same : a.letters ≡ b.letters) (back : (k : ℕ) → k ≤ m → looked_up a.flips.records k ≡ looked_up b.flips.records k)
     (none : HasNone pivots (next_coin a) (all_coins_of xs)) where
   abbrev flipped : RunOutput
@@ -117,7 +81,7 @@ module _ (n m : ℕ) (pivots : RunPivots) (xs : List Step) (a b : Difference) (n
 
   -- what a lane that is as this one becomes, if it flips the same this often
   abbrev pub again : ℕ → Difference → Difference
-  again k d = record { letters = d.letters; flips = joined d.flips (copies k flipped) }
+  again k d = record { letters = d.letters; flips = joined d.flips (output_copies k flipped) }
 
   abbrev once : Difference → Difference
   once d = record { letters = d.letters; flips = joined d.flips flipped }
@@ -125,7 +89,7 @@ module _ (n m : ℕ) (pivots : RunPivots) (xs : List Step) (a b : Difference) (n
   coins-once : (d : Difference) → next_coin (once d) ≡ next_coin d + all_coins_of xs
   coins-once d =
       length-append d.flips.free flipped.free
-      ∙ ap (λ k. next_coin d + k) (ap length (flips-free n pivots xs (next_coin a) (frame_of_difference a)) ∙ length-replicate (all_coins_of xs) false)
+      ∙ ap (λ k. next_coin d + k) (ap length (flips-random n pivots xs (next_coin a) (frame_of_difference a)) ∙ length-replicate (all_coins_of xs) false)
 
   module _ (d : Difference) (alike : AreAlike m (frame_of_difference d) (frame_of_difference a)) where
     over : HasNone pivots (next_coin d) (all_coins_of xs)
@@ -135,7 +99,7 @@ module _ (n m : ℕ) (pivots : RunPivots) (xs : List Step) (a b : Difference) (n
         let all = over-alike n m pivots xs (next_coin d) (next_coin a) (frame_of_difference d) (frame_of_difference a) near alike here none in
         (ap without_outcomes all.0, all.1)
 
-    follows-once : HasNone pivots (next_coin d) (all_coins_of xs) → Follows n pivots xs d (once d)
+    follows-once : HasNone pivots (next_coin d) (all_coins_of xs) → DiffersAlong n pivots xs d (once d)
     follows-once here = record {
       frame = λ i. record {
         letters = (alike.letters ∙ same ∙ ap (λ (f : Frame). f.letters) advanced.frame ∙ sym (over here).1) i;
@@ -157,11 +121,11 @@ module _ (n m : ℕ) (pivots : RunPivots) (xs : List Step) (a b : Difference) (n
     }
 
   pub follows-again : (k : ℕ) (d : Difference) → AreAlike m (frame_of_difference d) (frame_of_difference a) → HasNone pivots (next_coin d) (k * all_coins_of xs)
-      → Follows n pivots (rounds k xs) d (again k d)
+      → DiffersAlong n pivots (rounds k xs) d (again k d)
   follows-again zero d alike here =
-      subst (Follows n pivots [] d) (λ i. record { letters = d.letters; flips = sym (joined-nothing d.flips) i }) (follows-none n pivots d)
+      subst (DiffersAlong n pivots [] d) (λ i. record { letters = d.letters; flips = sym (joined-nothing d.flips) i }) (follows-none n pivots d)
   follows-again (suc k) d alike here =
-      subst (Follows n pivots (xs ++ rounds k xs) d) (λ i. record { letters = d.letters; flips = joined-assoc d.flips flipped (copies k flipped) i })
+      subst (DiffersAlong n pivots (xs ++ rounds k xs) d) (λ i. record { letters = d.letters; flips = joined-assoc d.flips flipped (output_copies k flipped) i })
       (follows-append n pivots xs (rounds k xs) d (once d) (again k (once d))
       (follows-once d alike (λ t lt. here t (less t lt)))
       (follows-again k (once d) (alike-once d alike) (λ t lt. ap pivots.strings (position t) ∙ here (all_coins_of xs + t) (more t lt))))

@@ -1,12 +1,12 @@
 -- Follows: how the difference of a lane goes over steps, one by one and one after another.
-use Rattle.stab_sampler.proofs.Names.{◌≡◌, ℕ, ◌+◌, refl, sym, ◌∙◌, ap, Bool, false, ◌&&◌, List, [], ◌∷◌, ◌++◌, append-nil, arith, Letter, Signed, single, strings_anticommute, Factor, Step, collapse, product, when, flip_of, string_of, nothing, joined, coins_of, all_coins_of, joined-nothing, joined-assoc, coins-append, times_where, RunPivots, flip_by, letters_for, flips_outcome, letters_measured, letters_after, flips_given, frame_over, flips_over, frame-append, flips-append, Difference, frame_of_difference, next_coin, Follows, IsMeasuredBy, without_outcomes}
+use Rattle.stab_sampler.proofs.Names.{◌≡◌, ℕ, ◌+◌, refl, sym, ◌∙◌, ap, Bool, false, ◌&&◌, List, [], ◌∷◌, ◌++◌, append-nil, arith, Letter, Signed, single, strings_anticommute, Factor, Step, collapse, product, when, flip_of, string_of, nothing, joined, coins_of, all_coins_of, joined-nothing, joined-assoc, coins-append, times_where, RunPivots, flip_by, letters_for, flips_outcome, letters_measured, letters_after, flips_given, frame_over, flips_over, frame-append, flips-append, Difference, frame_of_difference, next_coin, DiffersAlong, IsMeasuredBy, without_outcomes}
 
 -- steps one after another
 
-pub follows-none : (n : ℕ) (pivots : RunPivots) (a : Difference) → Follows n pivots [] a a
+pub follows-none : (n : ℕ) (pivots : RunPivots) (a : Difference) → DiffersAlong n pivots [] a a
 follows-none n pivots a = record { frame = refl; flips = sym (joined-nothing a.flips); coin = omega arith }
 
-pub follows-append : (n : ℕ) (pivots : RunPivots) (xs ys : List Step) (a b c : Difference) → Follows n pivots xs a b → Follows n pivots ys b c → Follows n pivots (xs ++ ys) a c
+pub follows-append : (n : ℕ) (pivots : RunPivots) (xs ys : List Step) (a b c : Difference) → DiffersAlong n pivots xs a b → DiffersAlong n pivots ys b c → DiffersAlong n pivots (xs ++ ys) a c
 follows-append n pivots xs ys a b c first then = record {
   frame =
       then.frame
@@ -26,7 +26,7 @@ follows-append n pivots xs ys a b c first then = record {
 module _ (n : ℕ) (pivots : RunPivots) (old new : Difference) where
   pub follows-step : (x : Step) → new.letters ≡ letters_after n pivots x (next_coin old) (frame_of_difference old)
       → new.flips ≡ joined old.flips (without_outcomes (flips_given n pivots x (next_coin old) (frame_of_difference old)))
-      → next_coin new ≡ next_coin old + coins_of x → Follows n pivots (x ∷ []) old new
+      → next_coin new ≡ next_coin old + coins_of x → DiffersAlong n pivots (x ∷ []) old new
   follows-step x letters flips coin = record {
     frame = λ i. record { letters = letters i; flips = (flips i).records };
     flips = flips ∙ ap (λ o. joined old.flips (without_outcomes o)) (sym (joined-nothing (flips_given n pivots x (next_coin old) (frame_of_difference old))));
@@ -59,7 +59,7 @@ module _ (n : ℕ) (pivots : RunPivots) (old new : Difference) where
   pub follows-collapse : (l : Letter) (q : ℕ) (recorded inverted resets distinct flip : Bool) (mid : Difference) → distinct ≡ strings_anticommute old.letters (single n q l).letters
       → IsMeasuredBy pivots distinct flip old mid → new.letters ≡ times_where (resets && flip) (single n q (flip_of l)).letters mid.letters
       → new.flips ≡ record mid.flips { records = mid.flips.records ++ when recorded flip } → next_coin new ≡ next_coin old + 1
-      → Follows n pivots (collapse l q recorded inverted resets ∷ []) old new
+      → DiffersAlong n pivots (collapse l q recorded inverted resets ∷ []) old new
   follows-collapse l q recorded inverted resets distinct flip mid ea is letters flips coin =
       let so = flipped-so (single n q l) distinct flip mid ea is in
       follows-step (collapse l q recorded inverted resets)
@@ -68,7 +68,7 @@ module _ (n : ℕ) (pivots : RunPivots) (old new : Difference) where
 
   pub follows-product : (factors : List Factor) (inverted distinct flip : Bool) (mid : Difference) → distinct ≡ strings_anticommute old.letters (string_of n factors).letters
       → IsMeasuredBy pivots distinct flip old mid → new.letters ≡ mid.letters → new.flips ≡ record mid.flips { records = mid.flips.records ++ flip ∷ [] }
-      → next_coin new ≡ next_coin old + 1 → Follows n pivots (product factors inverted ∷ []) old new
+      → next_coin new ≡ next_coin old + 1 → DiffersAlong n pivots (product factors inverted ∷ []) old new
   follows-product factors inverted distinct flip mid ea is letters flips coin =
       follows-step (product factors inverted) (letters ∙ letters-so (string_of n factors) distinct flip mid ea is)
       (measured-flips mid (flip ∷ []) is.flips flips

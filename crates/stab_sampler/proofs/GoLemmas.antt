@@ -1,10 +1,10 @@
 -- All lanes over steps, one by one and one after another, and what they need of the run stays there.
-use Rattle.stab_sampler.proofs.Names.{◌≡◌, ℕ, ◌+◌, ◌<◌, ◌≤◌, refl, sym, ◌∙◌, ap, subst, Bool, List, [], ◌∷◌, ◌++◌, append-nil, length, map, map-append, take, get_or, arith, map_more, take_all, ones, Letter, Gate, PairGate, single, image, image_pair, plus, times_where, Step, one, two, controlled, detector, observable, coins_of, coins-append, joined, joined-nothing, letters_after, flips_given, looked_up, parity, lane_bits, lane_letters, lane_output, lane_additions, lane_pivots, frame_of_difference, lane_difference, without_outcomes, RecordedPivots, Frames, Lanes, Follows, MayPropagate, GoOver}
+use Rattle.stab_sampler.proofs.Names.{◌≡◌, ℕ, ◌+◌, ◌<◌, ◌≤◌, refl, sym, ◌∙◌, ap, subst, Bool, List, [], ◌∷◌, ◌++◌, append-nil, length, map, map-append, take, get_or, arith, map_more, take_all, ones, Letter, Gate, PairGate, single, image, image_pair, plus, times_where, Step, one, two, controlled, detector, observable, coins_of, coins-append, joined, joined-nothing, letters_after, flips_given, looked_up, parity, lane_bits, lane_letters, lane_output, lane_additions, lane_pivots, frame_of_difference, lane_difference, without_outcomes, RecordedPivots, Frames, Lanes, DiffersAlong, MayPropagateLanes, GoOver}
 use Rattle.stab_sampler.proofs.FollowLemmas.{follows-none, follows-append, follows-step}
 
 -- lanes on as many qubits, after as many coins
-pub may-still : {W : Type 0} (recorded_pivots : RecordedPivots) (old new : Lanes W) → MayPropagate recorded_pivots old
-    → length new.frames.letters.items ≡ length old.frames.letters.items → new.free.items ≡ old.free.items → new.number ≡ old.number → MayPropagate recorded_pivots new
+pub may-still : {W : Type 0} (recorded_pivots : RecordedPivots) (old new : Lanes W) → MayPropagateLanes recorded_pivots old
+    → length new.frames.letters.items ≡ length old.frames.letters.items → new.free.items ≡ old.free.items → new.number ≡ old.number → MayPropagateLanes recorded_pivots new
 may-still recorded_pivots old new may size free number = record {
   all = may.all;
   counted = number ∙ may.counted ∙ ap (λ bits. ones (take (length bits) recorded_pivots.free.now)) (sym free);
@@ -14,7 +14,7 @@ may-still recorded_pivots old new may size free number = record {
 module _ {W : Type 0} {at : W → ℕ → Bool} {count : ℕ} {recorded_pivots : RecordedPivots} {coins : ℕ → ℕ → Bool} where
   -- over none, and over steps one after another
 
-  pub go-none : (lanes : Lanes W) → MayPropagate recorded_pivots lanes → GoOver at count recorded_pivots coins [] lanes lanes
+  pub go-none : (lanes : Lanes W) → MayPropagateLanes recorded_pivots lanes → GoOver at count recorded_pivots coins [] lanes lanes
   go-none lanes may = record {
     may = may;
     coin = omega arith;
@@ -49,9 +49,9 @@ module _ {W : Type 0} {at : W → ℕ → Bool} {count : ℕ} {recorded_pivots :
   go-as xs ys old new e is = subst (λ zs. GoOver at count recorded_pivots coins zs old new) (sym e) is
 
   -- over one step, after whose coin lanes may go on
-  pub go-step : (x : Step) (old mid new : Lanes W) → MayPropagate recorded_pivots mid → length new.free.items ≡ length old.free.items + coins_of x
+  pub go-step : (x : Step) (old mid new : Lanes W) → MayPropagateLanes recorded_pivots mid → length new.free.items ≡ length old.free.items + coins_of x
       → length new.frames.letters.items ≡ length mid.frames.letters.items → new.free.items ≡ mid.free.items → new.number ≡ mid.number
-      → ((l : ℕ) → l < count → Follows recorded_pivots.strings.now.qubits (lane_pivots recorded_pivots (coins l)) (x ∷ []) (lane_difference at l old) (lane_difference at l new))
+      → ((l : ℕ) → l < count → DiffersAlong recorded_pivots.strings.now.qubits (lane_pivots recorded_pivots (coins l)) (x ∷ []) (lane_difference at l old) (lane_difference at l new))
       → GoOver at count recorded_pivots coins (x ∷ []) old new
   go-step x old mid new may coin size free number follow = record {
     may = may-still recorded_pivots mid new may size free number;
@@ -60,7 +60,7 @@ module _ {W : Type 0} {at : W → ℕ → Bool} {count : ℕ} {recorded_pivots :
   }
 
   -- over one that has no coin, by what becomes of the letters of each lane, and what it gives
-  go-still : (x : Step) (old new : Lanes W) → coins_of x ≡ 0 → MayPropagate recorded_pivots old
+  go-still : (x : Step) (old new : Lanes W) → coins_of x ≡ 0 → MayPropagateLanes recorded_pivots old
       → length new.frames.letters.items ≡ length old.frames.letters.items → new.free.items ≡ old.free.items → new.number ≡ old.number
       → ((l : ℕ) → l < count → lane_letters at l new.frames.letters.items
       ≡ letters_after recorded_pivots.strings.now.qubits (lane_pivots recorded_pivots (coins l)) x (length old.free.items) (frame_of_difference (lane_difference at l old)))
@@ -74,7 +74,7 @@ module _ {W : Type 0} {at : W → ℕ → Bool} {count : ℕ} {recorded_pivots :
 
   -- that changes the frames alone
 
-  module _ (old : Lanes W) (frames : Frames W) (may : MayPropagate recorded_pivots old) (size : length frames.letters.items ≡ length old.frames.letters.items) where
+  module _ (old : Lanes W) (frames : Frames W) (may : MayPropagateLanes recorded_pivots old) (size : length frames.letters.items ≡ length old.frames.letters.items) where
     pub go-one : (g : Gate) (q : ℕ)
         → ((l : ℕ) → l < count → lane_letters at l frames.letters.items ≡ (image g q (plus (lane_letters at l old.frames.letters.items))).letters)
         → GoOver at count recorded_pivots coins (one g q ∷ []) old (record old { frames = frames })
@@ -97,7 +97,7 @@ module _ {W : Type 0} {at : W → ℕ → Bool} {count : ℕ} {recorded_pivots :
 
   -- that gives a parity of records
 
-  module _ (ks : List ℕ) (old new : Lanes W) (bits : W) (records : List W) (may : MayPropagate recorded_pivots old) (are : records ≡ old.records.items)
+  module _ (ks : List ℕ) (old new : Lanes W) (bits : W) (records : List W) (may : MayPropagateLanes recorded_pivots old) (are : records ≡ old.records.items)
       (is : (l : ℕ) → l < count → at bits l ≡ parity (lane_bits at l records) ks) where
     pub go-detector : new ≡ record old { detectors = new.detectors } → new.detectors.items ≡ old.detectors.items ++ bits ∷ []
         → GoOver at count recorded_pivots coins (detector ks ∷ []) old new

@@ -1,8 +1,8 @@
 -- Runs of lanes: lanes that are propagated over the steps of a run with all coins 0, stretch by stretch, are runs.
-use Rattle.stab_sampler.proofs.Names.{◌≡◌, ℕ, ◌+◌, refl, sym, ◌∙◌, ap, subst, Bool, false, List, [], ◌∷◌, ◌++◌, length, replicate, set, get_or, arith, Option, length-replicate, length-set, replicate-append-replicate, Letter, I, ◌⊕◌, parity-false, Items, Step, unroll, observables_of, Addition, Shot, State, start, run, run_of, RunOutput, nothing, origin, joined, point_after, outputs, all_coins_of, with_additions, state_at, StepFits, run-state, records-are-records, flipped, Frame, AreFronts, RunPivots, pivots_of, changed, AreRight, AreEnough, frame_over, flips_over, right-enough, coins-append, coins-are, by_frame-same, fronts-outputs, fronts-matches, fronts-by_frame, records-flipped, flags-flipped, detectors-flipped, observables-flipped, Shots, AreRuns, IsShot, zero_coins, Difference, frame_of_difference, next_coin, Follows, IsLane, IsAsLong, AreFlipped, without_outcomes}
+use Rattle.stab_sampler.proofs.Names.{◌≡◌, ℕ, ◌+◌, refl, sym, ◌∙◌, ap, subst, Bool, false, List, [], ◌∷◌, ◌++◌, length, replicate, set, get_or, arith, Option, length-replicate, length-set, replicate-append-replicate, Letter, I, ◌⊕◌, parity-false, Items, Step, unroll, observables_of, Addition, Shot, State, start, run, run_of, RunOutput, nothing, origin, joined, point_after, outputs, all_coins_of, with_additions, state_at, StepFits, run-state, records-are-records, flipped, Frame, AreFronts, RunPivots, pivots_of, coins_changed, AreRight, AreEnough, frame_over, flips_over, right-enough, coins-append, coins-are, by_frame-same, fronts-outputs, fronts-matches, fronts-by_frame, records-flipped, flags-flipped, detectors-flipped, observables-flipped, Shots, AreRuns, IsShot, zero_coins, Difference, frame_of_difference, next_coin, DiffersAlong, IsLane, IsAsLong, AreFlipped, without_outcomes}
 use Rattle.std.specs.Prelude.{All}
 use Rattle.stab_sampler.proofs.RecordingLemmas.{run-items}
-use Rattle.stab_recording.proofs.FlippedLemmas.{flips-free, flipped-zeros}
+use Rattle.stab_recording.proofs.FlippedLemmas.{flips-random, flipped-zeros}
 
 -- a lane before the first step
 pub lane-first : (n : ℕ) (coins : ℕ → Bool) (d : Difference) → d.letters ≡ replicate n I → d.flips ≡ nothing → IsLane n coins [] d
@@ -21,7 +21,7 @@ lane-first n coins d blank empty =
 -- and after further steps, of which pivots are right
 module _ (n : ℕ) (coins : ℕ → Bool) (xs ys : List Step) (fits : All (StepFits n) xs) (later : All (StepFits n) ys) (strings : ℕ → Option (List Letter))
     (right : AreRight n zero_coins strings ys (point_after n zero_coins xs origin)) (a b : Difference) (lane : IsLane n coins xs a)
-    (advanced : Follows n (pivots_of strings coins) ys a b) where
+    (advanced : DiffersAlong n (pivots_of strings coins) ys a b) where
   abbrev pivots : RunPivots
   pivots = pivots_of strings coins
 
@@ -50,7 +50,7 @@ module _ (n : ℕ) (coins : ℕ → Bool) (xs ys : List Step) (fits : All (StepF
   flips : b.flips ≡ joined a.flips (without_outcomes (flips_over n pivots ys p f))
   flips = advanced.flips ∙ ap (λ c. joined a.flips (without_outcomes (flips_over n pivots ys c f))) coin
 
-  further : AreFronts n zero_coins (changed zero_coins coins) (xs ++ ys) (xs ++ ys) (frame_over n pivots ys p f) (joined lane.flips (flips_over n pivots ys p f))
+  further : AreFronts n zero_coins (coins_changed zero_coins coins) (xs ++ ys) (xs ++ ys) (frame_over n pivots ys p f) (joined lane.flips (flips_over n pivots ys p f))
   further = record {
     by_frame = fronts-by_frame n zero_coins pivots xs xs ys f lane.flips fits later lane.fronts enough;
     given = fronts-outputs n zero_coins pivots xs xs ys f lane.flips fits later lane.fronts enough;
@@ -60,11 +60,11 @@ module _ (n : ℕ) (coins : ℕ → Bool) (xs ys : List Step) (fits : All (StepF
   pub lane-further : IsLane n coins (xs ++ ys) b
   lane-further = record {
     flips = joined lane.flips (flips_over n pivots ys p f);
-    fronts = subst (λ g. AreFronts n zero_coins (changed zero_coins coins) (xs ++ ys) (xs ++ ys) g (joined lane.flips (flips_over n pivots ys p f))) (sym frame) further;
+    fronts = subst (λ g. AreFronts n zero_coins (coins_changed zero_coins coins) (xs ++ ys) (xs ++ ys) g (joined lane.flips (flips_over n pivots ys p f))) (sym frame) further;
     kept = flips ∙ ap (λ o. joined o (without_outcomes (flips_over n pivots ys p f))) lane.kept;
     still =
         ap (λ (o : RunOutput). o.free) flips
-        ∙ (λ i. lane.still i ++ flips-free n pivots ys p f i)
+        ∙ (λ i. lane.still i ++ flips-random n pivots ys p f i)
         ∙ replicate-append-replicate (all_coins_of xs) (all_coins_of ys) false
         ∙ ap (λ k. replicate k false) (sym (coins-append xs ys));
   }
@@ -82,10 +82,10 @@ module _ (n : ℕ) (coins : ℕ → Bool) (items : Items) (shot : Shot) (is : Is
   abbrev xs : List Step
   xs = unroll items
 
-  same_coins : changed zero_coins coins ≡ coins
+  same_coins : coins_changed zero_coins coins ≡ coins
   same_coins = λ i t. parity-false (coins t) i
 
-  lane_state : run n (changed zero_coins coins) xs (start count) ≡ run_of n coins items
+  lane_state : run n (coins_changed zero_coins coins) xs (start count) ≡ run_of n coins items
   lane_state = (λ i. run n (same_coins i) xs (start count)) ∙ run-items n coins items xs count refl number
 
   zero_state : run n zero_coins xs (start count) ≡ run_of n zero_coins items
@@ -113,7 +113,7 @@ module _ (n : ℕ) (coins : ℕ → Bool) (items : Items) (shot : Shot) (is : Is
         records =
             are.records
             ∙ ap (λ bits. flipped bits lane.flips.records) (is.records ∙ sym (ap (λ (s : State). s.records) zero_state))
-            ∙ sym (records-flipped n zero_coins (changed zero_coins coins) xs xs count lane.flips lane.fronts.given lane.fronts.matches)
+            ∙ sym (records-flipped n zero_coins (coins_changed zero_coins coins) xs xs count lane.flips lane.fronts.given lane.fronts.matches)
             ∙ ap (λ (s : State). s.records) lane_state;
         free =
             are.free
@@ -121,16 +121,16 @@ module _ (n : ℕ) (coins : ℕ → Bool) (items : Items) (shot : Shot) (is : Is
             ∙ sym (ap (λ (s : State). s.free) zero_state)
             ∙ sym (flipped-zeros (run n zero_coins xs (start count)).free (all_coins_of xs))
             ∙ ap (flipped (run n zero_coins xs (start count)).free) (sym (ap (λ (o : RunOutput). o.free) (sym lane.kept) ∙ lane.still))
-            ∙ sym (flags-flipped n zero_coins (changed zero_coins coins) xs xs count lane.flips lane.fronts.given lane.fronts.matches)
+            ∙ sym (flags-flipped n zero_coins (coins_changed zero_coins coins) xs xs count lane.flips lane.fronts.given lane.fronts.matches)
             ∙ ap (λ (s : State). s.free) lane_state;
         detectors =
             are.detectors
             ∙ ap (λ bits. flipped bits lane.flips.detectors) (is.detectors ∙ sym (ap (λ (s : State). s.detectors) zero_state))
-            ∙ sym (detectors-flipped n zero_coins (changed zero_coins coins) xs xs count lane.flips lane.fronts.given lane.fronts.matches)
+            ∙ sym (detectors-flipped n zero_coins (coins_changed zero_coins coins) xs xs count lane.flips lane.fronts.given lane.fronts.matches)
             ∙ ap (λ (s : State). s.detectors) lane_state;
         observables =
             are.observables
             ∙ ap (λ bits. flipped bits (with_additions lane.flips.additions (replicate count false))) (is.observables ∙ sym (ap (λ (s : State). s.observables) zero_state))
-            ∙ sym (observables-flipped n zero_coins (changed zero_coins coins) xs xs count lane.flips lane.fronts.given lane.fronts.matches)
+            ∙ sym (observables-flipped n zero_coins (coins_changed zero_coins coins) xs xs count lane.flips lane.fronts.given lane.fronts.matches)
             ∙ ap (λ (s : State). s.observables) lane_state;
       }

@@ -1,7 +1,7 @@
 mod Names
 pub mod WordLemmas
 pub mod WideLemmas
-pub mod MovedBitLemmas
+pub mod ShiftedBitLemmas
 pub mod ExchangeLemmas
 pub mod DigitLemmas
 pub mod ColumnLemmas
@@ -9,7 +9,7 @@ pub mod TransposeLemmas
 pub mod RowLemmas
 pub mod FrameLemmas
 pub mod LaneLemmas
-pub mod PlaceLemmas
+pub mod PositionLemmas
 pub mod SeedLemmas
 pub mod UnitLemmas
 pub mod FollowLemmas

@@ -1,6 +1,6 @@
 -- Pivots: strings that a run recorded are right for it if there is one for each random outcome, and what is recorded of a coin.
 use Rattle.stab_sampler.proofs.Names.{◌≡◌, ℕ, ◌+◌, refl, sym, ◌∙◌, ap, Bool, true, false, List, [], ◌∷◌, ◌++◌, append_assoc, length, take, drop, get_or, arith, Option, Some, None, IfSome, Letter, ◌⊕◌, Signed, member, Step, ones, Point, coins_of, given, next_point, outputs, times_where, IsPivotOf, flip_by, letters_for, IsRightAt, AreRight, pivot_at, IsTrueAt, AreTrue, RecordedPivots, HasAll, lane_pivots, Difference, next_coin, IsMeasuredBy}
-use Rattle.stab_frames.proofs.FreeLemmas.{ones-next, pivot-none, pivot-some}
+use Rattle.stab_frames.proofs.RandomLemmas.{ones-next, pivot-none, pivot-some}
 use Rattle.stab_frames.proofs.PivotAtLemmas.{ones-before}
 use Rattle.stab_frames.proofs.PropagatedLemmas.{kept-pivot}
 use Rattle.stab_run.specs.Runs.{measured_by}

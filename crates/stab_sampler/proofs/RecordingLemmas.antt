@@ -1,5 +1,5 @@
 -- Recordings: where a run goes over further steps, what it gives, and what is recorded of them.
-use Rattle.stab_sampler.proofs.Names.{◌≡◌, ℕ, zero, suc, ◌+◌, ◌≤◌, min, refl, sym, ◌∙◌, ap, subst, Bool, false, List, [], ◌++◌, append-nil, length, take, drop, replicate, arith, None, slice_get, take-append_seam, drop-append_seam, slice_get_past, Signed, Items, Step, unroll, observables_of, Shot, ones, State, start, run, run_of, Point, RunOutput, joined, origin, point_after, outputs, all_coins_of, with_additions, state_at, ProgramState, IsAt, ComesTo, IsRun, after-append, outputs-append, ones-append, run-state, records-are-records, coins-steps, coins-are, PivotsState, pivot_at, IsNumbered, AreTrue, KeepsTrue, AreRight, true-none, true-rest, ones-few, zero_coins, IsShot}
+use Rattle.stab_sampler.proofs.Names.{◌≡◌, ℕ, zero, suc, ◌+◌, ◌≤◌, min, refl, sym, ◌∙◌, ap, subst, Bool, false, List, [], ◌++◌, append-nil, length, take, drop, replicate, arith, None, slice_get, take-append_seam, drop-append_seam, slice_get_past, Signed, Items, Step, unroll, observables_of, Shot, ones, State, start, run, run_of, Point, RunOutput, joined, origin, point_after, outputs, all_coins_of, with_additions, state_at, ProgramState, IsAt, ProgramComesTo, IsRun, after-append, outputs-append, ones-append, run-state, records-are-records, coins-steps, coins-are, PivotsState, pivot_at, IsNumbered, AreTrue, KeepsTrue, AreRight, true-none, true-rest, ones-few, zero_coins, IsShot}
 use Rattle.std.proofs.Common.{length-append}
 use Rattle.std.specs.Prelude.{slice_index_or}
 use Rattle.stab_sampler.proofs.PivotLemmas.{right-from}
@@ -32,7 +32,7 @@ module _ (n : ℕ) (xs ys : List Step) (u : Signed → Bool) (o : RunOutput) (ze
   begun : IsAt n mid p
   begun = record { group = here.group; coin = count ∙ here.coin; records = here.records }
 
-  advanced : ComesTo n zero_coins ys mid new p
+  advanced : ProgramComesTo n zero_coins ys mid new p
   advanced = is p begun
 
   coin : length zeros ≡ all_coins_of xs
@@ -54,8 +54,8 @@ module _ (n : ℕ) (xs ys : List Step) (u : Signed → Bool) (o : RunOutput) (ze
       ∙ ap (λ (o : RunOutput). joined o more) gave
       ∙ sym (outputs-append n zero_coins xs ys origin)
 
-  pub determined-free : drop (all_coins_of xs) new.output.free ≡ more.free
-  determined-free = ap (λ k. drop k new.output.free) (sym coin) ∙ determined-following
+  pub determined-random : drop (all_coins_of xs) new.output.free ≡ more.free
+  determined-random = ap (λ k. drop k new.output.free) (sym coin) ∙ determined-following
 
   pub others-not : ones (take (all_coins_of xs) new.output.free) ≡ 0
   others-not =
@@ -63,8 +63,8 @@ module _ (n : ℕ) (xs ys : List Step) (u : Signed → Bool) (o : RunOutput) (ze
       ∙ ap ones (take-append_seam zeros more.free)
       ∙ none
 
-  pub free-few : ones new.output.free ≤ length ys
-  free-few =
+  pub random-few : ones new.output.free ≤ length ys
+  random-few =
       let parts = ap ones flags-new ∙ ones-append zeros more.free in
       let long = ap length flags-new ∙ length-append zeros more.free in
       omega (arith, parts, none, ones-few more.free, long, advanced.shows.coin, coins-are n zero_coins ys p, begun.coin, coins-steps ys)

@@ -3,7 +3,7 @@ use Rattle.stab_sampler.proofs.Names.{◌≡◌, ℕ, ◌*◌, ◌^◌, ◌<◌,
 use Rattle.stab_sampler.proofs.WordLemmas.{word_bit-zero}
 use Rattle.stab_sampler.proofs.SeedLemmas.{is_less, is_beyond}
 use Rattle.stab_sampler.proofs.WideLemmas.{wide_bit-all}
-use Rattle.stab_sampler.proofs.MovedBitLemmas.{word_bit-cut}
+use Rattle.stab_sampler.proofs.ShiftedBitLemmas.{word_bit-cut}
 
 alike : (a b : ℕ) → a ≡ b → (a == b) ≡ true
 alike a b e = grind (arith, e)

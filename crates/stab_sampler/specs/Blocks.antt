@@ -6,16 +6,16 @@ use Rattle.std.specs.List.{flat_map}
 use Rattle.std.specs.Int.{w64, to_le_bytes}
 
 -- of the bits of a mask, those that differ between a second word and a first one, there this many positions higher
-abbrev pub differing : (first second mask positions : ℕ) → ℕ
-differing first second mask positions = bit_and (bit_xor (first / 2 ^ positions) second) mask
+abbrev pub differing_bits : (first second mask positions : ℕ) → ℕ
+differing_bits first second mask positions = bit_and (bit_xor (first / 2 ^ positions) second) mask
 
 -- the first word after the two have exchanged these bits
 abbrev pub first_exchanged : (first second mask positions : ℕ) → ℕ
-first_exchanged first second mask positions = bit_xor first (differing first second mask positions * 2 ^ positions % 18446744073709551616)
+first_exchanged first second mask positions = bit_xor first (differing_bits first second mask positions * 2 ^ positions % 18446744073709551616)
 
 -- and the second word
 abbrev pub second_exchanged : (first second mask positions : ℕ) → ℕ
-second_exchanged first second mask positions = bit_xor second (differing first second mask positions)
+second_exchanged first second mask positions = bit_xor second (differing_bits first second mask positions)
 
 -- the bytes of a lane, the lowest of each word first
 abbrev pub row_bytes : (lane : ℕ) → List (List ℕ) → List ℕ

@@ -7,8 +7,8 @@ use Rattle.stab_items.specs.Steps.{Step}
 use Rattle.stab_run.specs.Records.{ones}
 use Rattle.stab_run.specs.Points.{RunOutput, nothing, joined, all_coins_of}
 use Rattle.stab_frames.specs.Frames.{Frame}
-use Rattle.stab_frames.specs.RunPivots.{RunPivots, changed}
-use Rattle.stab_frames.specs.Fronts.{AreFronts}
+use Rattle.stab_frames.specs.RunPivots.{RunPivots, coins_changed}
+use Rattle.stab_frames.specs.FirstSteps.{AreFronts}
 use Rattle.stab_frames.specs.FrameSteps.{flip_by, letters_for, frame_over, flips_over}
 use Rattle.stab_sampler.specs.declared.lanes.Lanes.{Lanes}
 use Rattle.stab_sampler.specs.declared.measure.RecordedPivots.{RecordedPivots}
@@ -38,7 +38,7 @@ abbrev pub next_coin : Difference → ℕ
 next_coin d = length d.flips.free
 
 -- with these pivots a difference went over steps, as frames do, but that flips of outcomes are kept nowhere
-pub record Follows (n : ℕ) (pivots : RunPivots) (xs : List Step) (old new : Difference) : Type 0 where
+pub record DiffersAlong (n : ℕ) (pivots : RunPivots) (xs : List Step) (old new : Difference) : Type 0 where
   pub frame : frame_of_difference new ≡ frame_over n pivots xs (next_coin old) (frame_of_difference old)
   pub flips : new.flips ≡ joined old.flips (without_outcomes (flips_over n pivots xs (next_coin old) (frame_of_difference old)))
   pub coin : next_coin new ≡ next_coin old + all_coins_of xs
@@ -50,28 +50,28 @@ pub record IsMeasuredBy (pivots : RunPivots) (anticommuting flip : Bool) (old ne
   pub flips : new.flips ≡ record old.flips { free = old.flips.free ++ false ∷ [] }
 
 -- lanes on as many qubits come to a step of a run of whose random outcomes there is a string each: as many are past as were random so far
-pub record MayPropagate {W : Type 0} (recorded_pivots : RecordedPivots) (lanes : Lanes W) : Type 0 where
+pub record MayPropagateLanes {W : Type 0} (recorded_pivots : RecordedPivots) (lanes : Lanes W) : Type 0 where
   pub all : HasAll recorded_pivots
   pub counted : lanes.number ≡ ones (take (length lanes.free.items) recorded_pivots.free.now)
   pub frames : length lanes.frames.letters.items ≡ recorded_pivots.strings.now.qubits
 
 -- all lanes went over steps, each with coins of its own
 pub record GoOver {W : Type 0} (at : W → ℕ → Bool) (count : ℕ) (recorded_pivots : RecordedPivots) (coins : ℕ → ℕ → Bool) (xs : List Step) (old new : Lanes W) : Type 0 where
-  pub may : MayPropagate recorded_pivots new
+  pub may : MayPropagateLanes recorded_pivots new
   pub coin : length new.free.items ≡ length old.free.items + all_coins_of xs
   pub follow : (l : ℕ) → l < count
-      → Follows recorded_pivots.strings.now.qubits (lane_pivots recorded_pivots (coins l)) xs (lane_difference at l old) (lane_difference at l new)
+      → DiffersAlong recorded_pivots.strings.now.qubits (lane_pivots recorded_pivots (coins l)) xs (lane_difference at l old) (lane_difference at l new)
 
 -- whatever is recorded, and whichever coins they have
-abbrev pub GoFreely : {W : Type 0} → (W → ℕ → Bool) → ℕ → List Step → Lanes W → Lanes W → Type 0
-GoFreely at count xs old new =
-    (recorded_pivots : RecordedPivots) (coins : ℕ → ℕ → Bool) → MayPropagate recorded_pivots old → GoOver at count recorded_pivots coins xs old new
+abbrev pub GoWithoutCoins : {W : Type 0} → (W → ℕ → Bool) → ℕ → List Step → Lanes W → Lanes W → Type 0
+GoWithoutCoins at count xs old new =
+    (recorded_pivots : RecordedPivots) (coins : ℕ → ℕ → Bool) → MayPropagateLanes recorded_pivots old → GoOver at count recorded_pivots coins xs old new
 
 -- after these steps from the first on: they give with the coins of a lane what they give with coins 0, flipped, and come to points that
 -- differ by its frame; which outcomes are random is flipped nowhere
 pub record IsLane (n : ℕ) (coins : ℕ → Bool) (xs : List Step) (d : Difference) : Type 0 where
   pub flips : RunOutput
-  pub fronts : AreFronts n zero_coins (changed zero_coins coins) xs xs (frame_of_difference d) flips
+  pub fronts : AreFronts n zero_coins (coins_changed zero_coins coins) xs xs (frame_of_difference d) flips
   pub kept : d.flips ≡ without_outcomes flips
   pub still : d.flips.free ≡ replicate (all_coins_of xs) false
 
@@ -81,6 +81,6 @@ no_difference n = record { letters = replicate n I; flips = nothing }
 
 -- lanes went over these steps, from the first on
 pub record ArePropagated {W : Type 0} (at : W → ℕ → Bool) (count : ℕ) (recorded_pivots : RecordedPivots) (coins : ℕ → ℕ → Bool) (xs : List Step) (lanes : Lanes W) : Type 0 where
-  pub may : MayPropagate recorded_pivots lanes
+  pub may : MayPropagateLanes recorded_pivots lanes
   pub follow : (l : ℕ) → l < count
-      → Follows recorded_pivots.strings.now.qubits (lane_pivots recorded_pivots (coins l)) xs (no_difference recorded_pivots.strings.now.qubits) (lane_difference at l lanes)
+      → DiffersAlong recorded_pivots.strings.now.qubits (lane_pivots recorded_pivots (coins l)) xs (no_difference recorded_pivots.strings.now.qubits) (lane_difference at l lanes)

@@ -15,7 +15,7 @@ use Rattle.stab_sampler.specs.declared.checkpoints.LaneCheckpoint.{LaneCheckpoin
 use Rattle.stab_sampler.specs.declared.measure.RecordedPivots.{RecordedPivots}
 use Rattle.stab_sampler.specs.Lanes.{lane_bits, lane_letters}
 use Rattle.stab_sampler.specs.RecordedPivots.{lane_pivots}
-use Rattle.stab_sampler.specs.Differences.{Difference, Follows, no_difference, ArePropagated}
+use Rattle.stab_sampler.specs.Differences.{Difference, DiffersAlong, no_difference, ArePropagated}
 
 -- a list this often, one after the other
 abbrev pub times : {X : Type 0} → ℕ → List X → List X
@@ -34,13 +34,13 @@ lengths_in lanes = record {
 -- these are the letters of a lane that went over these steps, and how much it has given
 pub record IsKeptAfter (n : ℕ) (pivots : RunPivots) (xs : List Step) (letters : List Letter) (lengths : Lengths) : Type 0 where
   pub before : Difference
-  pub advanced : Follows n pivots xs (no_difference n) before
+  pub advanced : DiffersAlong n pivots xs (no_difference n) before
   pub same : letters ≡ before.letters
   pub long : lengths ≡ lengths_of before.flips
 
 -- a checkpoint of lanes after its rounds of a repeat
-abbrev pub IsCheckpoint : {W : Type 0} → (W → ℕ → Bool) → ℕ → RecordedPivots → (ℕ → ℕ → Bool) → List Step → Repeat → LaneCheckpoint W → Type 0
-IsCheckpoint at count recorded_pivots coins steps r checkpoint =
+abbrev pub IsLaneCheckpoint : {W : Type 0} → (W → ℕ → Bool) → ℕ → RecordedPivots → (ℕ → ℕ → Bool) → List Step → Repeat → LaneCheckpoint W → Type 0
+IsLaneCheckpoint at count recorded_pivots coins steps r checkpoint =
     (l : ℕ) → l < count
     → IsKeptAfter recorded_pivots.strings.now.qubits (lane_pivots recorded_pivots (coins l)) (take (after_rounds r checkpoint.done) steps) (lane_letters at l checkpoint.letters.items) checkpoint.lengths
 
@@ -52,11 +52,11 @@ pub record IsAgain {W : Type 0} (at : W → ℕ → Bool) (l m : ℕ) (checkpoin
 -- lanes that went over some rounds, and may have a checkpoint after an earlier one, go over these many
 abbrev pub GoOn : {W : Type 0} → (W → ℕ → Bool) → ℕ → RecordedPivots → Repeat → Option (LaneCheckpoint W) → (done now : ℕ) → (old new : Lanes W) → Type 0
 GoOn at count recorded_pivots r checkpoint done now old new =
-    (coins : ℕ → ℕ → Bool) (steps : List Step) → IsRepeat steps r → IfSome checkpoint (IsCheckpoint at count recorded_pivots coins steps r)
+    (coins : ℕ → ℕ → Bool) (steps : List Step) → IsRepeat steps r → IfSome checkpoint (IsLaneCheckpoint at count recorded_pivots coins steps r)
     → ArePropagated at count recorded_pivots coins (take (after_rounds r done) steps) old → ArePropagated at count recorded_pivots coins (take (after_rounds r now) steps) new
 
 -- of lanes that went over these rounds a checkpoint is kept, or one that was kept before stays
 abbrev pub StaysKept : {W : Type 0} → (W → ℕ → Bool) → ℕ → Lanes W → Repeat → ℕ → (old new : Option (LaneCheckpoint W)) → Type 0
 StaysKept at count lanes r done old new =
     (recorded_pivots : RecordedPivots) (coins : ℕ → ℕ → Bool) (steps : List Step) → ArePropagated at count recorded_pivots coins (take (after_rounds r done) steps) lanes
-    → IfSome old (IsCheckpoint at count recorded_pivots coins steps r) → IfSome new (IsCheckpoint at count recorded_pivots coins steps r)
+    → IfSome old (IsLaneCheckpoint at count recorded_pivots coins steps r) → IfSome new (IsLaneCheckpoint at count recorded_pivots coins steps r)

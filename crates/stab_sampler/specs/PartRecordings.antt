@@ -20,13 +20,13 @@ pub record IsSized (n : ℕ) (r : PartRecording) : Type 0 where
   pub most : r.pivots.strings.most ≡ most_strings n
 
 -- what it gave, with the flags of all coin numbers
-abbrev pub given_by : PartRecording → RunOutput
-given_by r = record (output_of r.outputs) { free = r.free.items }
+abbrev pub given_by_part : PartRecording → RunOutput
+given_by_part r = record (output_of r.outputs) { free = r.free.items }
 
 -- it went over these steps
 pub record IsPartRecording (n : ℕ) (xs : List Step) (r : PartRecording) : Type 0 where
   pub arrived : IsAt n (program_state r.tableau (output_of r.outputs)) (point_after n zero_coins xs origin)
-  pub gave : given_by r ≡ outputs n zero_coins xs origin
+  pub gave : given_by_part r ≡ outputs n zero_coins xs origin
 
 -- of the steps ys, after others, the random outcomes are reported, and no other; their strings are recorded as far as there may be as many,
 -- and right if all are

@@ -9,8 +9,7 @@ use Rattle.stab_frames.specs.PivotsOfSteps.{AreRight}
 use Rattle.stab_frames.specs.Pivots.{pivot_at}
 use Rattle.stab_sampler.specs.declared.reference.Reference.{Reference}
 use Rattle.stab_sampler.specs.Shots.{IsShot}
-pub use Rattle.stab_sampler.specs.RecordedPivots.{most_pivots}
-pub use Rattle.stab_run.specs.Coins.{zero_coins}
+use Rattle.stab_run.specs.Coins.{zero_coins}
 
 -- nothing refuses the items on n qubits, the shot is their run with all coins 0, and each random outcome has a string that exchanges it
 pub record IsReference (n : ℕ) (items : Items) (r : Reference) : Type 0 where

@@ -1,7 +1,7 @@
 //! One outcome, on lanes that are propagated over what is recorded of a run. Lanes keep flips instead of bits.
 ghost use Rattle.std.specs.Prelude.{◌≡◌, ℕ, ◌+◌, ◌<◌, length, IfOk, OnOk};
 ghost use Rattle.stab_sampler.specs.RecordedPivots.{lane_pivots};
-ghost use Rattle.stab_sampler.specs.Differences.{lane_difference, MayPropagate, IsMeasuredBy};
+ghost use Rattle.stab_sampler.specs.Differences.{lane_difference, MayPropagateLanes, IsMeasuredBy};
 
 use crate::coins::Draw;
 use crate::lanes::Lanes;
@@ -26,8 +26,8 @@ pub fn decide<W: Word, D: Draw<W>>(
     lanes: &mut Lanes<W>,
     anticommuting: W,
 ) -> Result<W, AllocError>
-    requires may { MayPropagate recorded_pivots lanes.old }
-    ensures may { OnOk result (MayPropagate recorded_pivots.entry lanes.new) }
+    requires may { MayPropagateLanes recorded_pivots lanes.old }
+    ensures may { OnOk result (MayPropagateLanes recorded_pivots.entry lanes.new) }
     ensures coin { OnOk result (length lanes.new.free.items ≡ length lanes.old.free.items + 1) }
     ensures same_coins { D.sequences draw.new ≡ D.sequences draw.old }
     ensures measures { IfOk result (λ flips. (l : ℕ) → l < W.lanes → IsMeasuredBy (lane_pivots recorded_pivots.entry (D.sequences draw.old l)) (W.at anticommuting l) (W.at flips l) (lane_difference W.at l lanes.old) (lane_difference W.at l lanes.new)) }

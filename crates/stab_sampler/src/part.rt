@@ -4,7 +4,7 @@ ghost use Rattle.stab_io.specs.declared.refusal.Refusal.TheVariants.{OutOfMemory
 ghost use Rattle.stab_items.specs.Steps.{unroll, check_within};
 ghost use Rattle.stab_items.specs.Views.{circuit_items};
 ghost use Rattle.stab_run.specs.ProgramStates.{StepFits};
-ghost use Rattle.stab_sampler.specs.Differences.{MayPropagate, GoOver, ArePropagated};
+ghost use Rattle.stab_sampler.specs.Differences.{MayPropagateLanes, GoOver, ArePropagated};
 
 use crate::coins::Draw;
 use crate::lanes::Lanes;
@@ -27,7 +27,7 @@ pub fn propagate_part<W: Word, D: Draw<W>>(
 ) -> Result<(), Refusal>
     requires checked { check_within recorded_pivots.strings.now.qubits (circuit_items circuit.now) ≡ None }
     requires in_range { from ≤ length (unroll (circuit_items circuit.now)) }
-    requires may { MayPropagate recorded_pivots lanes.old }
+    requires may { MayPropagateLanes recorded_pivots lanes.old }
     ensures same_coins { D.sequences draw.new ≡ D.sequences draw.old }
     ensures goes { OnOk result (GoOver W.at W.lanes recorded_pivots.entry (D.sequences draw.old) (take count (drop from (unroll (circuit_items circuit.now)))) lanes.old lanes.new) }
     ensures fits { OnOk result (All (StepFits recorded_pivots.entry.strings.now.qubits) (unroll (circuit_items circuit.now))) }

@@ -1,7 +1,7 @@
 //! What lanes flipped in some rounds, appended again.
 ghost use Rattle.std.specs.Prelude.{◌≡◌, ℕ, ◌++◌, drop, OnOk};
 ghost use Rattle.stab_run.specs.Points.{joined};
-ghost use Rattle.stab_run.specs.RoundLaws.{copies};
+ghost use Rattle.stab_run.specs.RoundLaws.{output_copies};
 ghost use Rattle.stab_run.specs.Cuts.{rest_of};
 ghost use Rattle.stab_sampler.specs.Lanes.{lane_output};
 ghost use Rattle.stab_sampler.specs.LaneCheckpoints.{times};
@@ -34,7 +34,7 @@ pub fn repeat_flips<W: Word>(
     ensures frames { lanes.new.frames ≡ lanes.old.frames }
     ensures number { lanes.new.number ≡ lanes.old.number }
     ensures free { OnOk result (lanes.new.free.items ≡ lanes.old.free.items ++ times count (drop lengths.free lanes.old.free.items)) }
-    ensures output { OnOk result ((l : ℕ) → lane_output W.at l lanes.new ≡ joined (lane_output W.at l lanes.old) (copies count (rest_of lengths (lane_output W.at l lanes.old)))) }
+    ensures output { OnOk result ((l : ℕ) → lane_output W.at l lanes.new ≡ joined (lane_output W.at l lanes.old) (output_copies count (rest_of lengths (lane_output W.at l lanes.old)))) }
 {
     append_times(&mut lanes.records, lengths.records, count)?;
     append_times(&mut lanes.free, lengths.free, count)?;

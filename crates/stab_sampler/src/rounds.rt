@@ -7,7 +7,7 @@ ghost use Rattle.stab_items.specs.Views.{circuit_items};
 ghost use Rattle.stab_items.specs.Repeats.{IsRepeat, AreRepeats};
 ghost use Rattle.stab_run.specs.ProgramStates.{StepFits};
 ghost use Rattle.stab_recording.specs.inner.Advanced.{after_rounds};
-ghost use Rattle.stab_sampler.specs.LaneCheckpoints.{IsCheckpoint, GoOn, StaysKept};
+ghost use Rattle.stab_sampler.specs.LaneCheckpoints.{IsLaneCheckpoint, GoOn, StaysKept};
 ghost use Rattle.stab_sampler.specs.Differences.{ArePropagated};
 
 use crate::checkpoints::{LaneCheckpoint, are_deterministic, comes_again};
@@ -97,12 +97,12 @@ fn propagate_round<W: Word, D: Draw<W>>(
     requires repeat { IsRepeat (unroll (circuit_items circuit.now)) repeat }
     requires within { done < repeat.rounds }
     requires earlier { IfSome checkpoint.old (λ m. m.done ≤ done) }
-    requires checkpoint { IfSome checkpoint.old (IsCheckpoint W.at W.lanes recorded_pivots (D.sequences draw.old) (unroll (circuit_items circuit.now)) repeat) }
+    requires checkpoint { IfSome checkpoint.old (IsLaneCheckpoint W.at W.lanes recorded_pivots (D.sequences draw.old) (unroll (circuit_items circuit.now)) repeat) }
     requires advanced { ArePropagated W.at W.lanes recorded_pivots (D.sequences draw.old) (take (after_rounds repeat done) (unroll (circuit_items circuit.now))) lanes.old }
     ensures same_coins { D.sequences draw.new ≡ D.sequences draw.old }
     ensures more { IfOk result (λ now. (done < now) × (now ≤ repeat.rounds)) }
     ensures earlier { IfOk result (λ now. IfSome checkpoint.new (λ m. m.done ≤ now)) }
-    ensures checkpoint { OnOk result (IfSome checkpoint.new (IsCheckpoint W.at W.lanes recorded_pivots.entry (D.sequences draw.old) (unroll (circuit_items circuit.now)) repeat)) }
+    ensures checkpoint { OnOk result (IfSome checkpoint.new (IsLaneCheckpoint W.at W.lanes recorded_pivots.entry (D.sequences draw.old) (unroll (circuit_items circuit.now)) repeat)) }
     ensures advanced { IfOk result (λ now. ArePropagated W.at W.lanes recorded_pivots.entry (D.sequences draw.old) (take (after_rounds repeat now) (unroll (circuit_items circuit.now))) lanes.new) }
     ensures err { IfErr result (λ r. r ≡ OutOfMemory) }
 {

@@ -2,12 +2,12 @@
 ghost use Rattle.std.specs.Prelude.{◌≡◌, ℕ, ◌<◌, ◌∷◌, [], ◌++◌, ◌&&◌, if◌then◌else◌, length, OnOk};
 ghost use Rattle.stab_pauli.specs.Paulis.{single};
 ghost use Rattle.stab_frames.specs.Frames.{times_where};
-ghost use Rattle.stab_items.specs.Steps.{detector};
-ghost use Rattle.stab_items.specs.Cursors.{step_shown, HasDistinctQubits};
+ghost use Rattle.stab_items.specs.Steps.{detector, HasDistinctQubits};
+ghost use Rattle.stab_items.specs.StepValues.{step_shown};
 ghost use Rattle.stab_run.specs.Runs.{flip_of};
 ghost use Rattle.stab_run.specs.ProgramStates.{StepFits};
 ghost use Rattle.stab_sampler.specs.Lanes.{lane_letters};
-ghost use Rattle.stab_sampler.specs.Differences.{MayPropagate, GoOver, GoFreely};
+ghost use Rattle.stab_sampler.specs.Differences.{MayPropagateLanes, GoOver, GoWithoutCoins};
 
 use crate::coins::Draw;
 use crate::frames::Frames;
@@ -45,7 +45,7 @@ pub fn propagate_detector<W: Word>(
     lanes: &mut Lanes<W>,
     lookbacks: &[u32],
 ) -> Result<(), AllocError>
-    ensures goes { OnOk result (GoFreely W.at W.lanes (detector lookbacks.now ∷ []) lanes.old lanes.new) }
+    ensures goes { OnOk result (GoWithoutCoins W.at W.lanes (detector lookbacks.now ∷ []) lanes.old lanes.new) }
 {
     let flips = parity(lanes.records.as_slice(), lookbacks);
     lanes.detectors.push(flips)?;
@@ -59,7 +59,7 @@ pub fn propagate_step<W: Word, D: Draw<W>>(
     lanes: &mut Lanes<W>,
     step: Step,
 ) -> Result<(), AllocError>
-    requires may { MayPropagate recorded_pivots lanes.old }
+    requires may { MayPropagateLanes recorded_pivots lanes.old }
     requires fits { StepFits recorded_pivots.strings.now.qubits (step_shown step) }
     requires distinct { HasDistinctQubits (step_shown step) }
     ensures same_coins { D.sequences draw.new ≡ D.sequences draw.old }

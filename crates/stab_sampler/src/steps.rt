@@ -1,9 +1,9 @@
 //! Steps of one instruction, or of detectors, together on the lanes that are propagated over what is recorded of a run.
 ghost use Rattle.std.specs.Prelude.{◌≡◌, ◌∷◌, [], All, length, map, OnOk};
 ghost use Rattle.stab_items.specs.Steps.{one, controlled_step, measured, detector};
-ghost use Rattle.stab_items.specs.Cursors.{lookbacks_of, steps_shown, HaveDistinctQubits};
+ghost use Rattle.stab_items.specs.StepValues.{lookbacks_of, steps_shown, HaveDistinctQubits};
 ghost use Rattle.stab_run.specs.ProgramStates.{StepFits};
-ghost use Rattle.stab_sampler.specs.Differences.{MayPropagate, GoOver, GoFreely};
+ghost use Rattle.stab_sampler.specs.Differences.{MayPropagateLanes, GoOver, GoWithoutCoins};
 
 use crate::coins::Draw;
 use crate::lanes::{Lanes, looked_up};
@@ -19,7 +19,7 @@ use std::alloc::AllocError;
 fn propagate_gates<W: Word>(lanes: &mut Lanes<W>, gate: Gate, qubits: &[Qubit])
     requires fits { All (StepFits (length lanes.old.frames.letters.items)) (map (one gate) qubits.now) }
     ensures frames { length lanes.new.frames.letters.items ≡ length lanes.old.frames.letters.items }
-    ensures goes { GoFreely W.at W.lanes (map (one gate) qubits.now) lanes.old lanes.new }
+    ensures goes { GoWithoutCoins W.at W.lanes (map (one gate) qubits.now) lanes.old lanes.new }
 {
     for qubit in qubits {
         lanes.frames.apply(gate, qubit.number());
@@ -30,7 +30,7 @@ fn propagate_gates<W: Word>(lanes: &mut Lanes<W>, gate: Gate, qubits: &[Qubit])
 fn propagate_pair<W: Word>(lanes: &mut Lanes<W>, axis: Axis, pair: ControlledPair)
     requires fits { StepFits (length lanes.old.frames.letters.items) (controlled_step axis pair) }
     ensures frames { length lanes.new.frames.letters.items ≡ length lanes.old.frames.letters.items }
-    ensures goes { GoFreely W.at W.lanes (controlled_step axis pair ∷ []) lanes.old lanes.new }
+    ensures goes { GoWithoutCoins W.at W.lanes (controlled_step axis pair ∷ []) lanes.old lanes.new }
 {
     match pair {
         ControlledPair::Qubits(pair) => {
@@ -53,7 +53,7 @@ fn propagate_pair<W: Word>(lanes: &mut Lanes<W>, axis: Axis, pair: ControlledPai
 fn propagate_pairs<W: Word>(lanes: &mut Lanes<W>, axis: Axis, pairs: &[ControlledPair])
     requires fits { All (StepFits (length lanes.old.frames.letters.items)) (map (controlled_step axis) pairs.now) }
     ensures frames { length lanes.new.frames.letters.items ≡ length lanes.old.frames.letters.items }
-    ensures goes { GoFreely W.at W.lanes (map (controlled_step axis) pairs.now) lanes.old lanes.new }
+    ensures goes { GoWithoutCoins W.at W.lanes (map (controlled_step axis) pairs.now) lanes.old lanes.new }
 {
     for pair in pairs {
         propagate_pair(lanes, axis, *pair);
@@ -68,7 +68,7 @@ fn propagate_targets<W: Word, D: Draw<W>>(
     measurement: Measurement,
     targets: &[MeasureTarget],
 ) -> Result<(), AllocError>
-    requires may { MayPropagate recorded_pivots lanes.old }
+    requires may { MayPropagateLanes recorded_pivots lanes.old }
     requires fits { All (StepFits recorded_pivots.strings.now.qubits) (map (measured measurement) targets.now) }
     ensures same_coins { D.sequences draw.new ≡ D.sequences draw.old }
     ensures goes { OnOk result (GoOver W.at W.lanes recorded_pivots.entry (D.sequences draw.old) (map (measured measurement) targets.now) lanes.old lanes.new) }
@@ -85,7 +85,7 @@ fn propagate_detectors<W: Word>(
     lanes: &mut Lanes<W>,
     detectors: Detectors,
 ) -> Result<(), AllocError>
-    ensures goes { OnOk result (GoFreely W.at W.lanes (map detector (lookbacks_of detectors.entry)) lanes.old lanes.new) }
+    ensures goes { OnOk result (GoWithoutCoins W.at W.lanes (map detector (lookbacks_of detectors.entry)) lanes.old lanes.new) }
 {
     for position in 0..detectors.len() {
         propagate_detector(lanes, detectors.get(position))?;
@@ -100,7 +100,7 @@ pub fn propagate_instruction<W: Word, D: Draw<W>>(
     lanes: &mut Lanes<W>,
     steps: Steps,
 ) -> Result<(), AllocError>
-    requires may { MayPropagate recorded_pivots lanes.old }
+    requires may { MayPropagateLanes recorded_pivots lanes.old }
     requires fits { All (StepFits recorded_pivots.strings.now.qubits) (steps_shown steps) }
     requires distinct { HaveDistinctQubits steps }
     ensures same_coins { D.sequences draw.new ≡ D.sequences draw.old }

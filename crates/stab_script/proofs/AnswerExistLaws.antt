@@ -1,5 +1,5 @@
 -- Laws of answers: on items that can be edited each request has one, which leaves such items; so have requests one after another.
-use Rattle.stab_script.proofs.Names.{◌≡◌, ◌≤◌, ◌<◌, ◌^◌, ℕ, Bool, true, false, nat_lt, List, [], ◌∷◌, length, refl, sym, ap, ◌∙◌, subst, Option, Some, None, Result, Ok, Err, inl, inr, if◌then◌else◌, arith, slice_split, ltb-true, ltb-false, Refusal, TooDeep, QubitOutOfRange, LookbackTooFar, TooManySteps, BadCommand, Fault, TracesHaveReducedRows, is_byte, Items, OneItem, done, before, listed, entries, depth, Path, Edit, edited, list_verdict, split_list, looks_too_far, most_steps, named_qubits, qubits_of, check_of, check_within, unroll, item_fault, StandsForOne, IsCircuit, AreOfLines, AreAlike, PutsLines, TextsAreLines, ItemTextsAreLines, ItemTextsHaveOneMeaning, EditedItemsAreOfLines, SplitsLeaveTheSteps, SplitItemsAreOfLines, LinesKeepQubitsDistinct, listed-entries, State, run_of, IsSoundRun, RunsAreSound, check-fits, check-whole, DeterministicParities, CoinsHaveRows, CircuitsHaveDistances, DeterministicHasNoDecider, f01_bytes, printed, lines_of, Environment, Request, begin, put, delete, show, ask, deterministic, distance, refuse, Held, run_held, Answer, IsPut, Shows, IsDeterministicAnswer, IsDistanceAnswer, IsAnswer, IsAnswerToAll, options_asked, both, unless, judged, decided, refusing, replying, edit_of, edited_items, counted_shown, held_split, held_after, shown_or_refused, counted_answer, reply_text, greeting, session_numbers, CountedRequest, bookmark, split, changed, changed_records, sign, item, counts, coin_table, why, way, CanBeEdited, ItemEdit, Insert, Replace, Show, Measurements, Free, Detectors, Observables, Stabilisers, Circuit}
+use Rattle.stab_script.proofs.Names.{◌≡◌, ◌≤◌, ◌<◌, ◌^◌, ℕ, Bool, true, false, nat_lt, List, [], ◌∷◌, length, refl, sym, ap, ◌∙◌, subst, Option, Some, None, Result, Ok, Err, inl, inr, if◌then◌else◌, arith, slice_split, ltb-true, ltb-false, Refusal, TooDeep, QubitOutOfRange, LookbackTooFar, TooManySteps, BadCommand, Fault, TracesHaveReducedRows, is_byte, Items, OneItem, done, before, listed, entries, depth, Path, Edit, edited, list_verdict, split_list, looks_too_far, most_steps, named_qubits, qubits_of, check_of, check_within, unroll, item_fault, StandsForOne, IsCircuit, AreOfLines, AreAlike, PutsLines, TextsAreLines, ItemTextsAreLines, ItemTextsHaveOneMeaning, EditedItemsAreOfLines, SplitsLeaveTheSteps, SplitItemsAreOfLines, LinesKeepQubitsDistinct, listed-entries, State, run_of, IsSoundRun, RunsAreSound, check-fits, check-whole, DeterministicParities, CoinsHaveRows, CircuitsHaveDistances, DeterministicHasNoDecider, f01_bytes, printed, lines_of, Environment, Request, begin, put, delete, show, ask, deterministic, distance, refuse, Held, run_held, Answer, IsPut, Shows, IsDeterministicAnswer, IsDistanceAnswer, IsAnswer, IsAnswerToAll, options_asked, both, unless, verdict_on, decided, refusing, replying, edit_of, edited_items, counted_shown, held_split, held_after, shown_or_refused, counted_answer, reply_text, greeting, session_numbers, CountedRequest, bookmark, split, changed, changed_records, sign, item, counts, coin_table, why, way, CanBeEdited, ItemEdit, Insert, Replace, Show, Measurements, Free, Detectors, Observables, Stabilisers, Circuit}
 use Rattle.stab_script.specs.CountedRequests.{numbers}
 use Rattle.stab_items.specs.declared.edit.Edit.TheVariants as circuit_edit
 use Rattle.stab_script.proofs.DistanceExistLaws.{distance_answered}
@@ -35,7 +35,7 @@ edit_keeps edits n what kept held puts can = by_result (edited what (entries hel
         let passed = verdict_passed n list given in
         (edits what (entries held.items) list (subst AreOfLines (sym (listed-entries held.items)) can.0) puts e passed.0, passed.1)
 
-    by_result : (r : Result (List OneItem) Refusal) → edited what (entries held.items) ≡ r → CanBeEdited n (decided kept held (judged n r)).held.items
+    by_result : (r : Result (List OneItem) Refusal) → edited what (entries held.items) ≡ r → CanBeEdited n (decided kept held (verdict_on n r)).held.items
     by_result (Ok list) e = by_verdict list e (list_verdict n (Ok list)) refl
     by_result (Err r) e = can
 

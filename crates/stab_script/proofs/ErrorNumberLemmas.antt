@@ -1,5 +1,5 @@
 -- Error numbers: the numbers of what an error flips and leaves are the places of its bits, and those of its letters' parts.
-use Rattle.stab_script.proofs.Names.{◌≡◌, refl, sym, ap, ◌∙◌, ℕ, ◌<◌, Bool, List, [], ◌∷◌, ◌++◌, length, take, drop, one_places, Items, unroll}
+use Rattle.stab_script.proofs.Names.{◌≡◌, refl, sym, ap, ◌∙◌, ℕ, ◌<◌, Bool, List, [], ◌∷◌, ◌++◌, length, take, drop, one_positions, Items, unroll}
 use Rattle.std.proofs.Common.{suc, ◌+◌, ◌-◌, ◌*◌, ◌≤◌, true, false, arith, append_assoc, append-nil, nat_lt, lt-ltb, le-ltb}
 use Rattle.std.proofs.Math.Seq.{take-append_seam, drop-append_seam}
 use Rattle.std.proofs.lemmas.Bool.{eq-eqb, ne_eqb}
@@ -9,11 +9,11 @@ use Rattle.std.specs.List.{filter}
 use Rattle.std.specs.Prelude.{◌/◌, ◌%◌, ◌==◌, slice_index_or, replicate, if◌then◌else◌}
 use Rattle.stab_gates.specs.declared.letter.Letter.{Letter}
 use Rattle.stab_gates.specs.declared.letter.Letter.TheVariants as letter
-use Rattle.stab_circuit.specs.Steps.{qubits_of, observables_of}
+use Rattle.stab_items.specs.Steps.{qubits_of, observables_of}
 use Rattle.stab_results.specs.Formats.{one_positions_from}
 use Rattle.stab_run.specs.Points.{RunOutput, with_additions}
-use Rattle.stab_regions.specs.Effects.{letter_parts, bits_of_fault, numbers_of_ones, effect_of_fault}
-use Rattle.stab_regions.specs.Faults.{FaultPlace, numbers_where}
+use Rattle.stab_regions.specs.Effects.{part_bits, bits_of_single_error, numbers_of_ones, effect_of_single_error}
+use Rattle.stab_regions.specs.SingleErrors.{SingleError, numbers_where}
 use Rattle.stab_ways.specs.PutIn.{string_after, string_flips}
 use Rattle.stab_ways.specs.Ways.{placed}
 use Rattle.stab_script.specs.EachTexts.{string_of_error}
@@ -35,7 +35,7 @@ ones-from f k (b ∷ bits) same =
     one-more f k b bits (ap f {x = k} {y = k + 0} (omega arith) ∙ same 0 (omega arith))
     (ones-from f (k + 1) bits (λ j lt. ap f {x = (k + 1) + j} {y = k + suc j} (omega arith) ∙ same (suc j) (omega (arith, lt))))
 
-pub ones-are-places : (bits : List Bool) → numbers_of_ones bits ≡ one_places bits
+pub ones-are-places : (bits : List Bool) → numbers_of_ones bits ≡ one_positions bits
 ones-are-places bits = ones-from (λ i. slice_index_or bits i false) 0 bits (λ j lt. ap (λ i. slice_index_or bits i false) {x = 0 + j} {y = j} (omega arith))
 
 places-append : (k : ℕ) (xs ys : List Bool) → one_positions_from k (xs ++ ys) ≡ one_positions_from k xs ++ one_positions_from (k + length xs) ys
@@ -106,17 +106,17 @@ half-odd : (first q : ℕ) → (((first + 2 * q) + 1) - first) / 2 ≡ q
 half-odd first q = omega arith
 
 -- after both parts of a letter come those of the next
-next-letters : (first q : ℕ) (letters : List Letter) → letters_numbered first (one_positions_from (first + 2 * (q + 1)) (letter_parts letters)) ≡ placed (q + 1) letters
-    → letters_numbered first (one_positions_from (((first + 2 * q) + 1) + 1) (letter_parts letters)) ≡ placed (q + 1) letters
+next-letters : (first q : ℕ) (letters : List Letter) → letters_numbered first (one_positions_from (first + 2 * (q + 1)) (part_bits letters)) ≡ placed (q + 1) letters
+    → letters_numbered first (one_positions_from (((first + 2 * q) + 1) + 1) (part_bits letters)) ≡ placed (q + 1) letters
 next-letters first q letters e =
-    ap (λ m. letters_numbered first (one_positions_from m (letter_parts letters))) {x = ((first + 2 * q) + 1) + 1} {y = first + 2 * (q + 1)} (omega arith) ∙ e
+    ap (λ m. letters_numbered first (one_positions_from m (part_bits letters))) {x = ((first + 2 * q) + 1) + 1} {y = first + 2 * (q + 1)} (omega arith) ∙ e
 
 one-letter : (first q : ℕ) (l : Letter) (letters : List Letter)
-    → letters_numbered first (one_positions_from (((first + 2 * q) + 1) + 1) (letter_parts letters)) ≡ placed (q + 1) letters
-    → letters_numbered first (one_positions_from (first + 2 * q) (letter_parts (l ∷ letters))) ≡ placed q (l ∷ letters)
+    → letters_numbered first (one_positions_from (((first + 2 * q) + 1) + 1) (part_bits letters)) ≡ placed (q + 1) letters
+    → letters_numbered first (one_positions_from (first + 2 * q) (part_bits (l ∷ letters))) ≡ placed q (l ∷ letters)
 one-letter first q letter.I letters next = next
 one-letter first q letter.X letters next =
-    x-part first (first + 2 * q) _ (even-number first q) (places-above ((first + 2 * q) + 2) (((first + 2 * q) + 1) + 1) (letter_parts letters) (omega arith))
+    x-part first (first + 2 * q) _ (even-number first q) (places-above ((first + 2 * q) + 2) (((first + 2 * q) + 1) + 1) (part_bits letters) (omega arith))
     ∙ (λ i. (record { letter = if even-number first q i then letter.Z else letter.X; qubit = half-even first q i }) ∷ next i)
 one-letter first q letter.Y letters next =
     both-parts first (first + 2 * q) _ (even-number first q) ∙ (λ i. (record { letter = letter.Y; qubit = half-even first q i }) ∷ next i)
@@ -124,13 +124,13 @@ one-letter first q letter.Z letters next =
     z-part first ((first + 2 * q) + 1) _ (odd-number first q)
     ∙ (λ i. (record { letter = if odd-number first q i then letter.Z else letter.X; qubit = half-odd first q i }) ∷ next i)
 
-pub letters-are : (first q : ℕ) (letters : List Letter) → letters_numbered first (one_positions_from (first + 2 * q) (letter_parts letters)) ≡ placed q letters
+pub letters-are : (first q : ℕ) (letters : List Letter) → letters_numbered first (one_positions_from (first + 2 * q) (part_bits letters)) ≡ placed q letters
 letters-are first q [] = refl
 letters-are first q (l ∷ letters) = one-letter first q l letters (next-letters first q letters (letters-are first (q + 1) letters))
 
 -- the row of an error: the places of the bits that it flips, and then the numbers of the parts of its string at the end
 
-module _ (items : Items) (f : FaultPlace) where
+module _ (items : Items) (f : SingleError) where
   abbrev flipped : List Bool
   flipped = bits_flipped items (string_flips (qubits_of items) f.before (string_of_error items f) (unroll items))
 
@@ -138,14 +138,14 @@ module _ (items : Items) (f : FaultPlace) where
   left = string_after (qubits_of items) f.before (string_of_error items f) (unroll items) (length (unroll items))
 
   abbrev parts : List ℕ
-  parts = one_positions_from (length flipped) (letter_parts left)
+  parts = one_positions_from (length flipped) (part_bits left)
 
-  row-split : effect_of_fault (qubits_of items) items f ≡ one_places flipped ++ parts
+  row-split : effect_of_single_error (qubits_of items) items f ≡ one_positions flipped ++ parts
   row-split =
-      ones-are-places (bits_of_fault (qubits_of items) items f)
-      ∙ ap one_places joins
-      ∙ places-append 0 flipped (letter_parts left)
-      ∙ ap (λ k. one_places flipped ++ one_positions_from k (letter_parts left)) {x = 0 + length flipped} {y = length flipped} (omega arith)
+      ones-are-places (bits_of_single_error (qubits_of items) items f)
+      ∙ ap one_positions joins
+      ∙ places-append 0 flipped (part_bits left)
+      ∙ ap (λ k. one_positions flipped ++ one_positions_from k (part_bits left)) {x = 0 + length flipped} {y = length flipped} (omega arith)
     where
       flips : RunOutput
       flips = string_flips (qubits_of items) f.before (string_of_error items f) (unroll items)
@@ -153,33 +153,33 @@ module _ (items : Items) (f : FaultPlace) where
       observables : List Bool
       observables = with_additions flips.additions (replicate (observables_of items) false)
 
-      joins : bits_of_fault (qubits_of items) items f ≡ flipped ++ letter_parts left
+      joins : bits_of_single_error (qubits_of items) items f ≡ flipped ++ part_bits left
       joins =
-          sym (append_assoc flips.records (flips.detectors ++ observables) (letter_parts left)
-          ∙ ap (λ bits. flips.records ++ bits) (append_assoc flips.detectors observables (letter_parts left)))
+          sym (append_assoc flips.records (flips.detectors ++ observables) (part_bits left)
+          ∙ ap (λ bits. flips.records ++ bits) (append_assoc flips.detectors observables (part_bits left)))
 
-  module _ (row : List ℕ) (first : ℕ) (is : row ≡ effect_of_fault (qubits_of items) items f) (few : first ≡ length flipped) where
-    here : row ≡ one_places flipped ++ parts
+  module _ (row : List ℕ) (first : ℕ) (is : row ≡ effect_of_single_error (qubits_of items) items f) (few : first ≡ length flipped) where
+    here : row ≡ one_positions flipped ++ parts
     here = is ∙ row-split
 
     -- those below the first of the parts come first
-    pub count-flipped : length (filter (below first) row) ≡ length (one_places flipped)
+    pub count-flipped : length (filter (below first) row) ≡ length (one_positions flipped)
     count-flipped =
         ap (λ ns. length (filter (below first) ns)) here
-        ∙ ap length (filter-append (below first) (one_places flipped) parts)
-        ∙ ap length (λ i. below-kept first 0 flipped (omega (arith, few)) i ++ above-left first (length flipped) (letter_parts left) (omega (arith, few)) i)
-        ∙ ap length (append-nil (one_places flipped))
+        ∙ ap length (filter-append (below first) (one_positions flipped) parts)
+        ∙ ap length (λ i. below-kept first 0 flipped (omega (arith, few)) i ++ above-left first (length flipped) (part_bits left) (omega (arith, few)) i)
+        ∙ ap length (append-nil (one_positions flipped))
 
     pub count-within : length (filter (below first) row) ≤ length row
-    count-within = omega (arith, count-flipped, ap length here, length-append (one_places flipped) parts)
+    count-within = omega (arith, count-flipped, ap length here, length-append (one_positions flipped) parts)
 
-    pub flipped-is : take (length (filter (below first) row)) row ≡ one_places flipped
-    flipped-is = (λ i. take (count-flipped i) (here i)) ∙ take-append_seam (one_places flipped) parts
+    pub flipped-is : take (length (filter (below first) row)) row ≡ one_positions flipped
+    flipped-is = (λ i. take (count-flipped i) (here i)) ∙ take-append_seam (one_positions flipped) parts
 
     pub left-is : letters_numbered first (drop (length (filter (below first) row)) row) ≡ placed 0 left
     left-is =
-        ap (letters_numbered first) ((λ i. drop (count-flipped i) (here i)) ∙ drop-append_seam (one_places flipped) parts)
-        ∙ ap (λ k. letters_numbered first (one_positions_from k (letter_parts left))) (sym few ∙ plus-none first)
+        ap (letters_numbered first) ((λ i. drop (count-flipped i) (here i)) ∙ drop-append_seam (one_positions flipped) parts)
+        ∙ ap (λ k. letters_numbered first (one_positions_from k (part_bits left))) (sym few ∙ plus-none first)
         ∙ letters-are first 0 left
       where
         plus-none : (k : ℕ) → k ≡ k + 2 * 0

@@ -24,5 +24,5 @@ mod LineLemmas
 mod SendLemmas
 mod EachLemmas
 mod ErrorNumberLemmas
-mod FaultWayLemmas
+mod SingleErrorWayLemmas
 pub mod WayReplyLemmas

@@ -1,11 +1,11 @@
 -- Strings as their first letters and those after them, the paths of steps, and the lines of turns.
-use Rattle.stab_script.proofs.Names.{◌≡◌, sym, ap, ◌∙◌, ℕ, suc, ◌<◌, ◌≤◌, ◌+◌, ◌-◌, min, ◌==◌, false, None, List, [], ◌∷◌, ◌++◌, length, take, drop, get_or, map, take_all, get_or_past, drop-cons, add-one, arith, flat_map, PlacedLetter, factor_text, placed_text, string_text, Items, unroll, Path, numbers, outside, paths_of, path_at, length-paths, check_of, few_steps, Turn, codes, where_text, turn_line}
+use Rattle.stab_script.proofs.Names.{◌≡◌, sym, ap, ◌∙◌, ℕ, suc, ◌<◌, ◌≤◌, ◌+◌, ◌-◌, min, ◌==◌, false, None, List, [], ◌∷◌, ◌++◌, length, take, drop, get_or, map, take_all, get_or_past, drop-cons, add-one, arith, flat_map, PlacedLetter, factor_in_way, placed_text, string_text, Items, unroll, Path, numbers, outside, paths_of, path_at, length-paths, check_of, few_steps, Turn, codes, where_text, turn_line}
 
 -- the text of a string that has letters
 pub text_of_some : (letters : List PlacedLetter) (none : PlacedLetter) → false ≡ (length letters == 0)
-    → placed_text (get_or letters 0 none) ++ flat_map factor_text (take (length letters - 1) (drop 1 letters)) ≡ string_text letters
+    → placed_text (get_or letters 0 none) ++ flat_map factor_in_way (take (length letters - 1) (drop 1 letters)) ≡ string_text letters
 text_of_some [] none some = absurd (cc)
-text_of_some (l ∷ letters) none some = ap (λ ls. placed_text l ++ flat_map factor_text ls) (take_all (length (l ∷ letters) - 1) letters (omega arith))
+text_of_some (l ∷ letters) none some = ap (λ ls. placed_text l ++ flat_map factor_in_way ls) (take_all (length (l ∷ letters) - 1) letters (omega arith))
 
 -- no number is after the last
 one_block : (b : ℕ) (blocks : List ℕ) (k : ℕ) → b ∷ (blocks ++ k ∷ []) ≡ 0 ∷ [] → ⊥

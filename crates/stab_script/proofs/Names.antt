@@ -13,11 +13,11 @@ pub use Rattle.stab_report.specs.Rows.{lines_of}
 pub use Rattle.stab_report.specs.Texts.{texts_joined}
 pub use Rattle.stab_items.proofs.EditLemmas.{entries-listed, listed-entries}
 pub use Rattle.stab_items.specs.Edits.{steps_before, edited, list_verdict, verdict}
-pub use Rattle.stab_circuit.specs.Items.{Items, OneItem, listed, entries, done, before, depth}
+pub use Rattle.stab_items.specs.Items.{Items, OneItem, listed, entries, done, before, depth}
 pub use Rattle.stab_items.specs.Paths.{Path, numbers}
 pub use Rattle.stab_items.specs.Places.{item_at}
-pub use Rattle.stab_circuit.specs.Steps.{Step, unroll, check_within, steps_cap, is_inverted, looks_too_far, most_steps, named_qubits, qubits_of, detectors_of}
-unfoldable pub use Rattle.stab_circuit.specs.Steps.{check_of}
+pub use Rattle.stab_items.specs.Steps.{Step, unroll, check_within, steps_cap, is_inverted, looks_too_far, most_steps, named_qubits, qubits_of, detectors_of}
+unfoldable pub use Rattle.stab_items.specs.Steps.{check_of}
 pub use Rattle.stab_items.specs.Views.{circuit_items}
 pub use Rattle.stab_gates.specs.Letters.{◌⊕◌}
 pub use Rattle.stab_gates.specs.declared.letter.Letter.{Letter}
@@ -38,18 +38,18 @@ pub use Rattle.stab_run.proofs.FitLemmas.{check-whole, check-fits}
 pub use Rattle.stab_run.proofs.ProductLemmas.{length_identity}
 pub use Rattle.stab_run.specs.Runs.{string_of, State, run_of}
 pub use Rattle.stab_script.specs.Changes.{changes}
-pub use Rattle.stab_script.specs.Editors.{Progress, after_answer, Reported, ReportedSome, AnswersRequests, progress, FlushFails, Sent, Finishes}
+pub use Rattle.stab_script.specs.Editors.{EditorState, after_answer, Reported, ReportedSome, AnswersRequests, progress, FlushFails, Sent, Finishes}
 pub use Rattle.stab_script.specs.CountedAnswers.{GivesText}
 pub use Rattle.stab_script.specs.CountedReplies.{text_found, reply_text, greeting, session_numbers, made_text}
 pub use Rattle.stab_script.specs.PlaceCounts.{counts_of, place_after, steps_up_to, steps_at, place_line, place_text, two_numbers}
 pub use Rattle.stab_script.specs.Replies.{ReplyBytes}
 pub use Rattle.stab_script.specs.Requests.{opened_in, asked_if_any, request_asked}
 pub use Rattle.stab_script.specs.ScriptWords.{is_place_number, most_numbers, numbers_after, Gathered, first_word, after_word, path_if_any, place_of, is_nothing}
-pub use Rattle.stab_script.specs.Scripts.{Request, begin, put, delete, show, ask, deterministic, distance, refuse, ScriptReader, Gathering, Reading, silent, line_ended, begun, line_alone, opened_after, gathered_with, gathering_ended, line_gathered, line_after, read_byte, then_read, show_by, show_of, Environment, Held, Answer, IsAnswer, IsAnswerToAll, both, replying, read_last, closed, run_held, IsPut, Shows, IsDeterministicAnswer, IsDistanceAnswer, IsPlainAnswer, options_asked, unless, judged, decided, refusing, edit_of, edited_items, counted_shown, held_split, held_after, shown_or_refused, counted_answer, put_at, delete_at, counted_of, distance_of, request_by, put_gathered, read_end, empty_reader, requests_of, held_at_first, requests_in, most_script}
+pub use Rattle.stab_script.specs.Scripts.{Request, begin, put, delete, show, ask, deterministic, distance, refuse, ScriptReader, Gathering, Reading, silent, line_ended, begun, line_alone, opened_after, gathered_with, gathering_ended, line_gathered, line_after, read_byte, then_read, show_by, show_of, Environment, Held, Answer, IsAnswer, IsAnswerToAll, both, replying, read_last, script_closed, run_held, IsPut, Shows, IsDeterministicAnswer, IsDistanceAnswer, IsPlainAnswer, options_asked, unless, verdict_on, decided, refusing, edit_of, edited_items, counted_shown, held_split, held_after, shown_or_refused, counted_answer, put_at, delete_at, counted_of, distance_of, request_by, put_gathered, read_end, empty_reader, requests_of, held_at_first, requests_in, most_script}
 unfoldable pub use Rattle.stab_script.specs.Scripts.{request_of, read_line, read}
 pub use Rattle.stab_script.specs.Signs.{is_string_byte, letter_of_byte, lettered, string_within, string_without_sign, sign_in, sign_line, string_of_word}
 pub use Rattle.stab_script.specs.declared.reply.StepCounts.{StepCounts}
-pub use Rattle.stab_script.specs.inner.StepCounts.{added, IsOfSteps}
+pub use Rattle.stab_script.specs.inner.StepCounts.{counts_added, IsOfSteps}
 pub use Rattle.std.proofs.Math.Seq.{take-append-add}
 pub use Rattle.stab_items.proofs.CountLemmas.{steps_counted}
 pub use Rattle.stab_report.proofs.RandomLaws.{first_random_is, deterministic_before, all_deterministic}
@@ -58,7 +58,7 @@ pub use Rattle.stab_report.specs.Deterministic.{IsDeterministicText}
 pub use Rattle.stab_report.specs.Distances.{IsDistanceText, answer_text, IsDistanceOf, IsRefusedFor, where_text}
 pub use Rattle.stab_report.specs.Endings.{GaveCircuit}
 pub use Rattle.stab_report.specs.FaultLines.{refused_text}
-pub use Rattle.stab_report.specs.FaultTables.{IsFirstDecider, IsFirstRandom}
+pub use Rattle.stab_report.specs.SingleErrorTables.{IsFirstDecider, IsFirstRandom}
 pub use Rattle.stab_report.specs.Places.{bit_of, path_of_bit, path_of_coin, path_at}
 pub use Rattle.stab_report.specs.Reasons.{DeterministicHasNoDecider}
 pub use Rattle.stab_report.specs.Sources.{coins_of_shot}
@@ -66,11 +66,11 @@ pub use Rattle.stab_commands.specs.declared.distance.Distance.{Distance}
 pub use Rattle.stab_report.specs.declared.random.Bit.{Bit}
 pub use Rattle.stab_report.specs.declared.random.Decider.{Decider}
 pub use Rattle.stab_report.specs.declared.random.Random.{Random}
-pub use Rattle.stab_circuit.specs.Circuits.{item_fault, StandsForOne}
-pub use Rattle.stab_circuit.specs.Laws.{AreOfLines, AreAlike, PutsLines, TextsAreLines, ItemTextsAreLines, ItemTextsHaveOneMeaning, EditedItemsAreOfLines, SplitsLeaveTheSteps, SplitItemsAreOfLines, LinesKeepQubitsDistinct}
-pub use Rattle.stab_circuit.specs.Prints.{printed}
+pub use Rattle.stab_items.specs.Circuits.{item_fault, StandsForOne}
+pub use Rattle.stab_circuit.specs.Laws.{AreOfLines, PutsLines, TextsAreLines, ItemTextsAreLines, ItemTextsHaveOneMeaning, EditedItemsAreOfLines, SplitsLeaveTheSteps, SplitItemsAreOfLines, LinesKeepQubitsDistinct}
+pub use Rattle.stab_items.specs.Splits.{AreAlike, split as split_list, refused_by, split_refusal}
+pub use Rattle.stab_items.specs.Prints.{printed}
 pub use Rattle.stab_circuit.specs.Readings.{IsCircuit}
-pub use Rattle.stab_items.specs.Splits.{split as split_list, refused_by, split_refusal}
 pub use Rattle.stab_items.specs.declared.edit.Edit.{Edit}
 pub use Rattle.stab_report.specs.Coins.{ShotBits, CoinsHaveRows, IsCoinTable, table_of}
 pub use Rattle.stab_error_model.specs.ErrorTables.{IsErrorTable}
@@ -82,15 +82,15 @@ pub use Rattle.stab_jobs.specs.declared.job.DistanceOptions.{DistanceOptions}
 pub use Rattle.stab_jobs.specs.declared.job.Source.{Source}
 pub use Rattle.stab_instructions.proofs.BoolLemmas.{and_left, and_right}
 pub use Rattle.stab_instructions.proofs.WordLemmas.{eighteen_digits}
-pub use Rattle.stab_regions.proofs.FaultTableLemmas.{deterministic-found}
-pub use Rattle.stab_regions.specs.FaultLaws.{DeterministicParities}
-pub use Rattle.stab_regions.specs.Faults.{AreDeterministic, IsDeterministic, bits_in}
-pub use Rattle.stab_results.specs.Formats.{f01_bytes, entry, one_places}
+pub use Rattle.stab_regions.proofs.SingleErrorTableLemmas.{deterministic-found}
+pub use Rattle.stab_regions.specs.SingleErrorLaws.{DeterministicParities}
+pub use Rattle.stab_regions.specs.SingleErrors.{AreDeterministic, IsDeterministic, bits_in}
+pub use Rattle.stab_results.specs.Formats.{f01_bytes, entry, one_positions}
 pub use Rattle.stab_results.specs.declared.format.Format.TheVariants.{F01}
 pub use Rattle.stab_run.specs.Coins.{seed_coin, Seeded, Listed, list_coin}
 pub use Rattle.stab_run.specs.Laws.{IsSoundRun, RunsAreSound}
 pub use Rattle.stab_run.specs.ProgramStates.{StepFits}
-pub use Rattle.stab_script.specs.CountedRequests.{CountedRequest, bookmark, split, changed, changed_records, sign, item, counts, coin_table, why, way, alone, round_number_of, counted_split, counted_show}
+pub use Rattle.stab_script.specs.CountedRequests.{CountedRequest, bookmark, split, changed, changed_records, sign, item, counts, coin_table, why, way, request_alone, round_number_of, counted_split, counted_show}
 pub use Rattle.stab_script.specs.Watchers.{Asked, given_by, asked, Logs}
 pub use Rattle.stab_script.specs.declared.changes.BookmarkedBits.{BookmarkedBits}
 pub use Rattle.stab_script.specs.declared.editor.Answered.{Answered}
@@ -109,7 +109,7 @@ pub use Rattle.stab_script.specs.ScriptTurns.{all_given, InTurn, TakesTurns, Edi
 pub use Rattle.stab_script.specs.inner.SessionAnswers.{answered, held_of, session_run}
 pub use Rattle.stab_report.proofs.FaultLineLaws.{flat-drop}
 pub use Rattle.stab_ways.specs.Ways.{Turn, turn_shown}
-pub use Rattle.stab_script.specs.WayTexts.{factor_text, placed_text, string_text, turn_line}
+pub use Rattle.stab_script.specs.WayTexts.{factor_in_way, placed_text, string_text, turn_line}
 pub use Rattle.stab_ways.specs.declared.way.PlacedLetter.{PlacedLetter}
 pub use Rattle.stab_gates.specs.declared.letter.Letter.TheVariants.{I}
 pub use Rattle.stab_items.specs.StepPaths.{outside, paths_of}

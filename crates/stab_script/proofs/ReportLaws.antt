@@ -1,5 +1,5 @@
 -- Laws of reports: requests that calls answer one after another.
-use Rattle.stab_script.proofs.Names.{◌≡◌, ℕ, Bool, true, false, ◌||◌, List, [], ◌∷◌, ◌++◌, refl, sym, ap, ◌∙◌, subst, append_assoc, Result, Ok, Err, inl, inr, append-nil, IsErrAnd, OutputView, Took, TookAndFailed, CutOff, WriteFault, Refusal, Fault, whole, took_none, took_more, took_and_failed, Environment, Request, Held, Answer, IsAnswer, IsAnswerToAll, both, replying, Progress, after_answer, Reported, ReportedSome, AnswersRequests}
+use Rattle.stab_script.proofs.Names.{◌≡◌, ℕ, Bool, true, false, ◌||◌, List, [], ◌∷◌, ◌++◌, refl, sym, ap, ◌∙◌, subst, append_assoc, Result, Ok, Err, inl, inr, append-nil, IsErrAnd, OutputView, Took, TookAndFailed, CutOff, WriteFault, Refusal, Fault, whole, took_none, took_more, took_and_failed, Environment, Request, Held, Answer, IsAnswer, IsAnswerToAll, both, replying, EditorState, after_answer, Reported, ReportedSome, AnswersRequests}
 
 pub or_assoc : (a b c : Bool) → (a || b) || c ≡ a || (b || c)
 or_assoc true b c = refl
@@ -38,11 +38,11 @@ answers_then s held (r ∷ xs) ys a b p q =
 pub answers_one : (s : Environment) (held : Held) (r : Request) (a : Answer) → IsAnswer s held r a → IsAnswerToAll s held (r ∷ []) a
 answers_one s held r a is = (a, replying a.held [], is, refl, sym (both_nothing a))
 
-abbrev pub progress_with : Environment → Held → Bool → Progress
+abbrev pub progress_with : Environment → Held → Bool → EditorState
 progress_with environment held refused = record { environment = environment; held = held; refused = refused }
 
 -- one request was answered
-pub reported_one : {o o' : OutputView} (old : Progress) (environment : Environment) (r : Request) (a : Answer) → environment ≡ old.environment → IsAnswer old.environment old.held r a → Took o o' a.reply
+pub reported_one : {o o' : OutputView} (old : EditorState) (environment : Environment) (r : Request) (a : Answer) → environment ≡ old.environment → IsAnswer old.environment old.held r a → Took o o' a.reply
     → Reported old (progress_with environment a.held (old.refused || a.refused)) (r ∷ []) o o'
 reported_one old environment r a kept is took = record {
   answer = a;
@@ -52,7 +52,7 @@ reported_one old environment r a kept is took = record {
 }
 
 -- the reply to one request was cut off
-pub reported_one_cut : {o o' : OutputView} (old : Progress) (r : Request) (a : Answer) (e : Refusal) (f : Fault) → IsAnswer old.environment old.held r a → f ≡ whole e → (e ≡ WriteFault) × TookAndFailed o o' a.reply
+pub reported_one_cut : {o o' : OutputView} (old : EditorState) (r : Request) (a : Answer) (e : Refusal) (f : Fault) → IsAnswer old.environment old.held r a → f ≡ whole e → (e ≡ WriteFault) × TookAndFailed o o' a.reply
     → ReportedSome old (r ∷ []) o o' f
 reported_one_cut old r a e f is same failed = record {
   first = r ∷ [];
@@ -64,7 +64,7 @@ reported_one_cut old r a e f is same failed = record {
 }
 
 -- nothing was asked for
-pub reported_none : (old : Progress) (o : OutputView) → Reported old old [] o o
+pub reported_none : (old : EditorState) (o : OutputView) → Reported old old [] o o
 reported_none old o = record {
   answer = replying old.held [];
   answers = refl;
@@ -73,9 +73,9 @@ reported_none old o = record {
 }
 
 -- first some, then others
-unfoldable pub reported_then : {a b c : Progress} {o p q : OutputView} (xs ys : List Request) → Reported a b xs o p → Reported b c ys p q → Reported a c (xs ++ ys) o q
+unfoldable pub reported_then : {a b c : EditorState} {o p q : OutputView} (xs ys : List Request) → Reported a b xs o p → Reported b c ys p q → Reported a c (xs ++ ys) o q
 reported_then {a} {b} {c} {o} {p} {q} xs ys first next =
-    let here : IsAnswerToAll a.environment first.answer.held ys next.answer = subst (λ (x : Progress). IsAnswerToAll x.environment x.held ys next.answer) first.leaves next.answers in
+    let here : IsAnswerToAll a.environment first.answer.held ys next.answer = subst (λ (x : EditorState). IsAnswerToAll x.environment x.held ys next.answer) first.leaves next.answers in
     record {
       answer = both first.answer next.answer;
       answers = answers_then a.environment a.held xs ys first.answer next.answer first.answers here;
@@ -91,9 +91,9 @@ cut_after xs ys f before (inr some) =
     inr (some.0, record { front = xs ++ part.front; rest = part.rest; split = ap (λ l. xs ++ l) part.split ∙ sym (append_assoc xs part.front part.rest); took = took_more xs part.front before part.took })
 
 -- first some, and then the others are cut off
-unfoldable pub reported_some_after : {a b : Progress} {o p q : OutputView} (xs ys : List Request) (f : Fault) → Reported a b xs o p → ReportedSome b ys p q f → ReportedSome a (xs ++ ys) o q f
+unfoldable pub reported_some_after : {a b : EditorState} {o p q : OutputView} (xs ys : List Request) (f : Fault) → Reported a b xs o p → ReportedSome b ys p q f → ReportedSome a (xs ++ ys) o q f
 reported_some_after {a} {b} xs ys f before some =
-    let here : IsAnswerToAll a.environment before.answer.held some.first some.answer = subst (λ (x : Progress). IsAnswerToAll x.environment x.held some.first some.answer) before.leaves some.answers in
+    let here : IsAnswerToAll a.environment before.answer.held some.first some.answer = subst (λ (x : EditorState). IsAnswerToAll x.environment x.held some.first some.answer) before.leaves some.answers in
     record {
       first = xs ++ some.first;
       rest = some.rest;
@@ -104,7 +104,7 @@ reported_some_after {a} {b} xs ys f before some =
     }
 
 -- what is cut off within the front is cut off within the whole
-pub reported_some_within : {a : Progress} {o p : OutputView} (xs ys : List Request) (f : Fault) → ReportedSome a xs o p f → ReportedSome a (xs ++ ys) o p f
+pub reported_some_within : {a : EditorState} {o p : OutputView} (xs ys : List Request) (f : Fault) → ReportedSome a xs o p f → ReportedSome a (xs ++ ys) o p f
 reported_some_within {a} xs ys f some = record {
   first = some.first;
   rest = some.rest ++ ys;
@@ -115,11 +115,11 @@ reported_some_within {a} xs ys f some = record {
 }
 
 -- a fault that is passed on
-pub reports_err : {T : Type 0} (old new : Progress) (requests : List Request) (o o' : OutputView) (f : Fault) (r : Result T Fault) → IsErrAnd r (λ y. y ≡ f) → ReportedSome old requests o o' f → AnswersRequests old new requests o o' r
+pub reports_err : {T : Type 0} (old new : EditorState) (requests : List Request) (o o' : OutputView) (f : Fault) (r : Result T Fault) → IsErrAnd r (λ y. y ≡ f) → ReportedSome old requests o o' f → AnswersRequests old new requests o o' r
 reports_err old new requests o o' f (Ok x) is some = absurd is
 reports_err old new requests o o' f (Err y) is some = subst (λ g. ReportedSome old requests o o' g) (sym is) some
 
 -- first some, then a call that gives others
-pub reports_after : {T : Type 0} {a b : Progress} {o p : OutputView} (c : Progress) (q : OutputView) (xs ys : List Request) (r : Result T Fault) → Reported a b xs o p → AnswersRequests b c ys p q r → AnswersRequests a c (xs ++ ys) o q r
+pub reports_after : {T : Type 0} {a b : EditorState} {o p : OutputView} (c : EditorState) (q : OutputView) (xs ys : List Request) (r : Result T Fault) → Reported a b xs o p → AnswersRequests b c ys p q r → AnswersRequests a c (xs ++ ys) o q r
 reports_after c q xs ys (Ok x) first next = reported_then xs ys first next
 reports_after c q xs ys (Err f) first next = reported_some_after xs ys f first next

@@ -1,5 +1,5 @@
 -- Laws of numbers in scripts: each distance that a script asks for is up to a number of at most 18 digits.
-use Rattle.stab_script.proofs.Names.{◌≡◌, ◌<◌, ◌^◌, ℕ, Bool, true, false, ◌==◌, nat_le, List, [], ◌∷◌, ◌++◌, length, refl, Option, Some, None, if◌then◌else◌, codes, bytes_eq, leb-true, BadCommand, content_of, ends_with_byte, is_number, value, and_left, and_right, eighteen_digits, Path, CountedRequest, alone, bookmark, round_number_of, counted_split, counted_show, Gathered, first_word, after_word, is_nothing, is_place_number, place_of, Request, begin, put, delete, show, ask, deterministic, distance, refuse, put_at, delete_at, counted_of, distance_of, show_by, show_of, request_by, request_of, Gathering, ScriptReader, Reading, silent, line_ended, put_gathered, gathering_ended, begun, line_alone, gathered_with, line_after, read_line, read_byte, read, read_last, closed, read_end, empty_reader, requests_of, ItemEdit, Insert, Replace, Measurements, Free, Detectors, Observables, Stabilisers, Circuit}
+use Rattle.stab_script.proofs.Names.{◌≡◌, ◌<◌, ◌^◌, ℕ, Bool, true, false, ◌==◌, nat_le, List, [], ◌∷◌, ◌++◌, length, refl, Option, Some, None, if◌then◌else◌, codes, bytes_eq, leb-true, BadCommand, content_of, ends_with_byte, is_number, value, and_left, and_right, eighteen_digits, Path, CountedRequest, request_alone, bookmark, round_number_of, counted_split, counted_show, Gathered, first_word, after_word, is_nothing, is_place_number, place_of, Request, begin, put, delete, show, ask, deterministic, distance, refuse, put_at, delete_at, counted_of, distance_of, show_by, show_of, request_by, request_of, Gathering, ScriptReader, Reading, silent, line_ended, put_gathered, gathering_ended, begun, line_alone, gathered_with, line_after, read_line, read_byte, read, read_last, script_closed, read_end, empty_reader, requests_of, ItemEdit, Insert, Replace, Measurements, Free, Detectors, Observables, Stabilisers, Circuit}
 
 -- a request for a distance is for one of few errors
 abbrev pub AsksFew : Request → Type 0
@@ -69,7 +69,7 @@ request_few content = by_word (first_word content) (after_word content)
         (either (bytes_eq word (codes "replace")) (put_at Replace (place_of (first_word rest)) (after_word rest)) _ (put_few Replace (place_of (first_word rest)) (after_word rest))
         (either (bytes_eq word (codes "delete")) (delete_at (place_of (first_word rest)) (after_word rest)) _ (delete_few (place_of (first_word rest)) (after_word rest))
         (either (bytes_eq word (codes "show")) (show_of rest) _ (show_few rest)
-        (either (bytes_eq word (codes "mark")) (counted_of (alone rest bookmark)) _ (counted_few (alone rest bookmark))
+        (either (bytes_eq word (codes "mark")) (counted_of (request_alone rest bookmark)) _ (counted_few (request_alone rest bookmark))
         (either (bytes_eq word (codes "split")) (counted_of (counted_split rest)) (refuse BadCommand) (counted_few (counted_split rest)) tt)))))
 
 -- what is read
@@ -120,14 +120,14 @@ read_few reader (b ∷ bs) =
     (either_reads (b == 10) (read_line reader) _ (line_few reader) tt)
     (read_few (read_byte reader b).reader bs)
 
-closed_few : (gathering : Option Gathering) (reader : ScriptReader) → ReadsFew (closed gathering reader)
+closed_few : (gathering : Option Gathering) (reader : ScriptReader) → ReadsFew (script_closed gathering reader)
 closed_few None reader = tt
 closed_few (Some g) reader = ended_few g
 
 end_few : (reader : ScriptReader) → ReadsFew (read_end reader)
 end_few reader =
     let last = read_last reader in
-    few_append last.requests (closed last.reader.gathering last.reader).requests
+    few_append last.requests (script_closed last.reader.gathering last.reader).requests
     (either_reads (is_nothing reader.line) (silent reader) (read_line reader) tt (line_few reader))
     (closed_few last.reader.gathering last.reader)
 

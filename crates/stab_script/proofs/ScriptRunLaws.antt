@@ -1,14 +1,14 @@
 -- Laws of script runs: what was read and answered so far, and how a script ends from there.
-use Rattle.stab_script.proofs.Names.{Answer, ◌≡◌, ◌≤◌, ◌<◌, ℕ, ◌+◌, ◌-◌, Bool, false, ◌||◌, List, [], ◌∷◌, ◌++◌, length, take, refl, sym, ap, ◌∙◌, subst, arith, append_assoc, length-append, Result, Ok, Err, inl, inr, append-nil, take_all, take-append-add, IsErrAnd, InputView, OutputView, Gave, GaveAndFailed, GaveAll, IsAtEnd, TooLong, ReadFault, Fault, whole, gave_none, gave_more, gave_and_failed, took_more, Items, Environment, Request, begin, held_at_first, IsAnswerToAll, both, ScriptReader, Reading, read, read_end, requests_in, requests_of, empty_reader, most_script, AnswersScript, BreaksOff, AnswersFront, EndsScript, Progress, Reported, ReportedSome, FlushFails, Sent, Finishes}
+use Rattle.stab_script.proofs.Names.{Answer, ◌≡◌, ◌≤◌, ◌<◌, ℕ, ◌+◌, ◌-◌, Bool, false, ◌||◌, List, [], ◌∷◌, ◌++◌, length, take, refl, sym, ap, ◌∙◌, subst, arith, append_assoc, length-append, Result, Ok, Err, inl, inr, append-nil, take_all, take-append-add, IsErrAnd, InputView, OutputView, Gave, GaveAndFailed, GaveAll, IsAtEnd, TooLong, ReadFault, Fault, whole, gave_none, gave_more, gave_and_failed, took_more, Items, Environment, Request, begin, held_at_first, IsAnswerToAll, both, ScriptReader, Reading, read, read_end, requests_in, requests_of, empty_reader, most_script, AnswersScript, BreaksOff, AnswersFront, EndsScript, EditorState, Reported, ReportedSome, FlushFails, Sent, Finishes}
 use Rattle.stab_script.proofs.ReadingLaws.{read_append, read_none}
 use Rattle.stab_script.proofs.ReportLaws.{answers_then, reported_then, reported_some_after}
 
 -- the progress before a script
-abbrev pub before_script : Environment → Items → Progress
+abbrev pub before_script : Environment → Items → EditorState
 before_script environment items = record { environment = environment; held = held_at_first environment items; refused = false }
 
 -- what was read of a script so far, and answered
-pub record AnsweredSoFar (environment : Environment) (items : Items) (now : Progress) (reader : ScriptReader) (taken : ℕ) (s s' : InputView) (o o' : OutputView) : Type 0 where
+pub record AnsweredSoFar (environment : Environment) (items : Items) (now : EditorState) (reader : ScriptReader) (taken : ℕ) (s s' : InputView) (o o' : OutputView) : Type 0 where
   pub bytes : List ℕ
   pub gave : Gave s s' bytes
   pub counted : length bytes ≡ taken
@@ -16,7 +16,7 @@ pub record AnsweredSoFar (environment : Environment) (items : Items) (now : Prog
   pub reported : Reported (before_script environment items) now (requests_in bytes) o o'
 
 -- nothing was read yet, and the script's beginning was answered
-unfoldable pub so_far_none : (environment : Environment) (items : Items) (now : Progress) (reader : ScriptReader) (s : InputView) (o o' : OutputView) → Reported (before_script environment items) now (begin ∷ []) o o' → reader ≡ empty_reader
+unfoldable pub so_far_none : (environment : Environment) (items : Items) (now : EditorState) (reader : ScriptReader) (s : InputView) (o o' : OutputView) → Reported (before_script environment items) now (begin ∷ []) o o' → reader ≡ empty_reader
     → AnsweredSoFar environment items now reader 0 s s o o'
 so_far_none environment items now reader s o o' reported e = record {
   bytes = [];
@@ -31,7 +31,7 @@ pub after_requests : (bytes piece : List ℕ) → requests_in (bytes ++ piece) �
 after_requests bytes piece = ap (λ (r : Reading). begin ∷ r.requests) (read_append empty_reader bytes piece)
 
 -- a piece more was read and answered
-unfoldable pub reported_more : {environment : Environment} {items : Items} {mid new : Progress} {reader : ScriptReader} {o o' o'' : OutputView} (bytes piece : List ℕ)
+unfoldable pub reported_more : {environment : Environment} {items : Items} {mid new : EditorState} {reader : ScriptReader} {o o' o'' : OutputView} (bytes piece : List ℕ)
     → reader ≡ (read empty_reader bytes).reader → Reported (before_script environment items) mid (requests_in bytes) o o' → Reported mid new (read reader piece).requests o' o''
     → Reported (before_script environment items) new (requests_in (bytes ++ piece)) o o''
 reported_more {environment} {items} {mid} {new} {reader} {o} {o'} {o''} bytes piece e before more =
@@ -50,7 +50,7 @@ reported_more {environment} {items} {mid} {new} {reader} {o} {o'} {o''} bytes pi
       leaves = all.leaves;
     }
 
-unfoldable pub so_far_more : {environment : Environment} {items : Items} {mid new : Progress} {reader reader' : ScriptReader} {taken : ℕ} {s s' s'' : InputView} {o o' o'' : OutputView} (piece : List ℕ) (taken' : ℕ)
+unfoldable pub so_far_more : {environment : Environment} {items : Items} {mid new : EditorState} {reader reader' : ScriptReader} {taken : ℕ} {s s' s'' : InputView} {o o' o'' : OutputView} (piece : List ℕ) (taken' : ℕ)
     → AnsweredSoFar environment items mid reader taken s s' o o' → Gave s' s'' piece → taken' ≡ taken + length piece
     → reader' ≡ (read reader piece).reader → Reported mid new (read reader piece).requests o' o''
     → AnsweredSoFar environment items new reader' taken' s s'' o o''
@@ -71,7 +71,7 @@ abbrev pub Lasts : Environment → (List Request → Answer → Type 0) → Type
 Lasts environment P = (first rest : List Request) (a b : Answer) → P first a → IsAnswerToAll environment a.held rest b → P (first ++ rest) (both a b)
 
 -- so it holds of a piece more
-pub said_more : {environment : Environment} {items : Items} {mid new : Progress} {reader : ScriptReader} {o o' o'' : OutputView} (P : List Request → Answer → Type 0) (bytes piece : List ℕ)
+pub said_more : {environment : Environment} {items : Items} {mid new : EditorState} {reader : ScriptReader} {o o' o'' : OutputView} (P : List Request → Answer → Type 0) (bytes piece : List ℕ)
     → Lasts environment P → (e : reader ≡ (read empty_reader bytes).reader) (before : Reported (before_script environment items) mid (requests_in bytes) o o') (more : Reported mid new (read reader piece).requests o' o'')
     → P (requests_in bytes) before.answer → P (requests_in (bytes ++ piece)) (reported_more bytes piece e before more).answer
 unfolding reported_more reported_then
@@ -79,25 +79,25 @@ said_more {environment} {items} {mid} {new} {reader} P bytes piece lasts e befor
     let at : IsAnswerToAll mid.environment mid.held (read (read empty_reader bytes).reader piece).requests more.answer =
     subst (λ (d : ScriptReader). IsAnswerToAll mid.environment mid.held (read d piece).requests more.answer) e more.answers in
     let here : IsAnswerToAll environment before.answer.held (read (read empty_reader bytes).reader piece).requests more.answer =
-    subst (λ (x : Progress). IsAnswerToAll x.environment x.held (read (read empty_reader bytes).reader piece).requests more.answer) before.leaves at in
+    subst (λ (x : EditorState). IsAnswerToAll x.environment x.held (read (read empty_reader bytes).reader piece).requests more.answer) before.leaves at in
     subst (λ (l : List Request). P l (both before.answer more.answer)) (sym (after_requests bytes piece))
     (lasts (requests_in bytes) (read (read empty_reader bytes).reader piece).requests before.answer more.answer p here)
 
 -- and of some of them that were reported, the last perhaps in part
-said_some : {environment : Environment} {items : Items} {now : Progress} {o o' o'' : OutputView} (P : List Request → Answer → Type 0) (xs ys : List Request) (f : Fault) → Lasts environment P
+said_some : {environment : Environment} {items : Items} {now : EditorState} {o o' o'' : OutputView} (P : List Request → Answer → Type 0) (xs ys : List Request) (f : Fault) → Lasts environment P
     → (before : Reported (before_script environment items) now xs o o') (some : ReportedSome now ys o' o'' f) → P xs before.answer
     → P (reported_some_after xs ys f before some).first (reported_some_after xs ys f before some).answer
 unfolding reported_some_after
 said_some {environment} {items} P xs ys f lasts before some p =
-    let here : IsAnswerToAll environment before.answer.held some.first some.answer = subst (λ (x : Progress). IsAnswerToAll x.environment x.held some.first some.answer) before.leaves some.answers in
+    let here : IsAnswerToAll environment before.answer.held some.first some.answer = subst (λ (x : EditorState). IsAnswerToAll x.environment x.held some.first some.answer) before.leaves some.answers in
     lasts xs some.first before.answer some.answer p here
 
 -- the same replies, if the requests are written otherwise
-abbrev some_same : {old : Progress} {o o' : OutputView} {f : Fault} (xs ys : List Request) → ys ≡ xs → ReportedSome old xs o o' f → ReportedSome old ys o o' f
+abbrev some_same : {old : EditorState} {o o' : OutputView} {f : Fault} (xs ys : List Request) → ys ≡ xs → ReportedSome old xs o o' f → ReportedSome old ys o o' f
 some_same xs ys e some = record { first = some.first; rest = some.rest; split = e ∙ some.split; answer = some.answer; answers = some.answers; cut = some.cut }
 
 -- the script's input failed
-pub script_failed : {environment : Environment} {items : Items} {now : Progress} {reader : ScriptReader} {taken : ℕ} {s s' s'' : InputView} {o o' : OutputView} (P : List Request → Answer → Type 0) (f : Fault)
+pub script_failed : {environment : Environment} {items : Items} {now : EditorState} {reader : ScriptReader} {taken : ℕ} {s s' s'' : InputView} {o o' : OutputView} (P : List Request → Answer → Type 0) (f : Fault)
     → (before : AnsweredSoFar environment items now reader taken s s' o o') → P (requests_in before.bytes) before.reported.answer → taken ≤ most_script → GaveAndFailed s' s'' [] → f ≡ whole ReadFault
     → AnswersFront (Said environment items P) s s'' o o' f
 script_failed {environment} {items} {now} P f before p few failed e =
@@ -145,7 +145,7 @@ greeting_broke environment items {o} {o'} P s f always some =
     script_broke environment items P s s o o' f [] [] (gave_none s) (some_same (begin ∷ []) (requests_in []) (ap (λ (r : Reading). begin ∷ r.requests) (read_none empty_reader)) some) (always _ _)
 
 -- the same, after what was answered so far
-pub broke_after : {environment : Environment} {items : Items} {now : Progress} {reader : ScriptReader} {taken : ℕ} {s s' s'' : InputView} {o o' o'' : OutputView} (P : List Request → Answer → Type 0) (f : Fault) (part following : List ℕ)
+pub broke_after : {environment : Environment} {items : Items} {now : EditorState} {reader : ScriptReader} {taken : ℕ} {s s' s'' : InputView} {o o' o'' : OutputView} (P : List Request → Answer → Type 0) (f : Fault) (part following : List ℕ)
     → Lasts environment P → (before : AnsweredSoFar environment items now reader taken s s' o o') → P (requests_in before.bytes) before.reported.answer → Gave s' s'' (part ++ following) → ReportedSome now (read reader part).requests o' o'' f
     → BreaksOff (Said environment items P) s s'' o o'' f
 broke_after {environment} {items} {now} {reader} {taken} {s} {s'} {s''} {o} {o'} {o''} P f part following lasts before p gave some =
@@ -158,7 +158,7 @@ broke_after {environment} {items} {now} {reader} {taken} {s} {s'} {s''} {o} {o'}
     (said_some P (requests_in before.bytes) later f lasts before.reported here p)
 
 -- the script goes past its limit
-pub script_too_long : {environment : Environment} {items : Items} {now new : Progress} {reader : ScriptReader} {taken : ℕ} {s s' s'' : InputView} {o o' o'' : OutputView} (P : List Request → Answer → Type 0) (f : Fault) (piece part : List ℕ)
+pub script_too_long : {environment : Environment} {items : Items} {now new : EditorState} {reader : ScriptReader} {taken : ℕ} {s s' s'' : InputView} {o o' o'' : OutputView} (P : List Request → Answer → Type 0) (f : Fault) (piece part : List ℕ)
     → Lasts environment P → (before : AnsweredSoFar environment items now reader taken s s' o o') → P (requests_in before.bytes) before.reported.answer
     → taken ≤ most_script → length piece ≤ 4096 → most_script - taken < length piece → part ≡ take (most_script - taken) piece
     → Gave s' s'' piece → Reported now new (read reader part).requests o' o'' → f ≡ whole TooLong
@@ -189,15 +189,15 @@ gave_whole {a} {b} {c} bytes before end = record {
 }
 
 -- an answer to what the end asks for, from where the script was read to
-last_answers : {environment : Environment} {items : Items} {now : Progress} {reader : ScriptReader} {taken : ℕ} {s s' : InputView} {o o' : OutputView} (before : AnsweredSoFar environment items now reader taken s s' o o') (answer : Answer)
+last_answers : {environment : Environment} {items : Items} {now : EditorState} {reader : ScriptReader} {taken : ℕ} {s s' : InputView} {o o' : OutputView} (before : AnsweredSoFar environment items now reader taken s s' o o') (answer : Answer)
     → IsAnswerToAll now.environment now.held (read_end reader).requests answer → IsAnswerToAll environment before.reported.answer.held (read_end (read empty_reader before.bytes).reader).requests answer
 last_answers {environment} {items} {now} {reader} before answer answers =
     let at : IsAnswerToAll now.environment now.held (read_end (read empty_reader before.bytes).reader).requests answer =
     subst (λ (d : ScriptReader). IsAnswerToAll now.environment now.held (read_end d).requests answer) before.reading answers in
-    subst (λ (x : Progress). IsAnswerToAll x.environment x.held (read_end (read empty_reader before.bytes).reader).requests answer) before.reported.leaves at
+    subst (λ (x : EditorState). IsAnswerToAll x.environment x.held (read_end (read empty_reader before.bytes).reader).requests answer) before.reported.leaves at
 
 -- the script came to its end, and its last replies were sent
-ended_sent : {environment : Environment} {items : Items} {now : Progress} {reader : ScriptReader} {taken : ℕ} {s s' s'' : InputView} {o o' o'' : OutputView} (P : List Request → Answer → Type 0) (refused : Bool)
+ended_sent : {environment : Environment} {items : Items} {now : EditorState} {reader : ScriptReader} {taken : ℕ} {s s' s'' : InputView} {o o' o'' : OutputView} (P : List Request → Answer → Type 0) (refused : Bool)
     → Lasts environment P → (before : AnsweredSoFar environment items now reader taken s s' o o') → P (requests_in before.bytes) before.reported.answer
     → taken ≤ most_script → GaveAll s' s'' [] → Sent now (read_end reader).requests o' o'' refused
     → AnswersScript (Said environment items P) s s'' o o'' refused
@@ -212,11 +212,11 @@ ended_sent {environment} {items} {now} {reader} {taken} {s} {s'} {s''} {o} {o'} 
       answer = both a sent.answer;
       answers = (answers_then environment (held_at_first environment items) (requests_in before.bytes) last a sent.answer before.reported.answers here, lasts (requests_in before.bytes) last a sent.answer p here);
       sent = record { between = sent.sent.between; took = took_more a.reply sent.answer.reply before.reported.took sent.sent.took; flushed = sent.sent.flushed };
-      flag = sent.flag ∙ ap (λ (x : Progress). x.refused || sent.answer.refused) before.reported.leaves;
+      flag = sent.flag ∙ ap (λ (x : EditorState). x.refused || sent.answer.refused) before.reported.leaves;
     }
 
 -- the script came to its end, and its last replies were cut off
-ended_cut : {environment : Environment} {items : Items} {now : Progress} {reader : ScriptReader} {taken : ℕ} {s s' s'' : InputView} {o o' o'' : OutputView} (P : List Request → Answer → Type 0) (f : Fault)
+ended_cut : {environment : Environment} {items : Items} {now : EditorState} {reader : ScriptReader} {taken : ℕ} {s s' s'' : InputView} {o o' o'' : OutputView} (P : List Request → Answer → Type 0) (f : Fault)
     → Lasts environment P → (before : AnsweredSoFar environment items now reader taken s s' o o') → P (requests_in before.bytes) before.reported.answer
     → GaveAll s' s'' [] → ReportedSome now (read_end reader).requests o' o'' f
     → BreaksOff (Said environment items P) s s'' o o'' f
@@ -238,7 +238,7 @@ ended_cut {environment} {items} {now} {reader} {taken} {s} {s'} {s''} {o} {o'} {
     }
 
 -- the script came to its end, and the flush failed
-ended_unflushed : {environment : Environment} {items : Items} {now : Progress} {reader : ScriptReader} {taken : ℕ} {s s' s'' : InputView} {o o' o'' : OutputView} (P : List Request → Answer → Type 0) (f : Fault)
+ended_unflushed : {environment : Environment} {items : Items} {now : EditorState} {reader : ScriptReader} {taken : ℕ} {s s' s'' : InputView} {o o' o'' : OutputView} (P : List Request → Answer → Type 0) (f : Fault)
     → Lasts environment P → (before : AnsweredSoFar environment items now reader taken s s' o o') → P (requests_in before.bytes) before.reported.answer
     → GaveAll s' s'' [] → FlushFails now (read_end reader).requests o' o'' f
     → BreaksOff (Said environment items P) s s'' o o'' f
@@ -260,7 +260,7 @@ ended_unflushed {environment} {items} {now} {reader} {taken} {s} {s'} {s''} {o} 
     }
 
 -- the script came to its end
-pub script_ended : {environment : Environment} {items : Items} {now : Progress} {reader : ScriptReader} {taken : ℕ} {s s' s'' : InputView} {o o' : OutputView} (P : List Request → Answer → Type 0) (o'' : OutputView) (r : Result Bool Fault)
+pub script_ended : {environment : Environment} {items : Items} {now : EditorState} {reader : ScriptReader} {taken : ℕ} {s s' s'' : InputView} {o o' : OutputView} (P : List Request → Answer → Type 0) (o'' : OutputView) (r : Result Bool Fault)
     → Lasts environment P → (before : AnsweredSoFar environment items now reader taken s s' o o') → P (requests_in before.bytes) before.reported.answer
     → taken ≤ most_script → GaveAll s' s'' [] → Finishes now (read_end reader).requests o' o'' r
     → EndsScript (Said environment items P) s s'' o o'' r

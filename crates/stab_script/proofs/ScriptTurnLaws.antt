@@ -1,22 +1,22 @@
 -- Laws of script turns: the log of a script's reads, so far and at the end, in turn with its answer.
-use Rattle.stab_script.proofs.Names.{◌≡◌, ℕ, ◌+◌, Bool, IsTrue, List, [], ◌∷◌, ◌++◌, length, take, refl, sym, ap, ◌∙◌, subst, append_assoc, append-nil, length-append, Option, Some, None, Result, Ok, Err, ◌⊎◌, inl, inr, InputView, OutputView, Gave, Reads, DeviceFault, Fault, gave_more, gave_and_failed, Items, Environment, Held, Request, Answer, IsAnswerToAll, both, replying, held_at_first, ScriptReader, begin, requests_in, read, empty_reader, Asked, given_by, asked, Logs, all_given, InTurn, TakesTurns, EndsScript, Progress, Reported}
+use Rattle.stab_script.proofs.Names.{◌≡◌, ℕ, ◌+◌, Bool, IsTrue, List, [], ◌∷◌, ◌++◌, length, take, refl, sym, ap, ◌∙◌, subst, append_assoc, append-nil, length-append, Option, Some, None, Result, Ok, Err, ◌⊎◌, inl, inr, InputView, OutputView, Gave, Reads, DeviceFault, Fault, gave_more, gave_and_failed, Items, Environment, Held, Request, Answer, IsAnswerToAll, both, replying, held_at_first, ScriptReader, begin, requests_in, read, empty_reader, Asked, given_by, asked, Logs, all_given, InTurn, TakesTurns, EndsScript, EditorState, Reported}
 use Rattle.stab_script.proofs.ReportLaws.{answers_then, both_assoc, both_nothing}
-use Rattle.stab_script.specs.ScriptTurns.{Answered, GoesOn}
+use Rattle.stab_script.specs.ScriptTurns.{Answered, AnswerGoesOn}
 use Rattle.stab_script.proofs.ScriptRunLaws.{before_script, AnsweredSoFar, so_far_none, so_far_more, reported_more, Said, Lasts, said_more, ends_as}
 
 -- an answer that goes on
 
-goes_on_more : (s : Environment) (held : Held) (first rest more : List Request) (front whole b : Answer) → GoesOn s held first rest front whole → IsAnswerToAll s whole.held more b
-    → GoesOn s held first (rest ++ more) front (both whole b)
+goes_on_more : (s : Environment) (held : Held) (first rest more : List Request) (front whole b : Answer) → AnswerGoesOn s held first rest front whole → IsAnswerToAll s whole.held more b
+    → AnswerGoesOn s held first (rest ++ more) front (both whole b)
 goes_on_more s held first rest more front whole b on next =
     let here : IsAnswerToAll s on.1.0.held more b = subst (λ (x : Answer). IsAnswerToAll s x.held more b) on.1.2 next in
     (on.0, (both on.1.0 b, answers_then s front.held rest more on.1.0 b on.1.1 here, ap (λ x. both x b) on.1.2 ∙ both_assoc front on.1.0 b))
 
-goes_on_none : (s : Environment) (held : Held) (first : List Request) (front : Answer) → IsAnswerToAll s held first front → GoesOn s held first [] front front
+goes_on_none : (s : Environment) (held : Held) (first : List Request) (front : Answer) → IsAnswerToAll s held first front → AnswerGoesOn s held first [] front front
 goes_on_none s held first front is = (is, (replying front.held [], refl, sym (both_nothing front)))
 
 -- what an answer begins with, also if a distance is asked for
-pub begins : (s : Environment) (held : Held) (first rest : List Request) (b : Answer) → IsAnswerToAll s held (first ++ rest) b → (a : Answer) × GoesOn s held first rest a b
+pub begins : (s : Environment) (held : Held) (first rest : List Request) (b : Answer) → IsAnswerToAll s held (first ++ rest) b → (a : Answer) × AnswerGoesOn s held first rest a b
 begins s held [] rest b is = (replying held [], (refl, (b, is, refl)))
 begins s held (r ∷ first) rest b is =
     let there = begins s is.0.held first rest is.1 is.3 in
@@ -53,7 +53,7 @@ in_turn_more environment items start requests answer before (b ∷ bs) a turns h
     (turns.0, in_turn_more environment items start requests answer (before ++ b.given) bs a turns.1 (subst (λ (l : List ℕ). Answered environment items start requests answer l a) (sym (append_assoc before b.given (all_given bs))) here))
 
 -- what was read so far was answered, so that a read finds exactly its replies
-caught_up : (environment : Environment) (items : Items) {now : Progress} {o o' : OutputView} (bytes : List ℕ) (r : Result ℕ DeviceFault) (buf : List ℕ)
+caught_up : (environment : Environment) (items : Items) {now : EditorState} {o o' : OutputView} (bytes : List ℕ) (r : Result ℕ DeviceFault) (buf : List ℕ)
     → (reported : Reported (before_script environment items) now (requests_in bytes) o o') → IsTrue o.honest → Answered environment items (length o.written) (requests_in bytes) reported.answer bytes (asked o' r buf)
 caught_up environment items {now} {o} bytes r buf reported h = (
   reported.answer,
@@ -86,7 +86,7 @@ abbrev pub LogsSoFar : Environment → Items → OutputView → List ℕ → Lis
 LogsSoFar environment items o given requests answer log log' = (log' ≡ None) ⊎ LogsThese environment items o given requests answer log log'
 
 -- what was read of a script so far, and answered, each read in turn
-abbrev pub AnsweredInTurn : Environment → Items → Progress → ScriptReader → ℕ → InputView → InputView → OutputView → OutputView → Option (List Asked) → Option (List Asked) → Type 0
+abbrev pub AnsweredInTurn : Environment → Items → EditorState → ScriptReader → ℕ → InputView → InputView → OutputView → OutputView → Option (List Asked) → Option (List Asked) → Type 0
 AnsweredInTurn environment items now reader taken s s' o o' log log' =
     (before : AnsweredSoFar environment items now reader taken s s' o o') × LogsSoFar environment items o before.bytes (requests_in before.bytes) before.reported.answer log log'
 
@@ -123,7 +123,7 @@ logs_more {environment} {items} {o} {given} {requests} {answer} a (inr p) (inr q
 })
 
 -- a read more of what was read and answered so far
-pub reads_in_turn : {environment : Environment} {items : Items} {now : Progress} {reader : ScriptReader} {taken : ℕ} {s s' : InputView} {o o' : OutputView} {log log' log'' : Option (List Asked)} (r : Result ℕ DeviceFault) (buf : List ℕ)
+pub reads_in_turn : {environment : Environment} {items : Items} {now : EditorState} {reader : ScriptReader} {taken : ℕ} {s s' : InputView} {o o' : OutputView} {log log' log'' : Option (List Asked)} (r : Result ℕ DeviceFault) (buf : List ℕ)
     → (before : AnsweredInTurn environment items now reader taken s s' o o' log log') → Logs log' log'' (asked o' r buf ∷ [])
     → LogsSoFar environment items o (before.0.bytes ++ given_by r buf) (requests_in before.0.bytes) before.0.reported.answer log log''
 reads_in_turn {environment} {items} {now} {reader} {taken} {s} {s'} {o} {o'} r buf before more = logs_more (asked o' r buf) before.1 more (caught_up environment items before.0.bytes r buf before.0.reported)
@@ -157,7 +157,7 @@ ends_in_turn {environment} {items} {given} {requests} {answer} {s} {s''} {o} o''
 })
 
 -- after a last read
-pub last_in_turn : {environment : Environment} {items : Items} {now : Progress} {reader : ScriptReader} {taken : ℕ} {s s' : InputView} {o o' : OutputView} {log log' log'' : Option (List Asked)}
+pub last_in_turn : {environment : Environment} {items : Items} {now : EditorState} {reader : ScriptReader} {taken : ℕ} {s s' : InputView} {o o' : OutputView} {log log' log'' : Option (List Asked)}
     (s'' : InputView) (o'' : OutputView) (read_result : Result ℕ DeviceFault) (buf : List ℕ) (r : Result Bool Fault)
     → (before : AnsweredInTurn environment items now reader taken s s' o o' log log') → Logs log' log'' (asked o' read_result buf ∷ []) → Reads s' s'' read_result buf
     → EndsFrom environment items (requests_in before.0.bytes) before.0.reported.answer s s'' o o'' r → TakesTurns environment items s s'' o o'' log log'' r
@@ -165,7 +165,7 @@ last_in_turn {environment} {items} {now} {reader} {taken} {s} {s'} s'' o'' read_
     ends_in_turn o'' r (reads_in_turn read_result buf before more) (handed_over s s' s'' before.0.bytes buf read_result before.0.gave reads) ends
 
 -- a piece more was read and answered, and the read was in turn
-pub in_turn_so_far : {environment : Environment} {items : Items} {mid new : Progress} {reader reader' : ScriptReader} {taken : ℕ} {s s' s'' : InputView} {o o' o'' : OutputView} {log log' log'' : Option (List Asked)} (piece : List ℕ) (taken' n : ℕ) (buf : List ℕ)
+pub in_turn_so_far : {environment : Environment} {items : Items} {mid new : EditorState} {reader reader' : ScriptReader} {taken : ℕ} {s s' s'' : InputView} {o o' o'' : OutputView} {log log' log'' : Option (List Asked)} (piece : List ℕ) (taken' n : ℕ) (buf : List ℕ)
     → AnsweredInTurn environment items mid reader taken s s' o o' log log' → Logs log' log'' (asked o' (Ok n) buf ∷ []) → take n buf ≡ piece → Gave s' s'' piece → taken' ≡ taken + length piece
     → reader' ≡ (read reader piece).reader → Reported mid new (read reader piece).requests o' o'' → AnsweredInTurn environment items new reader' taken' s s'' o o'' log log''
 unfolding so_far_more
@@ -187,7 +187,7 @@ in_turn_so_far {environment} {items} {mid} {new} {reader} {reader'} {taken} {s} 
     })
 
 -- a script before its first read, whose beginning was answered
-pub in_turn_at_first : (environment : Environment) (items : Items) (now : Progress) (reader : ScriptReader) (s : InputView) (o o' : OutputView) (log : Option (List Asked)) → Reported (before_script environment items) now (begin ∷ []) o o' → reader ≡ empty_reader
+pub in_turn_at_first : (environment : Environment) (items : Items) (now : EditorState) (reader : ScriptReader) (s : InputView) (o o' : OutputView) (log : Option (List Asked)) → Reported (before_script environment items) now (begin ∷ []) o o' → reader ≡ empty_reader
     → AnsweredInTurn environment items now reader 0 s s o o' log log
 unfolding so_far_none
 in_turn_at_first environment items now reader s o o' log reported e =
@@ -208,7 +208,7 @@ unread_in_turn {environment} {items} s {o} o'' (Some before) r ends = inr (recor
 })
 
 -- how a script ends after a last read
-pub ended_in_turn : {environment : Environment} {items : Items} {now : Progress} {reader : ScriptReader} {taken : ℕ} {s s' : InputView} {o o' : OutputView} {log log' log'' : Option (List Asked)}
+pub ended_in_turn : {environment : Environment} {items : Items} {now : EditorState} {reader : ScriptReader} {taken : ℕ} {s s' : InputView} {o o' : OutputView} {log log' log'' : Option (List Asked)}
     (s'' : InputView) (o'' : OutputView) (read_result : Result ℕ DeviceFault) (buf : List ℕ) (r : Result Bool Fault)
     → (before : AnsweredInTurn environment items now reader taken s s' o o' log log') → Logs log' log'' (asked o' read_result buf ∷ []) → Reads s' s'' read_result buf
     → EndsFrom environment items (requests_in before.0.bytes) before.0.reported.answer s s'' o o'' r

@@ -7,8 +7,8 @@ use Rattle.stab_io.specs.Devices.{OutputView, Took, WritesAll}
 use Rattle.stab_io.specs.Refusals.{whole}
 use Rattle.stab_io.specs.declared.refusal.Fault.{Fault}
 use Rattle.stab_io.specs.declared.refusal.Refusal.{Refusal}
-use Rattle.stab_circuit.specs.Items.{Items}
-use Rattle.stab_circuit.specs.Steps.{unroll}
+use Rattle.stab_items.specs.Items.{Items}
+use Rattle.stab_items.specs.Steps.{unroll}
 use Rattle.stab_report.specs.CoinTables.{whole_kinds}
 use Rattle.stab_report.specs.Endings.{SendsFound, FlushesOrFault}
 use Rattle.stab_ways.specs.declared.way.PlacedLetter.{PlacedLetter}

@@ -1,5 +1,5 @@
 -- Laws of answers from a session: what its calls say is what scripts are answered.
-use Rattle.stab_script.proofs.Names.{◌≡◌, ◌≢◌, ℕ, Bool, true, false, min, length, List, refl, sym, ap, subst, ◌∙◌, Option, Some, None, Result, Ok, Err, inl, inr, ◌⊎◌, IfOk, IfErr, IsErrAnd, Refusal, OutOfMemory, Fault, IsCallFault, Items, OneItem, before, done, listed, entries, Path, item_at, printed, Edit, edited, verdict, list_verdict, listed-entries, entries-listed, SessionState, IsEditedBy, IsAsBefore, unroll, steps_cap, check_within, State, CountedRequest, check-whole, steps_counted, refused_text, Signed, member, IsSignIn, sign_in, sign_line, ReplyBytes, GivesText, Held, unless, judged, decided, refusing, counted_shown, held_after, shown_or_refused, counted_answer, held_of, answered, ShotBits, made_text, reply_text, text_found, BookmarkedBits}
+use Rattle.stab_script.proofs.Names.{◌≡◌, ◌≢◌, ℕ, Bool, true, false, min, length, List, refl, sym, ap, subst, ◌∙◌, Option, Some, None, Result, Ok, Err, inl, inr, ◌⊎◌, IfOk, IfErr, IsErrAnd, Refusal, OutOfMemory, Fault, IsCallFault, Items, OneItem, before, done, listed, entries, Path, item_at, printed, Edit, edited, verdict, list_verdict, listed-entries, entries-listed, SessionState, IsEditedBy, IsAsBefore, unroll, steps_cap, check_within, State, CountedRequest, check-whole, steps_counted, refused_text, Signed, member, IsSignIn, sign_in, sign_line, ReplyBytes, GivesText, Held, unless, verdict_on, decided, refusing, counted_shown, held_after, shown_or_refused, counted_answer, held_of, answered, ShotBits, made_text, reply_text, text_found, BookmarkedBits}
 use Rattle.stab_script.proofs.SignAnswerLaws.{reported_sign}
 
 -- items and a bookmark
@@ -8,29 +8,29 @@ held_with items m = record { items = items; bookmark = m }
 
 -- what an edit that was made leaves
 pub made_items : {C : Type 0} (sequence : C → ℕ → Bool) (e : Edit) (old new : SessionState C) → IsEditedBy sequence e old new
-    → judged old.qubits (edited e (entries old.items)) ≡ Ok new.items
+    → verdict_on old.qubits (edited e (entries old.items)) ≡ Ok new.items
 made_items sequence e old new is =
     let after : edited e (entries old.items) ≡ Ok (entries new.items) = is.items in
     let passes : list_verdict old.qubits (Ok (entries new.items)) ≡ None = sym (ap (list_verdict old.qubits) after) ∙ is.accepted in
-    ap (judged old.qubits) after ∙ ap (λ v. unless v (listed (entries new.items))) passes ∙ ap Ok (listed-entries new.items)
+    ap (verdict_on old.qubits) after ∙ ap (λ v. unless v (listed (entries new.items))) passes ∙ ap Ok (listed-entries new.items)
 
-judged_refused : (n : ℕ) (r : Result (List OneItem) Refusal) (x : Refusal) → list_verdict n r ≡ Some x → judged n r ≡ Err x
+judged_refused : (n : ℕ) (r : Result (List OneItem) Refusal) (x : Refusal) → list_verdict n r ≡ Some x → verdict_on n r ≡ Err x
 judged_refused n (Ok ys) x e = ap (λ v. unless v (listed ys)) e
 judged_refused n (Err y) x e = let same : y ≡ x = cc in ap Err same
 
 refused_by : (kept : Bool) (n : ℕ) (r : Result (List OneItem) Refusal) (held : Held) (f : Fault) (v : Option Refusal) → list_verdict n r ≡ v → IsCallFault v f → f.refusal ≢ OutOfMemory
-    → refusing held f.refusal ≡ decided kept held (judged n r)
+    → refusing held f.refusal ≡ decided kept held (verdict_on n r)
 refused_by kept n r held f (Some x) e is some = ap (λ (g : Fault). refusing held g.refusal) is ∙ sym (ap (decided kept held) (judged_refused n r x e))
 refused_by kept n r held f None e is some = absurd (some (ap (λ (g : Fault). g.refusal) is))
 
 -- an edit that was refused, not for lack of memory
 pub refused_answer : (kept : Bool) (n : ℕ) (r : Result (List OneItem) Refusal) (held : Held) (f : Fault) → IsCallFault (list_verdict n r) f → f.refusal ≢ OutOfMemory
-    → refusing held f.refusal ≡ decided kept held (judged n r)
+    → refusing held f.refusal ≡ decided kept held (verdict_on n r)
 refused_answer kept n r held f is some = refused_by kept n r held f (list_verdict n r) refl is some
 
 -- what is said of an edit that was made
 pub reported_made : {C : Type 0} (sequence : C → ℕ → Bool) (kept : Bool) (e : Edit) (old new : SessionState C) (m : BookmarkedBits) (reply : List ℕ) → IsEditedBy sequence e old new → reply ≡ made_text kept
-    → answered (held_of new m) reply false ≡ decided kept (held_of old m) (judged old.qubits (edited e (entries old.items)))
+    → answered (held_of new m) reply false ≡ decided kept (held_of old m) (verdict_on old.qubits (edited e (entries old.items)))
 reported_made sequence kept e old new m reply is same =
     ap (λ l. answered (held_of new m) l false) same ∙ sym (ap (decided kept (held_of old m)) (made_items sequence e old new is))
 
@@ -41,7 +41,7 @@ same_refusal {held} {others} {reply} {refused} r e f g =
 -- what is said of an edit that was refused
 pub reported_refusal : {C : Type 0} (sequence : C → ℕ → Bool) (kept : Bool) (e : Edit) (old new : SessionState C) (m : BookmarkedBits) (f : Fault) (reply : List ℕ) (refused : Bool) → IsAsBefore sequence old new
     → IsCallFault (verdict old.qubits e (entries old.items)) f → f.refusal ≢ OutOfMemory → reply ≡ refused_text f.refusal → refused ≡ true
-    → answered (held_of new m) reply refused ≡ decided kept (held_of old m) (judged old.qubits (edited e (entries old.items)))
+    → answered (held_of new m) reply refused ≡ decided kept (held_of old m) (verdict_on old.qubits (edited e (entries old.items)))
 reported_refusal sequence kept e old new m f reply refused is fault some same true_is =
     same_refusal f.refusal (ap (λ x. held_with x (held_of old m).bookmark) is.items) same true_is ∙ refused_answer kept old.qubits (edited e (entries old.items)) (held_of old m) f fault some
 

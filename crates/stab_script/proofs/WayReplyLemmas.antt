@@ -2,7 +2,7 @@
 use Rattle.stab_script.proofs.Names.{◌≡◌, subst, ◌∙◌, ℕ, false, List, Result, Refusal, Items}
 use Rattle.std.proofs.Common.{ap₂}
 use Rattle.std.specs.Prelude.{None}
-use Rattle.stab_circuit.specs.Steps.{check_within}
+use Rattle.stab_items.specs.Steps.{check_within}
 use Rattle.stab_script.specs.CountedAnswers.{GivesText}
 use Rattle.stab_script.specs.CountedReplies.{text_found}
 use Rattle.stab_script.specs.Replies.{ReplyBytes}

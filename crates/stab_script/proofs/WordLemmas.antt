@@ -8,13 +8,13 @@ use Rattle.stab_io.specs.declared.refusal.Refusal.TheVariants.{PlaceOutOfRange}
 use Rattle.stab_items.proofs.SummaryLemmas.{few_steps}
 use Rattle.stab_items.proofs.EditLemmas.{entries-listed}
 use Rattle.stab_instructions.specs.Results.{◌>>=◌, Gives}
-use Rattle.stab_circuit.specs.Items.{OneItem, listed, entries}
-use Rattle.stab_circuit.specs.Steps.{unroll, check_of, steps_cap}
+use Rattle.stab_items.specs.Items.{OneItem, listed, entries}
+use Rattle.stab_items.specs.Steps.{unroll, check_of, steps_cap}
 use Rattle.stab_items.specs.Paths.{Path}
 use Rattle.stab_items.specs.Places.{item_at}
 use Rattle.stab_items.specs.Edits.{steps_before}
 use Rattle.stab_script.specs.PlaceCounts.{steps_up_to}
-use Rattle.stab_script.specs.Words.{is_end, steps_within, steps_in_front}
+use Rattle.stab_script.specs.Words.{is_end, steps_written, steps_in_front}
 
 -- a path with no blocks is that of the end if its place is
 pub end_of_items : (circuit items : List OneItem) (path : Path) (blocks : List ℕ) (place : ℕ) → blocks ≡ path.blocks → nat_eq (length blocks) 0 ≡ true → place ≡ path.place → items ≡ circuit
@@ -33,12 +33,12 @@ over n place past = grind (arith, past)
 
 -- a number past the steps
 pub past_steps : (circuit : List OneItem) (steps place : ℕ) (number : Option ℕ) → check_of (listed circuit) ≡ None → steps ≡ min (length (unroll (listed circuit))) steps_cap → steps < place → number ≡ Some place
-    → steps_within (length (unroll (listed circuit))) number ≡ Err PlaceOutOfRange
+    → steps_written (length (unroll (listed circuit))) number ≡ Err PlaceOutOfRange
 past_steps circuit steps place number checked counted past is =
     let all = counted_steps circuit steps checked counted in
     let n = length (unroll (listed circuit)) in
     let out : n < place = omega (arith, all, past) in
-    ap (steps_within n) is ∙ ap (λ b. if b then Ok place else Err PlaceOutOfRange) (over n place out)
+    ap (steps_written n) is ∙ ap (λ b. if b then Ok place else Err PlaceOutOfRange) (over n place out)
 
 -- what is in front of a path, if it is known whether it is that of the end
 front_of : (circuit : List OneItem) (path : Option Path) (here : Path) (b : Bool) → path ≡ Some here → is_end here (listed circuit) ≡ b

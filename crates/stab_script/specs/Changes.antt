@@ -7,7 +7,7 @@ use Rattle.stab_run.specs.Runs.{State}
 use Rattle.stab_report.specs.Coins.{ShotBits}
 use Rattle.stab_results.specs.declared.format.Kinds.{Kinds}
 use Rattle.stab_results.specs.declared.format.Kinds.TheVariants.{Measurements, Detectors}
-use Rattle.stab_results.specs.Formats.{entry, one_places}
+use Rattle.stab_results.specs.Formats.{entry, one_positions}
 use Rattle.stab_script.specs.declared.changes.BookmarkedBits.{BookmarkedBits}
 
 -- a bookmark that nothing is compared with
@@ -26,18 +26,18 @@ changes (a ∷ old) (b ∷ new) = (a ⊕ b) ∷ changes old new
 
 -- a line of the entries of 1 bits with spaces between them
 abbrev pub entries_line : Kinds → List Bool → List ℕ
-entries_line kinds bits = drop 1 (flat_map (entry kinds) (one_places bits)) ++ codes "\n"
+entries_line kinds bits = drop 1 (flat_map (entry kinds) (one_positions bits)) ++ codes "\n"
 
 -- if there are more or fewer bits of a name than before, a line of both numbers
-abbrev pub count_line : (name : List ℕ) → (old new : List Bool) → List ℕ
-count_line name old new = if length old == length new then [] else name ++ (codes " " ++ (decimal (length old) ++ (codes " " ++ (decimal (length new) ++ codes "\n"))))
+abbrev pub counted_line : (name : List ℕ) → (old new : List Bool) → List ℕ
+counted_line name old new = if length old == length new then [] else name ++ (codes " " ++ (decimal (length old) ++ (codes " " ++ (decimal (length new) ++ codes "\n"))))
 
 -- what changed of detectors and observables
 abbrev pub changed_text : ShotBits → State → List ℕ
 changed_text bookmark run =
     entries_line (Detectors (length (changes bookmark.detectors run.detectors))) (changes bookmark.detectors run.detectors ++ changes bookmark.observables run.observables)
-    ++ (count_line (codes "detectors") bookmark.detectors run.detectors ++ count_line (codes "observables") bookmark.observables run.observables)
+    ++ (counted_line (codes "detectors") bookmark.detectors run.detectors ++ counted_line (codes "observables") bookmark.observables run.observables)
 
 -- what changed of records
 abbrev pub changed_records_text : ShotBits → State → List ℕ
-changed_records_text bookmark run = entries_line Measurements (changes bookmark.records run.records) ++ count_line (codes "records") bookmark.records run.records
+changed_records_text bookmark run = entries_line Measurements (changes bookmark.records run.records) ++ counted_line (codes "records") bookmark.records run.records

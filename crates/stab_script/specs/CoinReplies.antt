@@ -3,8 +3,8 @@
 use Rattle.std.specs.Prelude.{ℕ, List, Result, Ok, Err, if◌then◌else◌}
 use Rattle.stab_io.specs.declared.refusal.Refusal.{Refusal}
 use Rattle.stab_io.specs.declared.refusal.Refusal.TheVariants.{PlaceOutOfRange}
-use Rattle.stab_circuit.specs.Items.{Items}
-use Rattle.stab_circuit.specs.Steps.{qubits_of}
+use Rattle.stab_items.specs.Items.{Items}
+use Rattle.stab_items.specs.Steps.{qubits_of}
 use Rattle.stab_report.specs.Coins.{table_of}
 use Rattle.stab_jobs.specs.declared.job.FaultLayout.TheVariants.{Lines}
 use Rattle.stab_report.specs.declared.random.Bit.{Bit}

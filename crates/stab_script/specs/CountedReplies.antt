@@ -3,8 +3,8 @@
 use Rattle.std.specs.Prelude.{ℕ, ◌==◌, Bool, true, false, List, [], ◌++◌, length, codes, decimal, Result, Ok, Err}
 use Rattle.std.specs.List.{count_by}
 use Rattle.stab_io.specs.declared.refusal.Refusal.{Refusal}
-use Rattle.stab_circuit.specs.Items.{Items}
-use Rattle.stab_circuit.specs.Steps.{unroll}
+use Rattle.stab_items.specs.Items.{Items}
+use Rattle.stab_items.specs.Steps.{unroll}
 use Rattle.stab_run.specs.Runs.{State}
 use Rattle.stab_script.specs.declared.reply.SessionNumbers.{SessionNumbers}
 

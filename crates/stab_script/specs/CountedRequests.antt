@@ -25,8 +25,8 @@ pub data CountedRequest : Type 0 where
   way : (at word : List ℕ) → CountedRequest
 
 -- the request, if nothing is after its word
-abbrev pub alone : (rest : List ℕ) → CountedRequest → Option CountedRequest
-alone rest request = if length rest == 0 then Some request else None
+abbrev pub request_alone : (rest : List ℕ) → CountedRequest → Option CountedRequest
+request_alone rest request = if length rest == 0 then Some request else None
 
 -- the number of a round, if the word is a number as those of a place are
 abbrev pub round_number_of : (word : List ℕ) → Option ℕ
@@ -35,7 +35,7 @@ round_number_of word = if is_place_number word then Some (value word) else None
 -- the request for what a word stands for, if it stands for something and nothing is after it
 abbrev pub alone_with : {A : Type 0} → (A → CountedRequest) → Option A → (rest : List ℕ) → Option CountedRequest
 alone_with request None rest = None
-alone_with request (Some x) rest = alone rest (request x)
+alone_with request (Some x) rest = request_alone rest (request x)
 
 -- that a round is split off the block at a place, if both are given
 abbrev pub split_of : Option Path → Option ℕ → (rest : List ℕ) → Option CountedRequest
@@ -48,15 +48,15 @@ counted_split words = split_of (place_of (first_word words)) (round_number_of (f
 
 -- what the word after `show changed` asks for
 abbrev pub changed_of : (rest : List ℕ) → Option CountedRequest
-changed_of rest = if bytes_eq rest (codes "records") then Some changed_records else alone rest changed
+changed_of rest = if bytes_eq rest (codes "records") then Some changed_records else request_alone rest changed
 
 -- the sign of the string of a word
 abbrev pub sign_of : (word rest : List ℕ) → Option CountedRequest
-sign_of word rest = if length word == 0 then None else alone rest (sign word)
+sign_of word rest = if length word == 0 then None else request_alone rest (sign word)
 
 -- the way of the string of a word, put in at the place of another
 abbrev pub way_asked : (at word rest : List ℕ) → Option CountedRequest
-way_asked at word rest = if length word == 0 then None else alone rest (way at word)
+way_asked at word rest = if length word == 0 then None else request_alone rest (way at word)
 
 -- the bit that a letter and a number name: D and a detector's, or L and an observable's
 abbrev pub bit_by : (letter : ℕ) → Option ℕ → Option Bit
@@ -71,12 +71,12 @@ bit_of_word (letter ∷ digits) = bit_by letter (round_number_of digits)
 -- what the first word after `show`, and the rest after that, ask for
 abbrev pub counted_show : (word rest : List ℕ) → Option CountedRequest
 counted_show word rest =
-    if bytes_eq word (codes "numbers") then alone rest numbers
+    if bytes_eq word (codes "numbers") then request_alone rest numbers
     else if bytes_eq word (codes "changed") then changed_of rest
     else if bytes_eq word (codes "sign") then sign_of (first_word rest) (after_word rest)
     else if bytes_eq word (codes "item") then alone_with item (place_of (first_word rest)) (after_word rest)
     else if bytes_eq word (codes "place") then alone_with counts (place_of (first_word rest)) (after_word rest)
-    else if bytes_eq word (codes "coins") then alone rest coin_table
+    else if bytes_eq word (codes "coins") then request_alone rest coin_table
     else if bytes_eq word (codes "why") then alone_with why (bit_of_word (first_word rest)) (after_word rest)
     else if bytes_eq word (codes "way") then way_asked (first_word rest) (first_word (after_word rest)) (after_word (after_word rest))
     else None

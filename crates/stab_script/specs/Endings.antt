@@ -6,8 +6,8 @@ use Rattle.stab_io.specs.declared.refusal.Refusal.{Refusal}
 use Rattle.stab_io.specs.declared.refusal.Refusal.TheVariants.{OutOfMemory}
 use Rattle.stab_io.specs.declared.refusal.Fault.{Fault}
 use Rattle.stab_io.specs.Refusals.{whole}
-use Rattle.stab_circuit.specs.Items.{Items}
-use Rattle.stab_circuit.specs.Steps.{qubits_of}
+use Rattle.stab_items.specs.Items.{Items}
+use Rattle.stab_items.specs.Steps.{qubits_of}
 use Rattle.stab_report.specs.Endings.{Ends, Sends, SendsFound}
 use Rattle.stab_script.specs.Words.{PutIn, put_in_of}
 use Rattle.stab_script.specs.WayTexts.{IsWayText}

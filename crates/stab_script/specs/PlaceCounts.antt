@@ -1,8 +1,8 @@
 -- Place counts: where the steps of an item are in the unrolled circuit, and how many records, detectors and coins are theirs.
 -- Source: this project's own.
 use Rattle.std.specs.Prelude.{ℕ, ◌+◌, List, ◌++◌, length, take, drop, codes, decimal}
-use Rattle.stab_circuit.specs.Items.{Items, entries}
-use Rattle.stab_circuit.specs.Steps.{Step, unroll, records_of, detectors_of}
+use Rattle.stab_items.specs.Items.{Items, entries}
+use Rattle.stab_items.specs.Steps.{Step, unroll, records_of, detectors_of}
 use Rattle.stab_items.specs.Paths.{Path}
 use Rattle.stab_items.specs.Edits.{steps_before}
 use Rattle.stab_run.specs.Points.{all_coins_of}

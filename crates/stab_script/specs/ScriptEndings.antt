@@ -5,9 +5,9 @@ use Rattle.stab_io.specs.Devices.{InputView, OutputView, Gave, GaveAndFailed, Ga
 use Rattle.stab_io.specs.declared.refusal.Refusal.TheVariants.{TooLong, ReadFault, WriteFault}
 use Rattle.stab_io.specs.declared.refusal.Fault.{Fault}
 use Rattle.stab_io.specs.Refusals.{whole, IsCallFault}
-use Rattle.stab_circuit.specs.Items.{Items}
+use Rattle.stab_items.specs.Items.{Items}
 use Rattle.stab_circuit.specs.Inputs.{most_read}
-use Rattle.stab_circuit.specs.Steps.{qubits_of, check_within}
+use Rattle.stab_items.specs.Steps.{qubits_of, check_within}
 use Rattle.stab_report.specs.Endings.{Ends, TookAndFlushed, TookAndFlushFailed}
 use Rattle.stab_report.specs.Sources.{coins_of_shot}
 use Rattle.stab_jobs.specs.declared.job.Source.{Source}

@@ -1,12 +1,12 @@
 -- Laws of scripts: each has an answer; one that asks for no distance has no other, and each answer begins with one to its first requests.
 -- Source: this project's own.
 use Rattle.std.specs.Prelude.{◌≡◌, ◌≤◌, List, [], ◌∷◌, ℕ, Bool, true, false, ◌++◌, None}
-use Rattle.stab_circuit.specs.Items.{Items}
-use Rattle.stab_circuit.specs.Steps.{qubits_of, check_within}
+use Rattle.stab_items.specs.Items.{Items}
+use Rattle.stab_items.specs.Steps.{qubits_of, check_within}
 use Rattle.stab_circuit.specs.Readings.{IsCircuit}
 use Rattle.stab_circuit.specs.Laws.{AreOfLines}
 use Rattle.stab_script.specs.Scripts.{Environment, Request, distance, Held, Answer, IsAnswerToAll, IsAnswerToScript, requests_of}
-use Rattle.stab_script.specs.ScriptTurns.{GoesOn}
+use Rattle.stab_script.specs.ScriptTurns.{AnswerGoesOn}
 
 -- items that can be edited on n qubits: some lines stand for them, and nothing refuses them on that many
 abbrev pub CanBeEdited : ℕ → Items → Type 0
@@ -47,4 +47,4 @@ FirstRepliesComeFirst =
 -- also if they ask for a distance, each answer to all begins with some answer to the first
 abbrev pub AnswersBeginWithAnswers : Type 0
 AnswersBeginWithAnswers =
-    (s : Environment) (held : Held) (first rest : List Request) (b : Answer) → IsAnswerToAll s held (first ++ rest) b → (a : Answer) × GoesOn s held first rest a b
+    (s : Environment) (held : Held) (first rest : List Request) (b : Answer) → IsAnswerToAll s held (first ++ rest) b → (a : Answer) × AnswerGoesOn s held first rest a b

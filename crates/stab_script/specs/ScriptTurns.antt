@@ -3,7 +3,7 @@
 use Rattle.std.specs.Prelude.{◌≡◌, ℕ, ◌+◌, Bool, IsTrue, List, [], ◌∷◌, ◌++◌, length, ◌⊎◌, Option, Some, None, Result}
 use Rattle.stab_io.specs.Devices.{InputView, OutputView}
 use Rattle.stab_io.specs.declared.refusal.Fault.{Fault}
-use Rattle.stab_circuit.specs.Items.{Items}
+use Rattle.stab_items.specs.Items.{Items}
 use Rattle.stab_report.specs.Endings.{GaveCircuit}
 use Rattle.stab_jobs.specs.declared.job.Source.{Source}
 use Rattle.stab_script.specs.Scripts.{Environment, Held, Request, Answer, IsAnswerToAll, both, held_at_first, requests_in}
@@ -16,14 +16,14 @@ all_given [] = []
 all_given (a ∷ later) = a.given ++ all_given later
 
 -- an answer to requests begins with one to the first of them, and goes on with one to the rest
-abbrev pub GoesOn : Environment → Held → (first rest : List Request) → (front whole : Answer) → Type 0
-GoesOn s held first rest front whole = IsAnswerToAll s held first front × ((later : Answer) × IsAnswerToAll s front.held rest later × (whole ≡ both front later))
+abbrev pub AnswerGoesOn : Environment → Held → (first rest : List Request) → (front whole : Answer) → Type 0
+AnswerGoesOn s held first rest front whole = IsAnswerToAll s held first front × ((later : Answer) × IsAnswerToAll s front.held rest later × (whole ≡ both front later))
 
 -- when more was asked for, exactly the replies to these first bytes of a script were written, in whole lines and after what was there at first:
 -- with them the answer to these requests begins
 abbrev pub Answered : Environment → Items → (start : ℕ) → List Request → Answer → (before : List ℕ) → Asked → Type 0
 Answered environment items start requests answer before a =
-    (front : Answer) × (rest : List Request) × (requests ≡ requests_in before ++ rest) × GoesOn environment (held_at_first environment items) (requests_in before) rest front answer
+    (front : Answer) × (rest : List Request) × (requests ≡ requests_in before ++ rest) × AnswerGoesOn environment (held_at_first environment items) (requests_in before) rest front answer
     × (a.written ≡ start + length front.reply)
 
 -- the same at each read, if these bytes were handed over before the first

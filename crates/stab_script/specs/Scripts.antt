@@ -7,13 +7,13 @@ use Rattle.stab_io.specs.declared.refusal.Fault.{Fault}
 use Rattle.stab_tableau.specs.Traces.{member}
 use Rattle.stab_instructions.specs.Lines.{content_of, ends_with_byte}
 use Rattle.stab_instructions.specs.Meanings.{is_close}
-use Rattle.stab_circuit.specs.Items.{Items, OneItem, done, before, listed, entries}
+use Rattle.stab_items.specs.Items.{Items, OneItem, done, before, listed, entries}
 use Rattle.stab_items.specs.Paths.{Path}
 use Rattle.stab_items.specs.declared.edit.Edit.{Edit}
 use Rattle.stab_items.specs.declared.edit.Edit.TheVariants as circuit_edit
 use Rattle.stab_items.specs.Edits.{edited, list_verdict}
-use Rattle.stab_circuit.specs.Circuits.{most_bytes, item_fault, StandsForOne}
-use Rattle.stab_circuit.specs.Prints.{printed}
+use Rattle.stab_items.specs.Circuits.{most_bytes, item_fault, StandsForOne}
+use Rattle.stab_items.specs.Prints.{printed}
 use Rattle.stab_run.specs.Runs.{State, run_of}
 use Rattle.stab_report.specs.Coins.{ShotBits, shot_bits_of}
 use Rattle.stab_results.specs.Formats.{f01_bytes}
@@ -22,7 +22,7 @@ use Rattle.stab_results.specs.declared.format.Format.TheVariants.{F01}
 use Rattle.stab_report.specs.Rows.{IsStabilisersText}
 use Rattle.stab_report.specs.Deterministic.{IsDeterministicText}
 use Rattle.stab_report.specs.declared.random.Random.{Random}
-use Rattle.stab_report.specs.FaultTables.{IsFirstRandom}
+use Rattle.stab_report.specs.SingleErrorTables.{IsFirstRandom}
 use Rattle.stab_report.specs.Distances.{IsDistanceText}
 use Rattle.stab_jobs.specs.declared.job.DistanceOptions.{DistanceOptions}
 use Rattle.stab_jobs.specs.declared.job.ErrorLetters.TheVariants.{All}
@@ -30,7 +30,7 @@ use Rattle.stab_items.specs.Places.{item_at}
 use Rattle.stab_items.specs.Splits.{split}
 use Rattle.stab_script.specs.ScriptWords.{first_word, after_word, place_of, Gathered, more, is_nothing}
 use Rattle.stab_script.specs.CountedRequests as counted_asks
-use Rattle.stab_script.specs.CountedRequests.{CountedRequest, alone, bookmark, numbers, changed, changed_records, sign, round_number_of, counted_split, counted_show}
+use Rattle.stab_script.specs.CountedRequests.{CountedRequest, request_alone, bookmark, numbers, changed, changed_records, sign, round_number_of, counted_split, counted_show}
 use Rattle.stab_script.specs.CountedReplies.{text_found, reply_text, made_text, greeting, session_numbers, numbers_line}
 use Rattle.stab_script.specs.Changes.{no_bookmark, changed_text, changed_records_text}
 use Rattle.stab_script.specs.PlaceCounts.{place_text}
@@ -99,7 +99,7 @@ request_by word rest =
     else if bytes_eq word (codes "replace") then put_at Replace (place_of (first_word rest)) (after_word rest)
     else if bytes_eq word (codes "delete") then delete_at (place_of (first_word rest)) (after_word rest)
     else if bytes_eq word (codes "show") then show_of rest
-    else if bytes_eq word (codes "mark") then counted_of (alone rest bookmark)
+    else if bytes_eq word (codes "mark") then counted_of (request_alone rest bookmark)
     else if bytes_eq word (codes "split") then counted_of (counted_split rest)
     else refuse BadCommand
 
@@ -201,13 +201,13 @@ abbrev pub read_last : ScriptReader → Reading
 read_last reader = if is_nothing reader.line then silent reader else read_line reader
 
 -- the end of a script ends what is gathered
-abbrev pub closed : Option Gathering → ScriptReader → Reading
-closed None reader = silent reader
-closed (Some g) reader = gathering_ended g
+abbrev pub script_closed : Option Gathering → ScriptReader → Reading
+script_closed None reader = silent reader
+script_closed (Some g) reader = gathering_ended g
 
 -- the end of a script
 abbrev pub read_end : ScriptReader → Reading
-read_end reader = then_read (read_last reader) (λ after. closed after.gathering after)
+read_end reader = then_read (read_last reader) (λ after. script_closed after.gathering after)
 
 -- the reader before a script
 abbrev pub empty_reader : ScriptReader
@@ -256,13 +256,13 @@ unless None items = Ok items
 unless (Some r) items = Err r
 
 -- the items of an edited list on n qubits, or the verdict that refuses it
-abbrev pub judged : ℕ → Result (List OneItem) Refusal → Result Items Refusal
-judged n (Ok list) = unless (list_verdict n (Ok list)) (listed list)
-judged n (Err r) = Err r
+abbrev pub verdict_on : ℕ → Result (List OneItem) Refusal → Result Items Refusal
+verdict_on n (Ok list) = unless (list_verdict n (Ok list)) (listed list)
+verdict_on n (Err r) = Err r
 
 -- what an edit makes of items on n qubits, or what refuses it
 abbrev pub edited_items : ℕ → Edit → Items → Result Items Refusal
-edited_items n e items = judged n (edited e (entries items))
+edited_items n e items = verdict_on n (edited e (entries items))
 
 -- what a request is answered: what is held after it, the reply, and whether a line was refused
 pub record Answer : Type 0 where

@@ -11,7 +11,7 @@ use Rattle.stab_instructions.specs.declared.product.Factor.{Factor}
 use Rattle.stab_instructions.specs.Results.{◌>>=◌}
 use Rattle.stab_instructions.specs.Lines.{starts_with_byte}
 use Rattle.stab_instructions.specs.Products.{product_of}
-use Rattle.stab_circuit.specs.Steps.{is_inverted}
+use Rattle.stab_items.specs.Steps.{is_inverted}
 use Rattle.stab_run.specs.Runs.{string_of}
 
 -- the word without its sign, if it has one

@@ -3,10 +3,10 @@
 use Rattle.std.specs.Prelude.{◌≡◌, ℕ, ◌-◌, Bool, false, List, [], ◌∷◌, ◌++◌, length, replicate, codes, decimal}
 use Rattle.std.specs.List.{flat_map}
 use Rattle.stab_gates.specs.LetterTexts.{letter_text}
-use Rattle.stab_circuit.specs.Items.{Items}
-use Rattle.stab_circuit.specs.Steps.{unroll, observables_of}
+use Rattle.stab_items.specs.Items.{Items}
+use Rattle.stab_items.specs.Steps.{unroll, observables_of}
 use Rattle.stab_results.specs.declared.format.Kinds.{Kinds}
-use Rattle.stab_results.specs.Formats.{entry, one_places}
+use Rattle.stab_results.specs.Formats.{entry, one_positions}
 use Rattle.stab_run.specs.Points.{RunOutput, with_additions}
 use Rattle.stab_ways.specs.declared.way.PlacedLetter.{PlacedLetter}
 use Rattle.stab_ways.specs.PutIn.{string_after, string_flips}
@@ -22,13 +22,13 @@ abbrev pub placed_text : PlacedLetter → List ℕ
 placed_text l = letter_text l.letter ++ decimal l.qubit
 
 -- a letter after others
-abbrev pub factor_text : PlacedLetter → List ℕ
-factor_text l = codes "*" ++ placed_text l
+abbrev pub factor_in_way : PlacedLetter → List ℕ
+factor_in_way l = codes "*" ++ placed_text l
 
 -- a string as a product of its letters, as X3*Z4, or 1 if it has none
 abbrev pub string_text : List PlacedLetter → List ℕ
 string_text [] = codes "1"
-string_text (l ∷ letters) = placed_text l ++ flat_map factor_text letters
+string_text (l ∷ letters) = placed_text l ++ flat_map factor_in_way letters
 
 -- the line of a place and the string there: how many steps are before it, the path of the item of the last of them, and the string
 abbrev pub turn_line : Items → Turn → List ℕ
@@ -40,7 +40,7 @@ bits_flipped items flips = flips.records ++ (flips.detectors ++ with_additions f
 
 -- the line of the bits that are flipped, as `flips M3 D24 L0`
 abbrev pub flips_line : Kinds → (bits : List Bool) → List ℕ
-flips_line kinds bits = codes "flips" ++ (flat_map (entry kinds) (one_places bits) ++ codes "\n")
+flips_line kinds bits = codes "flips" ++ (flat_map (entry kinds) (one_positions bits) ++ codes "\n")
 
 -- the line of the string at the end
 abbrev pub left_line : List PlacedLetter → List ℕ

@@ -7,8 +7,8 @@ use Rattle.stab_gates.specs.declared.letter.Letter.{Letter}
 use Rattle.stab_pauli.specs.Paulis.{Signed}
 use Rattle.stab_instructions.specs.Results.{◌>>=◌}
 use Rattle.stab_instructions.specs.Lines.{starts_with_byte}
-use Rattle.stab_circuit.specs.Items.{Items, entries}
-use Rattle.stab_circuit.specs.Steps.{unroll}
+use Rattle.stab_items.specs.Items.{Items, entries}
+use Rattle.stab_items.specs.Steps.{unroll}
 use Rattle.stab_items.specs.Paths.{Path}
 use Rattle.stab_items.specs.Places.{item_at}
 use Rattle.stab_script.specs.CountedRequests.{round_number_of}
@@ -17,9 +17,9 @@ use Rattle.stab_script.specs.ScriptWords.{place_of}
 use Rattle.stab_script.specs.Signs.{string_of_word}
 
 -- this many steps, if a word writes a number and the circuit has as many
-abbrev pub steps_within : (steps : ℕ) → Option ℕ → Result ℕ Refusal
-steps_within steps None = Err BadArguments
-steps_within steps (Some place) = if nat_le place steps then Ok place else Err PlaceOutOfRange
+abbrev pub steps_written : (steps : ℕ) → Option ℕ → Result ℕ Refusal
+steps_written steps None = Err BadArguments
+steps_written steps (Some place) = if nat_le place steps then Ok place else Err PlaceOutOfRange
 
 -- the path of the end of a circuit
 abbrev pub is_end : Path → Items → Bool
@@ -32,7 +32,7 @@ steps_in_front items (Some path) = if is_end path items then Ok (length (unroll 
 
 -- how many steps are before a place: as many as the word writes after @, as in @1207, or those before the item that it goes to, as 3/0/2
 abbrev pub steps_of_word : Items → (word : List ℕ) → Result ℕ Refusal
-steps_of_word items word = if starts_with_byte word 64 then steps_within (length (unroll items)) (round_number_of (drop 1 word)) else steps_in_front items (place_of word)
+steps_of_word items word = if starts_with_byte word 64 then steps_written (length (unroll items)) (round_number_of (drop 1 word)) else steps_in_front items (place_of word)
 
 -- a string, and how many steps are before the place at which it is put in
 pub record PutIn : Type 0 where

@@ -3,7 +3,7 @@
 ghost use Rattle.std.specs.Prelude.{◌≡◌, None, false, length, IfOk, IfErr};
 ghost use Rattle.stab_io.specs.Refusals.{whole};
 ghost use Rattle.stab_io.specs.declared.refusal.Refusal.TheVariants.{OutOfMemory};
-ghost use Rattle.stab_circuit.specs.Steps.{check_of, check_within};
+ghost use Rattle.stab_items.specs.Steps.{check_of, check_within};
 ghost use Rattle.stab_items.specs.Views.{circuit_items};
 ghost use Rattle.stab_results.specs.declared.format.Format.TheVariants.{F01};
 ghost use Rattle.stab_report.specs.Deterministic.{IsDeterministicText};

@@ -2,7 +2,7 @@
 ghost use Rattle.std.specs.Prelude.{◌≡◌, Some, IfOk, IfErr};
 ghost use Rattle.stab_io.specs.Refusals.{whole};
 ghost use Rattle.stab_io.specs.declared.refusal.Refusal.TheVariants.{OutOfMemory};
-ghost use Rattle.stab_script.specs.CountedRequests.{alone as alone_of, alone_with, item, counts, why, round_number_of, split_of, counted_split, changed_of, sign_of, way_asked, bit_by as bit_by_letter, bit_of_word, counted_show as shown_by};
+ghost use Rattle.stab_script.specs.CountedRequests.{request_alone as alone_of, alone_with, item, counts, why, round_number_of, split_of, counted_split, changed_of, sign_of, way_asked, bit_by as bit_by_letter, bit_of_word, counted_show as shown_by};
 ghost use Rattle.stab_script.specs.ScriptWords.{first_word as first_of, after_word, place_of};
 ghost use Rattle.stab_script.specs.Requests.{counted_asked, counted_if_any};
 

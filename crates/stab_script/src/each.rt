@@ -3,13 +3,13 @@ ghost use Rattle.std.specs.Prelude.{◌≡◌, ◌<◌, ◌≤◌, ◌∷◌, No
 ghost use Rattle.std.specs.List.{filter, flat_map};
 ghost use Rattle.stab_io.specs.Devices.{WritesAll, WritesAllOrFault};
 ghost use Rattle.stab_io.specs.declared.refusal.Refusal.TheVariants.{OutOfMemory};
-ghost use Rattle.stab_circuit.specs.Steps.{check_of, qubits_of, unroll};
+ghost use Rattle.stab_items.specs.Steps.{check_of, qubits_of, unroll};
 ghost use Rattle.stab_items.specs.Views.{circuit_items};
-ghost use Rattle.stab_regions.specs.Effects.{effect_of_fault};
-ghost use Rattle.stab_regions.specs.Faults.{faults_of};
+ghost use Rattle.stab_regions.specs.Effects.{effect_of_single_error};
+ghost use Rattle.stab_regions.specs.SingleErrors.{single_errors_of};
 ghost use Rattle.stab_report.specs.Endings.{Sends, SendsUnflushed};
-ghost use Rattle.stab_report.specs.PlacedFaults.{fault_placed};
-ghost use Rattle.stab_script.specs.EachTexts.{error_line};
+ghost use Rattle.stab_report.specs.PlacedSingleErrors.{single_error_placed};
+ghost use Rattle.stab_script.specs.EachTexts.{line_of_each};
 ghost use Rattle.stab_script.specs.Endings.{EndsPropagateEach, SendsErrors};
 ghost use Rattle.stab_script.specs.inner.ErrorNumbers.{letters_numbered, numbered_text};
 
@@ -17,8 +17,8 @@ use crate::lines::{kinds_of_all, path_of, write_left};
 use stab_circuit::{Circuit, read_circuit};
 use stab_io::{Fault, Input, Output, Refusal, write_all};
 use stab_pauli::Letter;
-use stab_regions::{EffectTable, fault_effects};
-use stab_report::{PlacedFault, finish, placed_faults, write_place};
+use stab_regions::{EffectTable, single_error_effects};
+use stab_report::{PlacedSingleError, finish, placed_single_errors, write_place};
 use stab_results::write_entries;
 use stab_ways::PlacedLetter;
 use stab_ways::laws::strings_flip_runs;
@@ -28,15 +28,21 @@ use std::alloc::{AllocError, Global};
 fn write_error<O: Output>(
     out: &mut O,
     circuit: &Circuit,
-    fault: PlacedFault,
+    single_error: PlacedSingleError,
     flipped: &[u32],
     left: &[PlacedLetter],
 ) -> Result<(), Refusal>
     requires checked { check_of (circuit_items circuit.now) ≡ None }
-    ensures writes { WritesAll (O.seen out.old) (O.seen out.new) (numbered_text (circuit_items circuit.now) (fault_placed fault) flipped.now left.now) result }
+    ensures writes { WritesAll (O.seen out.old) (O.seen out.new) (numbered_text (circuit_items circuit.now) (single_error_placed single_error) flipped.now left.now) result }
 {
-    let path = path_of(circuit, fault.step);
-    write_place(out, fault.before, &path, fault.letter, fault.qubit)?;
+    let path = path_of(circuit, single_error.step);
+    write_place(
+        out,
+        single_error.before,
+        &path,
+        single_error.letter,
+        single_error.qubit,
+    )?;
     write_entries(out, kinds_of_all(circuit), flipped)?;
     write_all(out, b" ")?;
     write_left(out, left)
@@ -92,14 +98,14 @@ fn letters_of(alloc: Global, numbers: &[u32], first: usize) -> Result<Vec<Placed
 fn put_error<O: Output>(
     out: &mut O,
     circuit: &Circuit,
-    fault: PlacedFault,
+    single_error: PlacedSingleError,
     flipped: &[u32],
     left: &[PlacedLetter],
 ) -> Result<(), Fault>
     requires checked { check_of (circuit_items circuit.now) ≡ None }
-    ensures writes { WritesAllOrFault (O.seen out.old) (O.seen out.new) (numbered_text (circuit_items circuit.now) (fault_placed fault) flipped.now left.now) result }
+    ensures writes { WritesAllOrFault (O.seen out.old) (O.seen out.new) (numbered_text (circuit_items circuit.now) (single_error_placed single_error) flipped.now left.now) result }
 {
-    match write_error(out, circuit, fault, flipped, left) {
+    match write_error(out, circuit, single_error, flipped, left) {
         Ok(()) => Ok(()),
         Err(refusal) => Err(Fault::whole(refusal)),
     }
@@ -110,12 +116,12 @@ fn send_error<O: Output>(
     alloc: Global,
     circuit: &Circuit,
     out: &mut O,
-    fault: PlacedFault,
+    single_error: PlacedSingleError,
     row: &[u32],
 ) -> Result<(), Fault>
     requires checked { check_of (circuit_items circuit.now) ≡ None }
-    requires row { row.now ≡ effect_of_fault (qubits_of (circuit_items circuit.now)) (circuit_items circuit.now) (fault_placed fault) }
-    ensures sends { SendsUnflushed (error_line (circuit_items circuit.now) (fault_placed fault)) (O.seen out.old) (O.seen out.new) result }
+    requires row { row.now ≡ effect_of_single_error (qubits_of (circuit_items circuit.now)) (circuit_items circuit.now) (single_error_placed single_error) }
+    ensures sends { SendsUnflushed (line_of_each (circuit_items circuit.now) (single_error_placed single_error)) (O.seen out.old) (O.seen out.new) result }
 {
     // This shows a proof that the qubits of each pair differ.
     let _ = circuit.items();
@@ -125,7 +131,7 @@ fn send_error<O: Output>(
     };
     let (flipped, parts) = row.split_at(count_below(row, first));
     match letters_of(alloc, parts, first) {
-        Ok(left) => put_error(out, circuit, fault, flipped, left.as_slice()),
+        Ok(left) => put_error(out, circuit, single_error, flipped, left.as_slice()),
         Err(_) => Err(Fault::whole(Refusal::OutOfMemory)),
     }
 }
@@ -135,15 +141,15 @@ fn send_errors<O: Output>(
     alloc: Global,
     circuit: &Circuit,
     out: &mut O,
-    faults: &[PlacedFault],
+    single_errors: &[PlacedSingleError],
     effects: &EffectTable,
 ) -> Result<(), Fault>
     requires checked { check_of (circuit_items circuit.now) ≡ None }
-    requires rows { effects.now ≡ map (λ f. effect_of_fault (qubits_of (circuit_items circuit.now)) (circuit_items circuit.now) (fault_placed f)) faults.now }
-    ensures sends { SendsUnflushed (flat_map (λ f. error_line (circuit_items circuit.now) (fault_placed f)) faults.now) (O.seen out.old) (O.seen out.new) result }
+    requires rows { effects.now ≡ map (λ f. effect_of_single_error (qubits_of (circuit_items circuit.now)) (circuit_items circuit.now) (single_error_placed f)) single_errors.now }
+    ensures sends { SendsUnflushed (flat_map (λ f. line_of_each (circuit_items circuit.now) (single_error_placed f)) single_errors.now) (O.seen out.old) (O.seen out.new) result }
 {
-    'faults: for k in 0..faults.len() {
-        send_error(alloc, circuit, out, faults[k], effects.row(k))?;
+    'single_errors: for k in 0..single_errors.len() {
+        send_error(alloc, circuit, out, single_errors[k], effects.row(k))?;
     }
     Ok(())
 }
@@ -153,34 +159,37 @@ fn send_all<O: Output>(
     alloc: Global,
     circuit: &Circuit,
     out: &mut O,
-    faults: &[PlacedFault],
+    single_errors: &[PlacedSingleError],
     effects: &EffectTable,
 ) -> Result<(), Fault>
     requires checked { check_of (circuit_items circuit.now) ≡ None }
-    requires rows { effects.now ≡ map (λ f. effect_of_fault (qubits_of (circuit_items circuit.now)) (circuit_items circuit.now) (fault_placed f)) faults.now }
-    ensures sends { Sends (flat_map (λ f. error_line (circuit_items circuit.now) (fault_placed f)) faults.now) (O.seen out.old) (O.seen out.new) result }
+    requires rows { effects.now ≡ map (λ f. effect_of_single_error (qubits_of (circuit_items circuit.now)) (circuit_items circuit.now) (single_error_placed f)) single_errors.now }
+    ensures sends { Sends (flat_map (λ f. line_of_each (circuit_items circuit.now) (single_error_placed f)) single_errors.now) (O.seen out.old) (O.seen out.new) result }
 {
-    send_errors(alloc, circuit, out, faults, effects)?;
+    send_errors(alloc, circuit, out, single_errors, effects)?;
     finish(out)
 }
 
 /// The errors that are asked for, and what each flips and leaves.
 #[derive(Drop)]
 struct Errors {
-    faults: Vec<PlacedFault>,
+    single_errors: Vec<PlacedSingleError>,
     effects: EffectTable,
 }
 
 /// Finds them.
 fn errors_of(alloc: Global, circuit: &Circuit, everywhere: bool) -> Result<Errors, Refusal>
     requires checked { check_of (circuit_items circuit.now) ≡ None }
-    ensures faults { IfOk result (λ e. map fault_placed e.faults.items ≡ faults_of everywhere (unroll (circuit_items circuit.now))) }
-    ensures effects { IfOk result (λ e. e.effects ≡ map (λ f. effect_of_fault (qubits_of (circuit_items circuit.now)) (circuit_items circuit.now) (fault_placed f)) e.faults.items) }
+    ensures single_errors { IfOk result (λ e. map single_error_placed e.single_errors.items ≡ single_errors_of everywhere (unroll (circuit_items circuit.now))) }
+    ensures effects { IfOk result (λ e. e.effects ≡ map (λ f. effect_of_single_error (qubits_of (circuit_items circuit.now)) (circuit_items circuit.now) (single_error_placed f)) e.single_errors.items) }
     ensures err { IfErr result (λ r. r ≡ OutOfMemory) }
 {
-    let faults = placed_faults(alloc, circuit, everywhere)?;
-    let effects = fault_effects(alloc, circuit, circuit.qubits(), everywhere)?;
-    Ok(Errors { faults, effects })
+    let single_errors = placed_single_errors(alloc, circuit, everywhere)?;
+    let effects = single_error_effects(alloc, circuit, circuit.qubits(), everywhere)?;
+    Ok(Errors {
+        single_errors,
+        effects,
+    })
 }
 
 /// Finds what each error flips and leaves, writes their lines, and flushes.
@@ -201,7 +210,7 @@ fn send_each<O: Output>(
             alloc,
             circuit,
             out,
-            errors.faults.as_slice(),
+            errors.single_errors.as_slice(),
             &errors.effects,
         ),
         Err(refusal) => Err(Fault::whole(refusal)),

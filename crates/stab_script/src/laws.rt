@@ -1,7 +1,7 @@
-//! Laws of edit scripts and their answers, and of faults and ways. Each function does nothing: its contract is the law, and the check
+//! Laws of edit scripts and their answers, and of single errors and ways. Each function does nothing: its contract is the law, and the check
 //! proves it.
 ghost use Rattle.stab_script.specs.ScriptLaws.{AnswersBeginWithAnswers, CircuitsCanBeEdited, FirstRepliesComeFirst, ScriptsHaveAnAnswer, ScriptsHaveOneAnswer};
-ghost use Rattle.stab_script.specs.WayLaws.{FaultsAreWays};
+ghost use Rattle.stab_script.specs.WayLaws.{SingleErrorsAreWays};
 
 use stab_circuit::laws::{
     edited_items_are_of_lines, item_texts_are_lines, item_texts_have_one_meaning,
@@ -9,7 +9,7 @@ use stab_circuit::laws::{
 };
 use stab_commands::laws::{coins_have_rows, deterministic_has_no_decider};
 use stab_error_model::laws::circuits_have_distances;
-use stab_regions::fault_laws::{deterministic_parities, faults_flip_parities};
+use stab_regions::single_error_laws::{deterministic_parities, single_errors_flip_parities};
 use stab_run::laws::{runs_are_points_with_outputs, runs_are_sound};
 use stab_tableau::laws::{traces_have_one_list, traces_have_reduced_rows};
 use stab_ways::laws::letters_flip_runs;
@@ -72,11 +72,11 @@ pub fn first_replies_come_first()
 
 /// Of a detector or observable that is the same for all random bits, `faults` and the way of a letter say the same: whether the letter
 /// flips it, if it is put in there.
-pub fn faults_are_ways()
-    ensures law { FaultsAreWays }
+pub fn single_errors_are_ways()
+    ensures law { SingleErrorsAreWays }
 {
     runs_are_points_with_outputs();
     deterministic_parities();
-    faults_flip_parities();
+    single_errors_flip_parities();
     letters_flip_runs();
 }

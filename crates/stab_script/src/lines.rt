@@ -2,12 +2,12 @@
 ghost use Rattle.std.specs.Prelude.{◌≡◌, ◌++◌, None, map, IfOk};
 ghost use Rattle.std.specs.List.{flat_map};
 ghost use Rattle.stab_io.specs.Devices.{WritesAll};
-ghost use Rattle.stab_circuit.specs.Steps.{check_of};
+ghost use Rattle.stab_items.specs.Steps.{check_of};
 ghost use Rattle.stab_items.specs.Views.{circuit_items};
 ghost use Rattle.stab_report.specs.CoinTables.{whole_kinds as kinds_of_all};
 ghost use Rattle.stab_report.specs.Places.{path_at};
 ghost use Rattle.stab_ways.specs.Ways.{turn_shown};
-ghost use Rattle.stab_script.specs.WayTexts.{bits_flipped as flipped_of, factor_text, flips_line, left_line, placed_text, string_text, turn_line};
+ghost use Rattle.stab_script.specs.WayTexts.{bits_flipped as flipped_of, factor_in_way, flips_line, left_line, placed_text, string_text, turn_line};
 
 use itoa::Buffer;
 use stab_circuit::{Circuit, Path};
@@ -30,7 +30,7 @@ fn write_placed<O: Output>(out: &mut O, placed: PlacedLetter) -> Result<(), Refu
 
 /// Writes letters after others.
 fn write_factors<O: Output>(out: &mut O, letters: &[PlacedLetter]) -> Result<(), Refusal>
-    ensures writes { WritesAll (O.seen out.old) (O.seen out.new) (flat_map factor_text letters.now) result }
+    ensures writes { WritesAll (O.seen out.old) (O.seen out.new) (flat_map factor_in_way letters.now) result }
 {
     for placed in letters {
         write_all(out, b"*")?;

@@ -2,9 +2,9 @@
 ghost use Rattle.std.specs.Prelude.{◌≡◌, ◌≤◌, ◌<◌, ◌+◌, ◌^◌, None, take, drop, IfOk, IfErr, IfSome};
 ghost use Rattle.stab_io.specs.declared.refusal.Refusal.TheVariants.{OutOfMemory};
 ghost use Rattle.stab_items.specs.Places.{item_at};
-ghost use Rattle.stab_circuit.specs.Steps.{check_of, makes, detectors_in as detectors_made};
+ghost use Rattle.stab_items.specs.Steps.{check_of, makes, detectors_in as detectors_made};
 ghost use Rattle.stab_items.specs.Views.{circuit_items};
-ghost use Rattle.stab_items.specs.Cursors.{step_shown};
+ghost use Rattle.stab_items.specs.StepValues.{step_shown};
 ghost use Rattle.stab_run.specs.Points.{coins_of};
 ghost use Rattle.stab_script.specs.PlaceCounts.{counts_of, place_after as after_of, steps_up_to, steps_at, place_text};
 ghost use Rattle.stab_script.specs.CountedReplies.{text_found};

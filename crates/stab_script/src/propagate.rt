@@ -1,6 +1,6 @@
 //! The command that writes the way of a string.
 ghost use Rattle.std.specs.Prelude.{◌≡◌, None, Ok, length};
-ghost use Rattle.stab_circuit.specs.Steps.{check_of, qubits_of};
+ghost use Rattle.stab_items.specs.Steps.{check_of, qubits_of};
 ghost use Rattle.stab_items.specs.Views.{circuit_items};
 ghost use Rattle.stab_report.specs.Endings.{SendsFound};
 ghost use Rattle.stab_script.specs.Words.{PutIn, put_in_of};

@@ -3,7 +3,7 @@ ghost use Rattle.std.specs.Prelude.{◌≡◌, ◌<◌, ◌≤◌, ◌+◌, ◌^
 ghost use Rattle.stab_io.specs.Refusals.{whole};
 ghost use Rattle.stab_io.specs.declared.refusal.Refusal.TheVariants.{OutOfMemory};
 ghost use Rattle.stab_script.specs.ScriptWords.{Gathered as Text};
-ghost use Rattle.stab_script.specs.Scripts.{ScriptReader as ScriptReaderState, Gathering as GatheringState, put_gathered as put_of, begun as begun_of, line_alone, opened_after as opened_of, gathered_with, line_gathered, read_line, read_byte, read_last, closed, empty_reader};
+ghost use Rattle.stab_script.specs.Scripts.{ScriptReader as ScriptReaderState, Gathering as GatheringState, put_gathered as put_of, begun as begun_of, line_alone, opened_after as opened_of, gathered_with, line_gathered, read_line, read_byte, read_last, script_closed, empty_reader};
 ghost use Rattle.stab_script.specs.Requests.{request_asked, asked_if_any, opened_in};
 
 use crate::gathered::Gathered;
@@ -228,7 +228,7 @@ impl ScriptReader {
 
     /// Ends what is gathered, with the script.
     pub(crate) fn close(&mut self) -> Option<Request>
-        ensures requests { asked_if_any result ≡ (closed self.old.gathering self.old).requests }
+        ensures requests { asked_if_any result ≡ (script_closed self.old.gathering self.old).requests }
     {
         match self.gathering.take() {
             None => None,

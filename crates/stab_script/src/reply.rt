@@ -4,21 +4,22 @@ ghost use Rattle.stab_io.specs.Devices.{WritesAll};
 ghost use Rattle.stab_pauli.specs.Texts.{pauli_text};
 ghost use Rattle.stab_io.specs.Refusals.{whole};
 ghost use Rattle.stab_io.specs.declared.refusal.Refusal.TheVariants.{OutOfMemory};
-ghost use Rattle.stab_circuit.specs.Items.{before, done};
+ghost use Rattle.stab_items.specs.Items.{before, done};
 ghost use Rattle.stab_items.specs.Views.{circuit_items};
-ghost use Rattle.stab_circuit.specs.Prints.{printed};
-ghost use Rattle.stab_results.specs.Formats.{f01_bytes, dets_bytes, detectors_of};
+ghost use Rattle.stab_items.specs.Prints.{printed};
+ghost use Rattle.stab_results.specs.Formats.{f01_bytes, dets_bytes, detector_bits_of};
 ghost use Rattle.stab_report.specs.FaultLines.{refused_text};
 ghost use Rattle.stab_report.specs.Rows.{lines_of};
-ghost use Rattle.stab_script.specs.Changes.{count_line, entries_line};
+ghost use Rattle.stab_script.specs.Changes.{counted_line, entries_line};
 ghost use Rattle.stab_script.specs.PlaceCounts.{place_line, two_numbers};
 ghost use Rattle.stab_script.specs.CountedReplies.{greeting as greeting_of, lines_in, made_text, numbers_line, reply_text};
 ghost use Rattle.stab_script.specs.Signs.{sign_line};
 ghost use Rattle.stab_report.specs.Texts.{texts_joined};
 ghost use Rattle.stab_script.specs.Replies.{ReplyBytes, no_reply, reply_output};
 
-use stab_circuit::{Circuit, Item, write_circuit, write_one_item};
+use stab_circuit::{Circuit, Item, write_circuit};
 use stab_io::{DeviceFault, Fault, Output, Refusal, write_all};
+use stab_items::write_one_item;
 use stab_pauli::Pauli;
 use stab_report::write_texts;
 use stab_results::{Format, Kinds, write_shot};
@@ -248,7 +249,7 @@ impl Reply {
 
     /// A shot as `dets` has it.
     fn dets(alloc: Global, kinds: Kinds, bits: &[bool]) -> Result<Reply, Fault>
-        requires within { detectors_of kinds ≤ length bits.now }
+        requires within { detector_bits_of kinds ≤ length bits.now }
         ensures written { IfOk result (λ r. r.written ≡ dets_bytes kinds bits.now) }
         ensures err { IfErr result (λ f. f ≡ whole OutOfMemory) }
     {
@@ -262,7 +263,7 @@ impl Reply {
     /// A line of the entries of 1 bits.
     #[tactic(auto, using(crate::proofs::CountedReplyLaws::one_text_joined, crate::proofs::CountedReplyLaws::no_entry, crate::proofs::CountedReplyLaws::some_entry))]
     pub fn entries(alloc: Global, kinds: Kinds, bits: &[bool]) -> Result<Reply, Fault>
-        requires within { detectors_of kinds ≤ length bits.now }
+        requires within { detector_bits_of kinds ≤ length bits.now }
         ensures written { IfOk result (λ r. r.written ≡ entries_line kinds bits.now) }
         ensures err { IfErr result (λ f. f ≡ whole OutOfMemory) }
     {
@@ -279,7 +280,7 @@ impl Reply {
     /// Appends a line of two numbers of bits, if these differ.
     #[tactic(auto, using(crate::proofs::CountedReplyLaws::nothing_after))]
     pub fn add_count(&mut self, name: &[u8], old: &[bool], new: &[bool]) -> Result<(), Fault>
-        ensures written { OnOk result (self.new.written ≡ self.old.written ++ count_line name.now old.now new.now) }
+        ensures written { OnOk result (self.new.written ≡ self.old.written ++ counted_line name.now old.now new.now) }
         ensures err { IfErr result (λ f. f ≡ whole OutOfMemory) }
     {
         if old.len() == new.len() {

@@ -41,9 +41,9 @@ impl<C: Coins> SessionAnswers<C> {
     ghost use Rattle.stab_io.specs.Refusals.{whole};
     ghost use Rattle.stab_io.specs.declared.refusal.Refusal.TheVariants.{OutOfMemory};
     ghost use Rattle.stab_tableau.specs.Traces.{member};
-    ghost use Rattle.stab_circuit.specs.Items.{before, done, entries};
+    ghost use Rattle.stab_items.specs.Items.{before, done, entries};
     ghost use Rattle.stab_items.specs.Places.{item_at};
-    ghost use Rattle.stab_circuit.specs.Prints.{printed};
+    ghost use Rattle.stab_items.specs.Prints.{printed};
     ghost use Rattle.stab_items.specs.Splits.{split as split_list};
     ghost use Rattle.stab_report.specs.FaultLines.{refused_text};
     ghost use Rattle.stab_report.specs.Coins.{shot_bits_of};

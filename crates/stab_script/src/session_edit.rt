@@ -2,7 +2,7 @@
 ghost use Rattle.std.specs.Prelude.{◌≡◌, ◌≤◌, ◌⊎◌, None, IfOk, IfErr, OnOk};
 ghost use Rattle.stab_io.specs.Refusals.{IsCallFault};
 ghost use Rattle.stab_gates.specs.Limits.{most_qubits};
-ghost use Rattle.stab_circuit.specs.Steps.{check_within};
+ghost use Rattle.stab_items.specs.Steps.{check_within};
 ghost use Rattle.stab_items.specs.Views.{circuit_items};
 ghost use Rattle.stab_circuit.specs.Limits.{most_stride};
 ghost use Rattle.stab_script.specs.Scripts.{held_at_first, IsAnswerToAll};

@@ -2,7 +2,7 @@
 ghost use Rattle.std.specs.Prelude.{◌≡◌, ◌<◌, IfOk, length, nat_lt, true};
 ghost use Rattle.std.specs.List.{list_all};
 ghost use Rattle.stab_instructions.specs.Results.{Gives};
-ghost use Rattle.stab_circuit.specs.Steps.{is_inverted as inverted_of};
+ghost use Rattle.stab_items.specs.Steps.{is_inverted as inverted_of};
 ghost use Rattle.stab_script.specs.Signs.{unsigned as unsigned_of, is_string_byte as is_letter_of, letter_of_byte as letter_of, lettered, string_within, string_without_sign, string_of_word};
 
 use stab_circuit::{read_product, starts_with};

@@ -1,10 +1,10 @@
 //! The place and the string that the words of a command line or a script ask about.
 ghost use Rattle.std.specs.Prelude.{◌≡◌, None, IfOk, length};
-ghost use Rattle.stab_circuit.specs.Steps.{check_of, unroll};
+ghost use Rattle.stab_items.specs.Steps.{check_of, unroll};
 ghost use Rattle.stab_items.specs.Views.{circuit_items};
 ghost use Rattle.stab_instructions.specs.Results.{Gives};
 ghost use Rattle.stab_script.specs.CountedRequests.{round_number_of};
-ghost use Rattle.stab_script.specs.Words.{GivesPutIn, is_end, put_in_of, steps_in_front, steps_of_word, steps_within};
+ghost use Rattle.stab_script.specs.Words.{GivesPutIn, is_end, put_in_of, steps_in_front, steps_of_word, steps_written};
 
 use crate::counted::read_round;
 use crate::place::read_place;
@@ -15,9 +15,9 @@ use stab_pauli::Pauli;
 use std::alloc::Global;
 
 /// This many steps, if a number is given and the circuit has as many.
-fn steps_within(circuit: &Circuit, number: Option<u64>) -> Result<usize, Refusal>
+fn steps_written(circuit: &Circuit, number: Option<u64>) -> Result<usize, Refusal>
     requires checked { check_of (circuit_items circuit.now) ≡ None }
-    ensures gives { Gives result (steps_within (length (unroll (circuit_items circuit.now))) number) }
+    ensures gives { Gives result (steps_written (length (unroll (circuit_items circuit.now))) number) }
 {
     match number {
         None => Err(Refusal::BadArguments),
@@ -57,7 +57,7 @@ fn read_steps(circuit: &Circuit, word: &[u8]) -> Result<usize, Refusal>
     ensures gives { Gives result (steps_of_word (circuit_items circuit.now) word.now) }
 {
     if !word.is_empty() && word[0] == b'@' {
-        return steps_within(circuit, read_round(&word[1..]));
+        return steps_written(circuit, read_round(&word[1..]));
     }
     steps_in_front(circuit, read_place(word))
 }

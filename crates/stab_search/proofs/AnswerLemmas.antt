@@ -1,5 +1,5 @@
 -- Answers: each table has one, since all lists of a number of rows can be tried.
-use Rattle.stab_search.proofs.Names.{◌≡◌, ℕ, zero, suc, ◌+◌, ◌≤◌, ◌<◌, ◌⊎◌, inl, inr, refl, sym, ◌∙◌, subst, arith, Bool, true, false, List, [], ◌∷◌, ◌++◌, length, append-nil, append_assoc, ◌^◌, Vec, null_ptr, cases_lt, false≢true, ◌⊕◌, Answer, Least, NoneWithin, NoneAtAll, ErrorTable, odd, flipped_by_rows, IsLogicalError, IsLeast, HasSome, HasNoneWithin, IsAnswer, Each}
+use Rattle.stab_search.proofs.Names.{◌≡◌, ℕ, zero, suc, ◌+◌, ◌≤◌, ◌<◌, ◌⊎◌, inl, inr, refl, sym, ◌∙◌, subst, arith, Bool, true, false, List, [], ◌∷◌, ◌++◌, length, append-nil, append_assoc, ◌^◌, Vec, null_ptr, cases_lt, false≢true, ◌⊕◌, Answer, Least, NoneWithin, NoneAtAll, ErrorTable, odd, flipped_by_rows, IsLogicalError, IsLeast, HasSome, HasNoneWithin, IsLeastAnswer, ForEach}
 use Rattle.std.proofs.lemmas.Bool.{ne_eqb}
 use Rattle.stab_search.proofs.FlipLemmas.{named_by, odd-named}
 use Rattle.stab_search.proofs.ListLemmas.{by-bit, all-each, each-all, each-push}
@@ -67,7 +67,7 @@ module _ (t : ErrorTable) where
         by_position (inl lt) = lt
         by_position (inr le) = absurd (false-or-true (flipped_by_rows t.rows errors o) is (sym (odd-named t.rows errors o) ∙ (end-of (named_by t.rows errors)).1 o le))
 
-    is-logical : Each Inside errors → IsLogicalError t errors ⊎ (IsLogicalError t errors → ⊥)
+    is-logical : ForEach Inside errors → IsLogicalError t errors ⊎ (IsLogicalError t errors → ⊥)
     is-logical inside = by_detectors (tried Flipped t.detectors (λ d lt. flipped d))
       where
         by_observables : ((d : ℕ) → d < t.detectors → Flipped d → ⊥) → ((o : ℕ) × (o < end) × Observed o) ⊎ ((o : ℕ) → o < end → Observed o → ⊥)
@@ -88,7 +88,7 @@ module _ (t : ErrorTable) where
   abbrev Completes : (size : ℕ) (chosen : List ℕ) → Type 0
   Completes size chosen = (more : List ℕ) × (length more ≡ size) × IsLogicalError t (chosen ++ more)
 
-  next-inside : (chosen : List ℕ) (r : ℕ) (more : List ℕ) → Each Inside (chosen ++ r ∷ more) → Inside r
+  next-inside : (chosen : List ℕ) (r : ℕ) (more : List ℕ) → ForEach Inside (chosen ++ r ∷ more) → Inside r
   next-inside [] r more inside = inside.0
   next-inside (x ∷ xs) r more inside = next-inside xs r more inside.1
 
@@ -104,7 +104,7 @@ module _ (t : ErrorTable) where
     (more, omega (arith, count), subst (IsLogicalError t) (sym (append_assoc chosen (r ∷ []) more)) e),
   )
 
-  completes : (size : ℕ) (chosen : List ℕ) → Each Inside chosen → Completes size chosen ⊎ (Completes size chosen → ⊥)
+  completes : (size : ℕ) (chosen : List ℕ) → ForEach Inside chosen → Completes size chosen ⊎ (Completes size chosen → ⊥)
   completes zero chosen inside = by_logical (is-logical chosen inside)
     where
       by_logical : IsLogicalError t chosen ⊎ (IsLogicalError t chosen → ⊥) → Completes zero chosen ⊎ (Completes zero chosen → ⊥)
@@ -169,14 +169,14 @@ module _ (t : ErrorTable) where
       by_shortest (inl (set, is)) = (length errors, set, is)
       by_shortest (inr none) = let less : length errors < length errors = none errors e in absurd (omega (arith, less))
 
-  pub answer : (most : ℕ) → most < 2 ^ 63 → (a : Answer) × IsAnswer t most a
+  pub answer : (most : ℕ) → most < 2 ^ 63 → (a : Answer) × IsLeastAnswer t most a
   answer most few = by_shortest (shortest most)
     where
-      by_any : HasNoneWithin t most → ((set : List ℕ) × IsLeast t (length t.rows) set) ⊎ HasNoneWithin t (length t.rows) → (a : Answer) × IsAnswer t most a
+      by_any : HasNoneWithin t most → ((set : List ℕ) × IsLeast t (length t.rows) set) ⊎ HasNoneWithin t (length t.rows) → (a : Answer) × IsLeastAnswer t most a
       by_any none (inl (set, is)) = (NoneWithin, (none, (set, is.logical)))
       by_any none (inr never) =
           (NoneAtAll, λ errors e. let less : length errors < length errors = none-up_to t (length errors) (length t.rows) (omega arith) never errors e in omega (arith, less))
 
-      by_shortest : ((set : List ℕ) × IsLeast t most set) ⊎ HasNoneWithin t most → (a : Answer) × IsAnswer t most a
+      by_shortest : ((set : List ℕ) × IsLeast t most set) ⊎ HasNoneWithin t most → (a : Answer) × IsLeastAnswer t most a
       by_shortest (inr none) = by_any none (shortest (length t.rows))
       by_shortest (inl (set, is)) = (Least (held set (omega (arith, few, is.within))), is)

@@ -1,5 +1,5 @@
 -- Ascending lists: merged ones ascend, and a number is in one once or not at all.
-use Rattle.stab_search.proofs.Names.{◌≡◌, ℕ, suc, ◌+◌, ◌≤◌, ◌<◌, ◌⊎◌, inl, inr, refl, sym, ◌∙◌, ap, subst, arith, Bool, true, false, ◌||◌, List, [], ◌∷◌, ◌++◌, append-nil, append_assoc, drop-cons, length, drop, get_or, ne_eqb, ◌==◌, list_any, eqb-true, drop_of_length-le, ◌⊕◌, AscendsFrom, IsAscending, odd, Each}
+use Rattle.stab_search.proofs.Names.{◌≡◌, ℕ, suc, ◌+◌, ◌≤◌, ◌<◌, ◌⊎◌, inl, inr, refl, sym, ◌∙◌, ap, subst, arith, Bool, true, false, ◌||◌, List, [], ◌∷◌, ◌++◌, append-nil, append_assoc, drop-cons, length, drop, get_or, ne_eqb, ◌==◌, list_any, eqb-true, drop_of_length-le, ◌⊕◌, AscendsFrom, IsAscending, odd, ForEach}
 
 ascends-lower : (m k : ℕ) (xs : List ℕ) → m ≤ k → AscendsFrom k xs → AscendsFrom m xs
 ascends-lower m k [] le a = tt
@@ -78,7 +78,7 @@ pub named-ascending : (ks : List ℕ) (i : ℕ) → IsAscending ks → list_any 
 named-ascending ks i a = named-odd 0 ks i a
 
 -- each is below what the last is below
-each-below : (m n : ℕ) (xs : List ℕ) → AscendsFrom m xs → ((k : ℕ) → k + 1 ≡ length xs → get_or xs k 0 < n) → Each (λ x. x < n) xs
+each-below : (m n : ℕ) (xs : List ℕ) → AscendsFrom m xs → ((k : ℕ) → k + 1 ≡ length xs → get_or xs k 0 < n) → ForEach (λ x. x < n) xs
 each-below m n [] a last = tt
 each-below m n (x ∷ []) a last = (last 0 (omega arith), tt)
 each-below m n (x ∷ y ∷ ys) a last =
@@ -87,7 +87,7 @@ each-below m n (x ∷ y ∷ ys) a last =
     let less = a.1.0 in
     (omega arith, later)
 
-odd-above : (n : ℕ) (xs : List ℕ) (i : ℕ) → Each (λ x. x < n) xs → n ≤ i → odd i xs ≡ false
+odd-above : (n : ℕ) (xs : List ℕ) (i : ℕ) → ForEach (λ x. x < n) xs → n ≤ i → odd i xs ≡ false
 odd-above n [] i a le = refl
 odd-above n (x ∷ xs) i a le =
     let here : (x == i) ≡ false = ne_eqb x i (λ e. let h = a.0 in omega arith) in

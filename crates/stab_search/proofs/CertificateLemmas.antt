@@ -1,5 +1,5 @@
 -- Certificates: what members add up to over some errors.
-use Rattle.stab_search.proofs.Names.{◌≡◌, ℕ, ◌+◌, ◌≤◌, ◌<◌, ◌⊎◌, inl, inr, refl, sym, ◌∙◌, ap, subst, arith, Bool, true, false, List, [], ◌∷◌, ◌++◌, length, get_or, ne_eqb, ◌==◌, eq-eqb, cases_eq, cases_lt, false≢true, ◌⊕◌, parity-mid, ErrorTable, odd, row, flipped_by_rows, HasNone, Each, odd_members, IsCertificate, FollowsDetectors}
+use Rattle.stab_search.proofs.Names.{◌≡◌, ℕ, ◌+◌, ◌≤◌, ◌<◌, ◌⊎◌, inl, inr, refl, sym, ◌∙◌, ap, subst, arith, Bool, true, false, List, [], ◌∷◌, ◌++◌, length, get_or, ne_eqb, ◌==◌, eq-eqb, cases_eq, cases_lt, false≢true, ◌⊕◌, parity-mid, ErrorTable, odd, row, flipped_by_rows, HasNone, ForEach, odd_members, IsCertificate, FollowsDetectors}
 use Rattle.stab_search.proofs.ListLemmas.{by-bit, each-all}
 use Rattle.stab_search.proofs.Totals.{total, bits, total-append, total-none}
 use Rattle.stab_search.proofs.FlipLemmas.{named_by, odd-named}
@@ -23,7 +23,7 @@ members-with members o (x ∷ xs) =
     ∙ parity-mid (get_or members x false) (x == o) (odd_members members xs) (odd o xs)
 
 module _ (t : ErrorTable) (o : ℕ) (members : List Bool) (is : IsCertificate t o members) where
-  even-named : (errors : List ℕ) → Each (λ r. r < length t.rows) errors → odd_members members (named_by t.rows errors) ≡ false
+  even-named : (errors : List ℕ) → ForEach (λ r. r < length t.rows) errors → odd_members members (named_by t.rows errors) ≡ false
   even-named [] a = refl
   even-named (r ∷ rs) a =
       members-append members (row t.rows r) (named_by t.rows rs)
@@ -59,7 +59,7 @@ module _ (t : ErrorTable) (o : ℕ) (members : List Bool) (is : IsCertificate t 
 pub unnamed : (t : ErrorTable) (o : ℕ) → ((r : ℕ) → r < length t.rows → odd o (row t.rows r) ≡ false) → FollowsDetectors t o
 unnamed t o none errors inside undetected = flips_none errors (each-all (λ r. r < length t.rows) errors inside)
   where
-    flips_none : (xs : List ℕ) → Each (λ r. r < length t.rows) xs → flipped_by_rows t.rows xs o ≡ false
+    flips_none : (xs : List ℕ) → ForEach (λ r. r < length t.rows) xs → flipped_by_rows t.rows xs o ≡ false
     flips_none [] a = refl
     flips_none (x ∷ xs) a = ap (λ b. b ⊕ flipped_by_rows t.rows xs o) (none x a.0) ∙ flips_none xs a.1
 

@@ -1,5 +1,5 @@
 -- Choices: of errors with weights that complete what is flipped one is among those listed.
-use Rattle.stab_search.proofs.Names.{◌≡◌, ℕ, ◌-◌, ◌*◌, ◌≤◌, ◌<◌, ◌⊎◌, inl, inr, sym, ◌∙◌, ap, arith, true, false, List, [], ◌∷◌, length, get_or, slice_index, ◌⊕◌, parity-false, IsAscending, ErrorTable, odd, row, flipped_by_rows, IsLogicalError, HasNoneWithin, Each, has, key_of, shares, Completes, ways, HasNoFewer, IsWay, MeetsEach}
+use Rattle.stab_search.proofs.Names.{◌≡◌, ℕ, ◌-◌, ◌*◌, ◌≤◌, ◌<◌, ◌⊎◌, inl, inr, sym, ◌∙◌, ap, arith, true, false, List, [], ◌∷◌, length, get_or, slice_index, ◌⊕◌, parity-false, IsAscending, ErrorTable, odd, row, flipped_by_rows, IsLogicalError, HasNoneWithin, ForEach, has, key_of, shares, Completes, ways, HasNoFewer, IsWeightedWay, MeetsEach}
 use Rattle.stab_search.proofs.CoverLemmas.{no-fewer, above, some-shared}
 use Rattle.stab_search.proofs.EndLemmas.{completes-observed}
 use Rattle.stab_search.proofs.FlipLemmas.{namer, key-same}
@@ -18,7 +18,7 @@ completes-logical t s rest nothing c = record {
   );
 }
 
-pub logical-completes : (t : ErrorTable) (rest : List ℕ) → Each (λ r. r < length t.rows) rest → IsLogicalError t rest → Completes t [] rest
+pub logical-completes : (t : ErrorTable) (rest : List ℕ) → ForEach (λ r. r < length t.rows) rest → IsLogicalError t rest → Completes t [] rest
 logical-completes t rest inside e = record {
   inside = inside;
   undetected = λ d lt. e.undetected d lt;
@@ -41,7 +41,7 @@ module _ (t : ErrorTable) (weights s : List ℕ) where
   meet-keyed numbers left at few one all (h ∷ r ∷ rest) way = let count = way.count in absurd (omega arith)
 
   -- one flips a detector that is flipped
-  pub meet-flipping : (left : ℕ) (at : List ℕ) (rest : List ℕ) (i : ℕ) → IsWay t weights s left rest → flipped_by_rows t.rows rest i ≡ true
+  pub meet-flipping : (left : ℕ) (at : List ℕ) (rest : List ℕ) (i : ℕ) → IsWeightedWay t weights s left rest → flipped_by_rows t.rows rest i ≡ true
       → ((e : ℕ) → e < length t.rows → 0 < slice_index weights e → odd i (row t.rows e) ≡ true → has e at ≡ true) → (e : ℕ) × ((has e rest ≡ true) × (has e at ≡ true))
   meet-flipping left at rest i way flipped all =
       let one = namer t.rows rest i flipped in (
@@ -53,11 +53,11 @@ module _ (t : ErrorTable) (weights s : List ℕ) where
         ),
       )
 
-  module _ (ds : List ℕ) (inside : Each (λ d. d < t.detectors) ds) (are_flipped : Each (λ d. odd d s ≡ true) ds) (left : ℕ) where
-    flip-each : (rest : List ℕ) → Completes t s rest → Each (λ d. flipped_by_rows t.rows rest d ≡ true) ds
+  module _ (ds : List ℕ) (inside : ForEach (λ d. d < t.detectors) ds) (are_flipped : ForEach (λ d. odd d s ≡ true) ds) (left : ℕ) where
+    flip-each : (rest : List ℕ) → Completes t s rest → ForEach (λ d. flipped_by_rows t.rows rest d ≡ true) ds
     flip-each rest c = both ds inside are_flipped
       where
-        both : (xs : List ℕ) → Each (λ d. d < t.detectors) xs → Each (λ d. odd d s ≡ true) xs → Each (λ d. flipped_by_rows t.rows rest d ≡ true) xs
+        both : (xs : List ℕ) → ForEach (λ d. d < t.detectors) xs → ForEach (λ d. odd d s ≡ true) xs → ForEach (λ d. flipped_by_rows t.rows rest d ≡ true) xs
         both [] a b = tt
         both (x ∷ xs) a b = (c.undetected x a.0 ∙ b.0, both xs a.1 b.1)
 
@@ -113,6 +113,6 @@ none-after t before after s left at count meet zero others =
         (λ there. let none = zero e there in absurd (omega arith))
         (λ not. let same = others e not in omega arith)
 
-    earlier : (rest : List ℕ) → Each (λ e. 0 < slice_index after e) rest → Each (λ e. 0 < slice_index before e) rest
+    earlier : (rest : List ℕ) → ForEach (λ e. 0 < slice_index after e) rest → ForEach (λ e. 0 < slice_index before e) rest
     earlier [] a = tt
     earlier (e ∷ rest) a = (weighed e a.0, earlier rest a.1)

@@ -1,5 +1,5 @@
 -- The errors that an assignment has: what they flip, and an assignment for a set of errors.
-use Rattle.stab_search.proofs.Names.{◌≡◌, ℕ, zero, suc, ◌+◌, ◌-◌, ◌<◌, ◌≤◌, ◌⊎◌, inl, inr, refl, sym, ◌∙◌, subst, ap, ap₂, arith, Bool, true, false, List, [], ◌∷◌, ◌++◌, length, ◌&&◌, ◌||◌, ◌==◌, cond, cases_eq, eq-eqb, ne_eqb, nat_lt, append_assoc, length-append, All, All-head, All-tail, filter, range_with_len, list_any, ◌⊕◌, odd, flipped_by_rows, row, AscendsFrom, IsAscending, errors_in, flipped_by}
+use Rattle.stab_search.proofs.Names.{◌≡◌, ℕ, zero, suc, ◌+◌, ◌-◌, ◌<◌, ◌≤◌, ◌⊎◌, inl, inr, refl, sym, ◌∙◌, subst, ap, ap₂, arith, Bool, true, false, List, [], ◌∷◌, ◌++◌, length, ◌&&◌, ◌||◌, ◌==◌, cond, cases_eq, eq-eqb, ne_eqb, nat_lt, append_assoc, length-append, All, All-head, All-tail, filter, range_with_len, list_any, ◌⊕◌, odd, flipped_by_rows, row, AscendsFrom, IsAscending, errors_in, flipped_in_sum}
 use Rattle.std.proofs.lemmas.Bool.{lt-ltb, le-ltb}
 use Rattle.std.proofs.lemmas.List.Elements.{All-filter}
 use Rattle.std.proofs.lemmas.List.FromFn.{length-range_with_len, get_or-range_with_len}
@@ -11,27 +11,27 @@ row-mid (x ∷ front) back r = row-mid front back r
 
 -- what the errors flip that an assignment has of the last rows
 flips-rest : (a : ℕ → Bool) (front back : List (List ℕ)) (i : ℕ)
-    → flipped_by_rows (front ++ back) (filter (λ k. a (k + 1)) (range_with_len (length front) (length back))) i ≡ flipped_by a (length front + 1) back i
+    → flipped_by_rows (front ++ back) (filter (λ k. a (k + 1)) (range_with_len (length front) (length back))) i ≡ flipped_in_sum a (length front + 1) back i
 flips-rest a front [] i = refl
 flips-rest a front (r ∷ back) i = by (flips-rest a (front ++ r ∷ []) back i) (a (length front + 1)) refl
   where
     rest : ℕ → List ℕ
     rest m = filter (λ k. a (k + 1)) (range_with_len m (length back))
 
-    more : flipped_by_rows ((front ++ r ∷ []) ++ back) (rest (length (front ++ r ∷ []))) i ≡ flipped_by a (length (front ++ r ∷ []) + 1) back i
-        → flipped_by_rows (front ++ r ∷ back) (rest (length front + 1)) i ≡ flipped_by a (length front + 1 + 1) back i
+    more : flipped_by_rows ((front ++ r ∷ []) ++ back) (rest (length (front ++ r ∷ []))) i ≡ flipped_in_sum a (length (front ++ r ∷ []) + 1) back i
+        → flipped_by_rows (front ++ r ∷ back) (rest (length front + 1)) i ≡ flipped_in_sum a (length front + 1 + 1) back i
     more is =
-        subst (λ l. flipped_by_rows l (rest (length front + 1)) i ≡ flipped_by a (length front + 1 + 1) back i) (append_assoc front (r ∷ []) back)
-        (subst (λ m. flipped_by_rows ((front ++ r ∷ []) ++ back) (rest m) i ≡ flipped_by a (m + 1) back i) (length-append front (r ∷ []) ∙ omega arith) is)
+        subst (λ l. flipped_by_rows l (rest (length front + 1)) i ≡ flipped_in_sum a (length front + 1 + 1) back i) (append_assoc front (r ∷ []) back)
+        (subst (λ m. flipped_by_rows ((front ++ r ∷ []) ++ back) (rest m) i ≡ flipped_in_sum a (m + 1) back i) (length-append front (r ∷ []) ∙ omega arith) is)
 
-    by : flipped_by_rows ((front ++ r ∷ []) ++ back) (rest (length (front ++ r ∷ []))) i ≡ flipped_by a (length (front ++ r ∷ []) + 1) back i
+    by : flipped_by_rows ((front ++ r ∷ []) ++ back) (rest (length (front ++ r ∷ []))) i ≡ flipped_in_sum a (length (front ++ r ∷ []) + 1) back i
         → (b : Bool) → a (length front + 1) ≡ b
         → flipped_by_rows (front ++ r ∷ back) (cond (a (length front + 1)) (length front ∷ rest (length front + 1)) (rest (length front + 1))) i
-        ≡ (a (length front + 1) && odd i r) ⊕ flipped_by a (length front + 1 + 1) back i
+        ≡ (a (length front + 1) && odd i r) ⊕ flipped_in_sum a (length front + 1 + 1) back i
     by later true is = rw is (ap₂ (λ x y. odd i x ⊕ y) (row-mid front back r) (more later))
     by later false is = rw is (more later)
 
-pub flips-chosen : (a : ℕ → Bool) (rows : List (List ℕ)) (i : ℕ) → flipped_by_rows rows (errors_in a (length rows)) i ≡ flipped_by a 1 rows i
+pub flips-chosen : (a : ℕ → Bool) (rows : List (List ℕ)) (i : ℕ) → flipped_by_rows rows (errors_in a (length rows)) i ≡ flipped_in_sum a 1 rows i
 flips-chosen a rows i = flips-rest a [] rows i
 
 -- each of them is one of the rows

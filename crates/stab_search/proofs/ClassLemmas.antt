@@ -1,5 +1,5 @@
 -- Classes of detectors: a logical error's parts in one of the classes are a logical error of no more errors.
-use Rattle.stab_search.proofs.Names.{◌≡◌, ◌≢◌, ℕ, zero, suc, ◌+◌, ◌≤◌, ◌<◌, ◌⊎◌, inl, inr, refl, sym, ◌∙◌, ap, subst, arith, Bool, true, false, List, [], ◌∷◌, ◌++◌, length, map, get_or, slice_index, drop, drop-cons, cases_eq, false≢true, length-append, if◌then◌else◌, ◌==◌, eqb-true, eqb-false, eq-eqb, ne_eqb, ◌⊕◌, parity-assoc, parity-comm, parity-false, AscendsFrom, ErrorTable, odd, row, flipped_by_rows, IsLogicalError, Each, class_of, AreOfClass, HaveClasses, Counts, Splits}
+use Rattle.stab_search.proofs.Names.{◌≡◌, ◌≢◌, ℕ, zero, suc, ◌+◌, ◌≤◌, ◌<◌, ◌⊎◌, inl, inr, refl, sym, ◌∙◌, ap, subst, arith, Bool, true, false, List, [], ◌∷◌, ◌++◌, length, map, get_or, slice_index, drop, drop-cons, cases_eq, false≢true, length-append, if◌then◌else◌, ◌==◌, eqb-true, eqb-false, eq-eqb, ne_eqb, ◌⊕◌, parity-assoc, parity-comm, parity-false, AscendsFrom, ErrorTable, odd, row, flipped_by_rows, IsLogicalError, ForEach, class_of, AreOfClass, HaveClasses, CountsNumber, Splits}
 use Rattle.stab_search.proofs.Totals.{has-odd}
 use Rattle.stab_search.proofs.ListLemmas.{by-bit, all-each, each-all, has-at}
 
@@ -9,7 +9,7 @@ flips-append rows (x ∷ xs) ys i =
     ap (λ b. odd i (row rows x) ⊕ b) (flips-append rows xs ys i)
     ∙ sym (parity-assoc (odd i (row rows x)) (flipped_by_rows rows xs i) (flipped_by_rows rows ys i))
 
-each-append : (P : ℕ → Type 0) (xs ys : List ℕ) → Each P xs → Each P ys → Each P (xs ++ ys)
+each-append : (P : ℕ → Type 0) (xs ys : List ℕ) → ForEach P xs → ForEach P ys → ForEach P (xs ++ ys)
 each-append P [] ys a b = b
 each-append P (x ∷ xs) ys a b = (a.0, each-append P xs ys a.1 b)
 
@@ -43,19 +43,19 @@ with-append f k (x ∷ xs) ys =
     (λ e. with-here f k x (xs ++ ys) e ∙ ap (λ zs. x ∷ zs) (with-append f k xs ys) ∙ ap (λ zs. zs ++ with_class f k ys) (sym (with-here f k x xs e)))
     (λ e. with-there f k x (xs ++ ys) e ∙ with-append f k xs ys ∙ ap (λ zs. zs ++ with_class f k ys) (sym (with-there f k x xs e)))
 
-each-with : (f : ℕ → ℕ) (k : ℕ) (P : ℕ → Type 0) (xs : List ℕ) → Each P xs → Each (λ r. P r × (f r ≡ k)) (with_class f k xs)
+each-with : (f : ℕ → ℕ) (k : ℕ) (P : ℕ → Type 0) (xs : List ℕ) → ForEach P xs → ForEach (λ r. P r × (f r ≡ k)) (with_class f k xs)
 each-with f k P [] a = tt
 each-with f k P (x ∷ xs) a =
     by-bit (f x == k)
-    (λ e. subst (Each (λ r. P r × (f r ≡ k))) (sym (with-here f k x xs e)) ((a.0, eqb-true (f x) k e), each-with f k P xs a.1))
-    (λ e. subst (Each (λ r. P r × (f r ≡ k))) (sym (with-there f k x xs e)) (each-with f k P xs a.1))
+    (λ e. subst (ForEach (λ r. P r × (f r ≡ k))) (sym (with-here f k x xs e)) ((a.0, eqb-true (f x) k e), each-with f k P xs a.1))
+    (λ e. subst (ForEach (λ r. P r × (f r ≡ k))) (sym (with-there f k x xs e)) (each-with f k P xs a.1))
 
-each-without_class : (f : ℕ → ℕ) (k : ℕ) (P : ℕ → Type 0) (xs : List ℕ) → Each P xs → Each (λ r. P r × (f r ≢ k)) (without_class f k xs)
+each-without_class : (f : ℕ → ℕ) (k : ℕ) (P : ℕ → Type 0) (xs : List ℕ) → ForEach P xs → ForEach (λ r. P r × (f r ≢ k)) (without_class f k xs)
 each-without_class f k P [] a = tt
 each-without_class f k P (x ∷ xs) a =
     by-bit (f x == k)
-    (λ e. subst (Each (λ r. P r × (f r ≢ k))) (sym (without-here f k x xs e)) (each-without_class f k P xs a.1))
-    (λ e. subst (Each (λ r. P r × (f r ≢ k))) (sym (without-there f k x xs e)) ((a.0, eqb-false (f x) k e), each-without_class f k P xs a.1))
+    (λ e. subst (ForEach (λ r. P r × (f r ≢ k))) (sym (without-here f k x xs e)) (each-without_class f k P xs a.1))
+    (λ e. subst (ForEach (λ r. P r × (f r ≢ k))) (sym (without-there f k x xs e)) ((a.0, eqb-false (f x) k e), each-without_class f k P xs a.1))
 
 -- of ascending classes each is there once at most
 
@@ -99,7 +99,7 @@ flips-classes rows f k i (x ∷ xs) =
     cross a b c = sym (parity-assoc a b c) ∙ ap (λ t. t ⊕ c) (parity-comm a b) ∙ parity-assoc b a c
 
 -- errors of which none flips a number do not flip it together
-flips-none : (rows : List (List ℕ)) (i : ℕ) (xs : List ℕ) → Each (λ r. odd i (row rows r) ≡ false) xs → flipped_by_rows rows xs i ≡ false
+flips-none : (rows : List (List ℕ)) (i : ℕ) (xs : List ℕ) → ForEach (λ r. odd i (row rows r) ≡ false) xs → flipped_by_rows rows xs i ≡ false
 flips-none rows i [] a = refl
 flips-none rows i (x ∷ xs) a = ap (λ b. b ⊕ flipped_by_rows rows xs i) a.0 ∙ flips-none rows i xs a.1
 
@@ -167,15 +167,15 @@ module _ (t kept : ErrorTable) (classes : List ℕ) (detectors : kept.detectors 
   class r = class_of classes (row kept.rows r)
 
   -- the parts of all errors
-  abbrev all_parts : (xs : List ℕ) → Each (λ r. r < length t.rows) xs → List ℕ
+  abbrev all_parts : (xs : List ℕ) → ForEach (λ r. r < length t.rows) xs → List ℕ
   all_parts [] a = []
   all_parts (x ∷ xs) a = (split x a.0).0 ++ all_parts xs a.1
 
-  parts-inside : (xs : List ℕ) (a : Each (λ r. r < length t.rows) xs) → Each (λ r. r < length kept.rows) (all_parts xs a)
+  parts-inside : (xs : List ℕ) (a : ForEach (λ r. r < length t.rows) xs) → ForEach (λ r. r < length kept.rows) (all_parts xs a)
   parts-inside [] a = tt
   parts-inside (x ∷ xs) a = each-append (λ r. r < length kept.rows) (split x a.0).0 (all_parts xs a.1) (split x a.0).1.inside (parts-inside xs a.1)
 
-  parts-flip : (xs : List ℕ) (a : Each (λ r. r < length t.rows) xs) (i : ℕ) → Counts classes kept.detectors i → flipped_by_rows kept.rows (all_parts xs a) i ≡ flipped_by_rows t.rows xs i
+  parts-flip : (xs : List ℕ) (a : ForEach (λ r. r < length t.rows) xs) (i : ℕ) → CountsNumber classes kept.detectors i → flipped_by_rows kept.rows (all_parts xs a) i ≡ flipped_by_rows t.rows xs i
   parts-flip [] a i counts = refl
   parts-flip (x ∷ xs) a i counts =
       flips-append kept.rows (split x a.0).0 (all_parts xs a.1) i
@@ -183,7 +183,7 @@ module _ (t kept : ErrorTable) (classes : List ℕ) (detectors : kept.detectors 
       ∙ ap (λ b. odd i (row t.rows x) ⊕ b) (parts-flip xs a.1 i counts)
 
   -- no more of one class than errors
-  parts-few : (k : ℕ) (xs : List ℕ) (a : Each (λ r. r < length t.rows) xs) → length (with_class class k (all_parts xs a)) ≤ length xs
+  parts-few : (k : ℕ) (xs : List ℕ) (a : ForEach (λ r. r < length t.rows) xs) → length (with_class class k (all_parts xs a)) ≤ length xs
   parts-few k [] a = omega arith
   parts-few k (x ∷ xs) a =
       let both : length (with_class class k (all_parts (x ∷ xs) a)) ≡ length (with_class class k (split x a.0).0 ++ with_class class k (all_parts xs a.1)) =
@@ -201,11 +201,11 @@ module _ (t kept : ErrorTable) (classes : List ℕ) (detectors : kept.detectors 
   ignored d r lt inside none =
       by-bit (odd d (row kept.rows r)) (λ is. let here = have r inside d lt is in absurd (here.1 (sym here.0 ∙ none))) (λ not. not)
 
-  each-none : (P : ℕ → Type 0) (d : ℕ) (xs : List ℕ) → ((r : ℕ) → P r → odd d (row kept.rows r) ≡ false) → Each P xs → Each (λ r. odd d (row kept.rows r) ≡ false) xs
+  each-none : (P : ℕ → Type 0) (d : ℕ) (xs : List ℕ) → ((r : ℕ) → P r → odd d (row kept.rows r) ≡ false) → ForEach P xs → ForEach (λ r. odd d (row kept.rows r) ≡ false) xs
   each-none P d [] all a = tt
   each-none P d (x ∷ xs) all a = (all x a.0, each-none P d xs all a.1)
 
-  module _ (errors : List ℕ) (logical : IsLogicalError t errors) (a : Each (λ r. r < length t.rows) errors) where
+  module _ (errors : List ℕ) (logical : IsLogicalError t errors) (a : ForEach (λ r. r < length t.rows) errors) where
     abbrev parts : List ℕ
     parts = all_parts errors a
 
@@ -252,12 +252,12 @@ module _ (t kept : ErrorTable) (classes : List ℕ) (detectors : kept.detectors 
           ),
         )
       where
-        each-first : (f : ℕ → ℕ) (k : ℕ) (xs : List ℕ) → Each (λ r. r < length kept.rows) xs → Each (λ r. r < length kept.rows) (with_class f k xs)
+        each-first : (f : ℕ → ℕ) (k : ℕ) (xs : List ℕ) → ForEach (λ r. r < length kept.rows) xs → ForEach (λ r. r < length kept.rows) (with_class f k xs)
         each-first f k [] b = tt
         each-first f k (x ∷ xs) b =
             by-bit (f x == k)
-            (λ e. subst (Each (λ r. r < length kept.rows)) (sym (with-here f k x xs e)) (b.0, each-first f k xs b.1))
-            (λ e. subst (Each (λ r. r < length kept.rows)) (sym (with-there f k x xs e)) (each-first f k xs b.1))
+            (λ e. subst (ForEach (λ r. r < length kept.rows)) (sym (with-here f k x xs e)) (b.0, each-first f k xs b.1))
+            (λ e. subst (ForEach (λ r. r < length kept.rows)) (sym (with-there f k x xs e)) (each-first f k xs b.1))
 
   -- errors of one class each are enough
   pub enough-classes : (errors : List ℕ) → IsLogicalError t errors → (others : List ℕ) × (IsLogicalError kept others × (length others ≤ length errors))
@@ -274,10 +274,10 @@ of-class classes detectors is k each d lt flipped_by_rows =
 
 -- each number of a list is ignored
 pub none-counting : (classes : List ℕ) (detectors : ℕ) (is : List ℕ)
-    → ((j : ℕ) → j < length is → (get_or is j 0 < detectors) × (slice_index classes (get_or is j 0) ≡ 0)) → (i : ℕ) → Counts classes detectors i → odd i is ≡ false
+    → ((j : ℕ) → j < length is → (get_or is j 0 < detectors) × (slice_index classes (get_or is j 0) ≡ 0)) → (i : ℕ) → CountsNumber classes detectors i → odd i is ≡ false
 none-counting classes detectors is each i counts = by-bit (odd i is) (λ flipped_by_rows. absurd (both flipped_by_rows counts)) (λ not. not)
   where
-    both : odd i is ≡ true → Counts classes detectors i → ⊥
+    both : odd i is ≡ true → CountsNumber classes detectors i → ⊥
     both flipped_by_rows counts =
         let position = has-at i is (has-odd i is flipped_by_rows) in
         let here = subst (λ e. (e < detectors) × (slice_index classes e ≡ 0)) position.1.1 (each position.0 position.1.0) in

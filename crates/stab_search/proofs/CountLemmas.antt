@@ -1,5 +1,5 @@
 -- Counts: as many sets as ways, if each row has weight 1.
-use Rattle.stab_search.proofs.Names.{◌≡◌, ℕ, zero, suc, ◌+◌, ◌*◌, ◌-◌, ◌≤◌, ◌<◌, ◌⊎◌, inl, inr, refl, sym, ◌∙◌, ap, subst, arith, Bool, List, [], ◌∷◌, ◌++◌, length, length-map, map, drop, nat_lt, cases_lt, lt-ltb, le-ltb, if◌then◌else◌, ◌⊕◌, parity-comm, parity-assoc, parity-twice, AscendsFrom, IsAscending, ErrorTable, odd, flipped_by_rows, Each, Completes, ways, ones, IsLogicalSetOf, AreAsMany, IsCount, HasNoneBelow, HasNoneWithin, HasBound, HasNoFewer, AreGroups, Reports, Option, Some, None}
+use Rattle.stab_search.proofs.Names.{◌≡◌, ℕ, zero, suc, ◌+◌, ◌*◌, ◌-◌, ◌≤◌, ◌<◌, ◌⊎◌, inl, inr, refl, sym, ◌∙◌, ap, subst, arith, Bool, List, [], ◌∷◌, ◌++◌, length, length-map, map, drop, nat_lt, cases_lt, lt-ltb, le-ltb, if◌then◌else◌, ◌⊕◌, parity-comm, parity-assoc, parity-twice, AscendsFrom, IsAscending, ErrorTable, odd, flipped_by_rows, ForEach, Completes, ways, unit_weights, IsLogicalSetOf, AreAsMany, IsCountOfSets, HasNoneBelow, HasNoneWithin, HasBound, HasNoFewer, AreGroups, ReportsNumber, Option, Some, None}
 use Rattle.stab_search.proofs.ChoiceLemmas.{completes-logical, logical-completes}
 use Rattle.stab_search.proofs.DistinctLemmas.{bound-whole}
 use Rattle.stab_search.proofs.EndLemmas.{completes-nothing}
@@ -71,7 +71,7 @@ module _ (detectors : ℕ) (r : List ℕ) (rows : List (List ℕ)) (s es : List 
   abbrev whole : ErrorTable
   whole = record { detectors = detectors; rows = r ∷ rows }
 
-  inside-down : (xs : List ℕ) → Each (λ e. e < suc (length rows)) (map suc xs) → Each (λ e. e < length rows) xs
+  inside-down : (xs : List ℕ) → ForEach (λ e. e < suc (length rows)) (map suc xs) → ForEach (λ e. e < length rows) xs
   inside-down [] a = tt
   inside-down (x ∷ xs) a = (let h = a.0 in omega arith, inside-down xs a.1)
 
@@ -191,7 +191,7 @@ module _ (detectors : ℕ) (r : List ℕ) (rows : List (List ℕ)) (left : ℕ) 
 
 -- of no error there is one set or none
 
-as-many-leaf : (t : ErrorTable) (s : List ℕ) → AreAsMany (IsSetFor t 0 s) (ways t.detectors t.rows (ones t.rows) 0 s)
+as-many-leaf : (t : ErrorTable) (s : List ℕ) → AreAsMany (IsSetFor t 0 s) (ways t.detectors t.rows (unit_weights t.rows) 0 s)
 as-many-leaf t s =
     elim (decide t s) [
       | inl one ↦
@@ -217,7 +217,7 @@ as-many-leaf t s =
     nothing (x ∷ xs) e = absurd (omega arith)
 
 as-many : (detectors : ℕ) (rows : List (List ℕ)) (left : ℕ) (s : List ℕ)
-    → AreAsMany (IsSetFor (record { detectors = detectors; rows = rows }) left s) (ways detectors rows (ones rows) left s)
+    → AreAsMany (IsSetFor (record { detectors = detectors; rows = rows }) left s) (ways detectors rows (unit_weights rows) left s)
 as-many detectors rows zero s = as-many-leaf (record { detectors = detectors; rows = rows }) s
 as-many detectors [] (suc left) s = record {
   set = λ k. [];
@@ -230,9 +230,9 @@ as-many detectors [] (suc left) s = record {
     none [] is = let long = is.count in absurd (omega arith)
     none (x ∷ xs) is = let inside = is.completes.inside.0 in absurd (omega arith)
 as-many detectors (r ∷ rows) (suc left) s =
-    subst (λ n. AreAsMany (IsSetFor (record { detectors = detectors; rows = r ∷ rows }) (suc left) s) (ways detectors rows (ones rows) (suc left) s + n))
-    (once (ways detectors rows (ones rows) left (r ++ s)))
-    (as-many-sum detectors r rows left s (ways detectors rows (ones rows) (suc left) s) (ways detectors rows (ones rows) left (r ++ s))
+    subst (λ n. AreAsMany (IsSetFor (record { detectors = detectors; rows = r ∷ rows }) (suc left) s) (ways detectors rows (unit_weights rows) (suc left) s + n))
+    (once (ways detectors rows (unit_weights rows) left (r ++ s)))
+    (as-many-sum detectors r rows left s (ways detectors rows (unit_weights rows) (suc left) s) (ways detectors rows (unit_weights rows) left (r ++ s))
     (as-many detectors rows (suc left) s) (as-many detectors rows left (r ++ s)))
   where
     once : (n : ℕ) → n ≡ 1 * n
@@ -240,7 +240,7 @@ as-many detectors (r ∷ rows) (suc left) s =
 
 -- as many logical errors of a table
 
-pub as-many-logical : (t : ErrorTable) (size : ℕ) → AreAsMany (IsLogicalSetOf t size) (ways t.detectors t.rows (ones t.rows) size [])
+pub as-many-logical : (t : ErrorTable) (size : ℕ) → AreAsMany (IsLogicalSetOf t size) (ways t.detectors t.rows (unit_weights t.rows) size [])
 as-many-logical t size =
     let are = as-many t.detectors t.rows size [] in record {
       set = are.set;
@@ -256,13 +256,13 @@ as-many-logical t size =
           });
     }
 
-pub count-reported : (t : ErrorTable) (size n : ℕ) (answer : Option ℕ) → Reports n answer → n ≡ ways t.detectors t.rows (ones t.rows) size [] → IsCount t size answer
+pub count-reported : (t : ErrorTable) (size n : ℕ) (answer : Option ℕ) → ReportsNumber n answer → n ≡ ways t.detectors t.rows (unit_weights t.rows) size [] → IsCountOfSets t size answer
 count-reported t size n (Some k) reported is = subst (AreAsMany (IsLogicalSetOf t size)) (sym (reported ∙ is)) (as-many-logical t size)
 count-reported t size n None reported is = (n, (reported, subst (AreAsMany (IsLogicalSetOf t size)) (sym is) (as-many-logical t size)))
 
-pub count-nothing : (t : ErrorTable) (size : ℕ) → size ≡ 0 → IsCount t size (Some 0)
+pub count-nothing : (t : ErrorTable) (size : ℕ) → size ≡ 0 → IsCountOfSets t size (Some 0)
 count-nothing t size is =
-    subst (λ n. IsCount t n (Some 0)) (sym is) (count-reported t 0 0 (Some 0) refl (sym (leaf-none t [] (λ c. completes-nothing t [] c refl))))
+    subst (λ n. IsCountOfSets t n (Some 0)) (sym is) (count-reported t 0 0 (Some 0) refl (sym (leaf-none t [] (λ c. completes-nothing t [] c refl))))
 
 -- the groups of a table
 
@@ -283,7 +283,7 @@ module _ (t part : ErrorTable) (detectors : ℕ) (rows : List (List ℕ)) (weigh
   pub groups-fewer : (n : ℕ) → n ≤ size → HasNoFewer part [] n
   groups-fewer n le rest c = let more = bound rest (completes-logical part [] rest refl c) in omega arith
 
-  pub groups-reported : (n : ℕ) (answer : Option ℕ) → n ≡ size → Reports (ways part.detectors part.rows weights n []) answer → IsCount t size answer
+  pub groups-reported : (n : ℕ) (answer : Option ℕ) → n ≡ size → ReportsNumber (ways part.detectors part.rows weights n []) answer → IsCountOfSets t size answer
   groups-reported n answer all reported =
       count-reported t size (ways part.detectors part.rows weights n []) answer reported
       (ap (λ (p : ErrorTable). ways p.detectors p.rows weights n []) is_part ∙ ap (λ m. ways t.detectors rows weights m []) all ∙ groups.same size least)

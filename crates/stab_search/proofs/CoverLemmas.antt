@@ -1,5 +1,5 @@
 -- Covers: of some errors that flip N detectors back, one flips at least N over their number.
-use Rattle.stab_search.proofs.Names.{◌≡◌, ℕ, ◌+◌, ◌-◌, ◌*◌, ◌≤◌, ◌<◌, inl, inr, refl, sym, ◌∙◌, ap, subst, arith, true, false, ◌||◌, List, [], ◌∷◌, length, get_or, cases_lt, false≢true, if◌then◌else◌, ◌==◌, eqb-true, ErrorTable, odd, row, flipped_by_rows, Each, has, Vec, shares, MayBe, Ends, Meet}
+use Rattle.stab_search.proofs.Names.{◌≡◌, ℕ, ◌+◌, ◌-◌, ◌*◌, ◌≤◌, ◌<◌, inl, inr, refl, sym, ◌∙◌, ap, subst, arith, true, false, ◌||◌, List, [], ◌∷◌, length, get_or, cases_lt, false≢true, if◌then◌else◌, ◌==◌, eqb-true, ErrorTable, odd, row, flipped_by_rows, ForEach, has, Vec, shares, MayBe, CompletesSet, Meet}
 use Rattle.stab_search.proofs.FlipLemmas.{namer}
 use Rattle.stab_search.proofs.ListLemmas.{by-bit, each-has, has-here, has-there, has-at}
 
@@ -31,7 +31,7 @@ one-of rows d g (x ∷ xs) e flipped_by_rows =
         (λ other. ap (λ b. b || has g xs) (sym other) ∙ e)
 
 -- errors that flip each of some detectors flip as many at least
-pub no-fewer : (t : ErrorTable) (es ds : List ℕ) → Each (λ d. flipped_by_rows t.rows es d ≡ true) ds → length ds ≤ all-shares t.rows es ds
+pub no-fewer : (t : ErrorTable) (es ds : List ℕ) → ForEach (λ d. flipped_by_rows t.rows es d ≡ true) ds → length ds ≤ all-shares t.rows es ds
 no-fewer t es [] a = omega arith
 no-fewer t es (d ∷ ds) a =
     let later = no-fewer t es ds a.1 in
@@ -70,7 +70,7 @@ shared rows e d (x ∷ xs) there flipped_by_rows =
     (λ other. let later = shared rows e d xs (ap (λ b. b || has d xs) (sym other) ∙ there) flipped_by_rows in omega arith)
 
 -- an error of a set that may be tried
-may-be : (t : ErrorTable) (pairs : List (Vec ℕ)) (first : ℕ) (path flipped rest : List ℕ) (e : ℕ) → Ends t pairs first path flipped rest → has e rest ≡ true
+may-be : (t : ErrorTable) (pairs : List (Vec ℕ)) (first : ℕ) (path flipped rest : List ℕ) (e : ℕ) → CompletesSet t pairs first path flipped rest → has e rest ≡ true
     → MayBe pairs first path e
 may-be t pairs first path flipped rest e ends there = record {
   later = each-has (λ r. first < r) e rest ends.follows.later there;
@@ -78,19 +78,19 @@ may-be t pairs first path flipped rest e ends there = record {
   unpaired = λ a in_path. ends.follows.unpaired a e in_path there;
 }
 
--- a member of a list that is among others is at some place there
+-- a member of a list that is among others is at some position there
 at-position : (rest at : List ℕ) (e : ℕ) → has e at ≡ true → has e rest ≡ true → (k : ℕ) × ((k < length at) × (has (get_or at k 0) rest ≡ true))
 at-position rest at e there in_rest =
     let position = has-at e at there in
     (position.0, (position.1.0, subst (λ r. has r rest ≡ true) (sym position.1.1) in_rest))
 
-module _ (t : ErrorTable) (pairs : List (Vec ℕ)) (first : ℕ) (path flipped ds : List ℕ) (inside : Each (λ d. d < t.detectors) ds)
-    (are_flipped : Each (λ d. odd d flipped ≡ true) ds) (left : ℕ) where
+module _ (t : ErrorTable) (pairs : List (Vec ℕ)) (first : ℕ) (path flipped ds : List ℕ) (inside : ForEach (λ d. d < t.detectors) ds)
+    (are_flipped : ForEach (λ d. odd d flipped ≡ true) ds) (left : ℕ) where
   -- each set flips all the detectors
-  flip-each : (rest : List ℕ) → Ends t pairs first path flipped rest → Each (λ d. flipped_by_rows t.rows rest d ≡ true) ds
+  flip-each : (rest : List ℕ) → CompletesSet t pairs first path flipped rest → ForEach (λ d. flipped_by_rows t.rows rest d ≡ true) ds
   flip-each rest ends = both ds inside are_flipped
     where
-      both : (xs : List ℕ) → Each (λ d. d < t.detectors) xs → Each (λ d. odd d flipped ≡ true) xs → Each (λ d. flipped_by_rows t.rows rest d ≡ true) xs
+      both : (xs : List ℕ) → ForEach (λ d. d < t.detectors) xs → ForEach (λ d. odd d flipped ≡ true) xs → ForEach (λ d. flipped_by_rows t.rows rest d ≡ true) xs
       both [] a b = tt
       both (x ∷ xs) a b = (ends.completes.undetected x a.0 ∙ b.0, both xs a.1 b.1)
 

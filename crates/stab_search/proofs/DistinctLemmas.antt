@@ -1,5 +1,5 @@
 -- Distinct rows: what holds of them holds of the table.
-use Rattle.stab_search.proofs.Names.{◌≡◌, ℕ, suc, ◌<◌, refl, sym, ◌∙◌, ap, subst, arith, List, [], ◌∷◌, length, ◌⊕◌, ErrorTable, odd, row, flipped_by_rows, IsLogicalError, HasNone, Each, AreRowsOf, HasRow, HasBound, AreEnough}
+use Rattle.stab_search.proofs.Names.{◌≡◌, ℕ, suc, ◌<◌, refl, sym, ◌∙◌, ap, subst, arith, List, [], ◌∷◌, length, ◌⊕◌, ErrorTable, odd, row, flipped_by_rows, IsLogicalError, HasNone, ForEach, AreRowsOf, HasRow, HasBound, ErrorsAreEnough}
 use Rattle.stab_search.proofs.ListLemmas.{each-all, all-each}
 
 module _ (detectors : ℕ) (rows chosen : List (List ℕ)) (all : (r : ℕ) → r < length rows → HasRow chosen (row rows r)) where
@@ -10,25 +10,25 @@ module _ (detectors : ℕ) (rows chosen : List (List ℕ)) (all : (r : ℕ) → 
   part = record { detectors = detectors; rows = chosen }
 
   -- the same errors, by their rows among the chosen ones
-  abbrev reps : (xs : List ℕ) → Each (λ r. r < length rows) xs → List ℕ
+  abbrev reps : (xs : List ℕ) → ForEach (λ r. r < length rows) xs → List ℕ
   reps [] a = []
   reps (x ∷ xs) a = (all x a.0).0 ∷ reps xs a.1
 
-  reps-inside : (xs : List ℕ) (a : Each (λ r. r < length rows) xs) → Each (λ r. r < length chosen) (reps xs a)
+  reps-inside : (xs : List ℕ) (a : ForEach (λ r. r < length rows) xs) → ForEach (λ r. r < length chosen) (reps xs a)
   reps-inside [] a = tt
   reps-inside (x ∷ xs) a = ((all x a.0).1, reps-inside xs a.1)
 
-  reps-flips : (xs : List ℕ) (a : Each (λ r. r < length rows) xs) (i : ℕ) → flipped_by_rows chosen (reps xs a) i ≡ flipped_by_rows rows xs i
+  reps-flips : (xs : List ℕ) (a : ForEach (λ r. r < length rows) xs) (i : ℕ) → flipped_by_rows chosen (reps xs a) i ≡ flipped_by_rows rows xs i
   reps-flips [] a i = refl
   reps-flips (x ∷ xs) a i =
       ap (λ b. odd i (row chosen (all x a.0).0) ⊕ b) (reps-flips xs a.1 i)
       ∙ ap (λ (ys : List ℕ). odd i ys ⊕ flipped_by_rows rows xs i) (all x a.0).2
 
-  reps-length : (xs : List ℕ) (a : Each (λ r. r < length rows) xs) → length (reps xs a) ≡ length xs
+  reps-length : (xs : List ℕ) (a : ForEach (λ r. r < length rows) xs) → length (reps xs a) ≡ length xs
   reps-length [] a = refl
   reps-length (x ∷ xs) a = ap suc (reps-length xs a.1)
 
-  reps-logical : (xs : List ℕ) (a : Each (λ r. r < length rows) xs) → IsLogicalError whole xs → IsLogicalError part (reps xs a)
+  reps-logical : (xs : List ℕ) (a : ForEach (λ r. r < length rows) xs) → IsLogicalError whole xs → IsLogicalError part (reps xs a)
   reps-logical xs a e = record {
     inside = all-each (λ r. r < length chosen) (reps xs a) (reps-inside xs a);
     undetected = λ d lt. reps-flips xs a d ∙ e.undetected d lt;
@@ -61,9 +61,9 @@ module _ (t part : ErrorTable) (detectors : ℕ) (chosen : List (List ℕ)) (is 
   bound-reported bound has = bound-whole t.detectors t.rows chosen all bound (subst (λ p. HasBound p bound) is_part has)
 
   -- the chosen rows are enough
-  pub distinct-enough : (numbers : List ℕ) → AreRowsOf t.rows chosen numbers → AreEnough t part numbers
+  pub distinct-enough : (numbers : List ℕ) → AreRowsOf t.rows chosen numbers → ErrorsAreEnough t part numbers
   distinct-enough numbers are =
-      subst (λ p. AreEnough t p numbers) (sym is_part)
+      subst (λ p. ErrorsAreEnough t p numbers) (sym is_part)
       (record {
         detectors = refl;
         rows = are;

@@ -1,5 +1,5 @@
 -- Ends: an error is tried, or none is left to try.
-use Rattle.stab_search.proofs.Names.{◌≡◌, ℕ, ◌+◌, ◌≤◌, ◌<◌, refl, sym, ◌∙◌, ap, subst, arith, Bool, true, false, ◌||◌, List, [], ◌∷◌, ◌++◌, length, get_or, bit_xor, ne_eqb, ◌==◌, eq-eqb, eqb-true, false≢true, length-append, list_any-append, ◌⊕◌, parity-comm, parity-assoc, parity-false, parity-self, parity-twice, AscendsFrom, IsAscending, ErrorTable, odd, row, flipped_by_rows, HasNoneWithin, has, listed, Vec, key_of, Completes, MayFollow, EndsWithin, NoEnds, NoEndsBy, Meet}
+use Rattle.stab_search.proofs.Names.{◌≡◌, ℕ, ◌+◌, ◌≤◌, ◌<◌, refl, sym, ◌∙◌, ap, subst, arith, Bool, true, false, ◌||◌, List, [], ◌∷◌, ◌++◌, length, get_or, bit_xor, ne_eqb, ◌==◌, eq-eqb, eqb-true, false≢true, length-append, list_any-append, ◌⊕◌, parity-comm, parity-assoc, parity-false, parity-self, parity-twice, AscendsFrom, IsAscending, ErrorTable, odd, row, flipped_by_rows, HasNoneWithin, has, rows_listed, Vec, key_of, Completes, MayFollow, CompletesSetWithin, NoEnds, NoEndsBy, Meet}
 use Rattle.stab_search.proofs.AscendingLemmas.{odd-below, named-ascending}
 use Rattle.stab_search.proofs.FlipLemmas.{flips-push, flips-without, key-same, key-sum}
 use Rattle.stab_search.proofs.Totals.{odd-append}
@@ -76,7 +76,7 @@ follows-without pairs first g path rest there f = record {
   unpaired = λ a h in_path left.
       at-end a path g in_path
       (λ chosen. f.unpaired a h chosen (was-there h g rest left))
-      (λ same. subst (λ k. has h (listed pairs k) ≡ false) (sym same) (f.among g h there (was-there h g rest left)));
+      (λ same. subst (λ k. has h (rows_listed pairs k) ≡ false) (sym same) (f.among g h there (was-there h g rest left)));
   among = λ a h in_a in_h. f.among a h (was-there a g rest in_a) (was-there h g rest in_h);
 }
 
@@ -174,16 +174,13 @@ module _ (t : ErrorTable) (numbers : List ℕ) (pairs : List (Vec ℕ)) (first :
   key-last h ends =
       key-same numbers (row t.rows h) flipped (λ d lt. sym (parity-false (odd d (row t.rows h))) ∙ ends.undetected d (omega arith))
 
-  pub no_ends-keyed : (at : List ℕ)
-      → ((r : ℕ) → r < length t.rows → key_of numbers (row t.rows r) ≡ key_of numbers flipped → has r at ≡ true)
-      → ((k : ℕ) → k < length at → NoEndsBy t pairs first path flipped 1 (get_or at k 0))
-      → NoEnds t pairs first path flipped 1
-  no_ends-keyed at complete tried [] ends count = absurd (omega arith)
-  no_ends-keyed at complete tried (h ∷ []) ends count =
+  pub meet-last : (left : ℕ) (at : List ℕ) → left ≡ 1
+      → ((r : ℕ) → r < length t.rows → key_of numbers (row t.rows r) ≡ key_of numbers flipped → has r at ≡ true) → Meet t pairs first path flipped left at
+  meet-last left at one complete [] ends count = absurd (omega arith)
+  meet-last left at one complete (h ∷ []) ends count =
       let position = has-at h at (complete h ends.completes.inside.0 (key-last h ends.completes)) in
-      tried position.0 position.1.0 (h ∷ []) ends refl
-      (subst (λ r. has r (h ∷ []) ≡ true) (sym position.1.1) (has-here h []))
-  no_ends-keyed at complete tried (h ∷ r ∷ rest) ends count = absurd (omega arith)
+      (position.0, (position.1.0, subst (λ r. has r (h ∷ []) ≡ true) (sym position.1.1) (has-here h [])))
+  meet-last left at one complete (h ∷ r ∷ rest) ends count = absurd (omega arith)
 
   -- and with an error g in front of it that of both
   pub no_end-unkeyed : (g : ℕ)
@@ -201,27 +198,13 @@ module _ (t : ErrorTable) (numbers : List ℕ) (pairs : List (Vec ℕ)) (first :
           (λ d lt. sym (parity-false (odd d (row t.rows h))) ∙ e.undetected d (omega arith) ∙ odd-append d flipped (row t.rows g)))
       one (h ∷ r ∷ rest) count e = absurd (omega arith)
 
--- an error that ends it alone, or not
+-- an error that is not after the first one, or that is tried
 
 pub no_end-before : (t : ErrorTable) (pairs : List (Vec ℕ)) (first : ℕ) (path flipped : List ℕ) (left g : ℕ) → g ≤ first → NoEndsBy t pairs first path flipped left g
 no_end-before t pairs first path flipped left g le rest ends count there =
     let later : first < g = each-has (λ r. first < r) g rest ends.follows.later there in omega arith
 
 module _ (t : ErrorTable) (flipped next : List ℕ) (g : ℕ) (merged : (d : ℕ) → odd d next ≡ odd d flipped ⊕ odd d (row t.rows g)) where
-  pub completes-alone : g < length t.rows → Completes t next [] → Completes t flipped (g ∷ [])
-  completes-alone lt e = completes-push t flipped next g [] merged lt e
-
-  pub no_end-alone : (pairs : List (Vec ℕ)) (first : ℕ) (path : List ℕ) → (Completes t next [] → ⊥) → NoEndsBy t pairs first path flipped 1 g
-  no_end-alone pairs first path none rest ends count there =
-      let shorter = length-without g rest there in
-      let empty : without g rest ≡ [] = nothing (without g rest) (omega arith) in
-      none (subst (Completes t next) empty (completes-without t flipped next g rest merged there ends.completes))
-    where
-      nothing : (xs : List ℕ) → length xs ≡ 0 → xs ≡ []
-      nothing [] e = refl
-      nothing (x ∷ xs) e = absurd (omega arith)
-
-  -- the same if what is flipped is that of a call
   pub tried-none : (pairs : List (Vec ℕ)) (first left : ℕ) (path : List ℕ) → NoEnds t pairs first (path ++ g ∷ []) next left
       → NoEndsBy t pairs first path flipped (left + 1) g
   tried-none pairs first left path none rest ends count there =
@@ -229,7 +212,7 @@ module _ (t : ErrorTable) (flipped next : List ℕ) (g : ℕ) (merged : (d : ℕ
       (record { completes = completes-without t flipped next g rest merged there ends.completes; follows = follows-without pairs first g path rest there ends.follows })
       (let shorter = length-without g rest there in omega arith)
 
-  pub tried-some : (left : ℕ) (rest : List ℕ) → g < length t.rows → EndsWithin t next left rest → EndsWithin t flipped (left + 1) (rest ++ g ∷ [])
+  pub tried-some : (left : ℕ) (rest : List ℕ) → g < length t.rows → CompletesSetWithin t next left rest → CompletesSetWithin t flipped (left + 1) (rest ++ g ∷ [])
   tried-some left rest lt e = record {
     ends = completes-push t flipped next g rest merged lt e.ends;
     within = let short = e.within in let longer = length-append rest (g ∷ []) in omega arith;

@@ -1,22 +1,22 @@
 -- Errors that are enough: what holds of their logical errors holds of the table's.
-use Rattle.stab_search.proofs.Names.{◌≡◌, ℕ, ◌≤◌, ◌<◌, refl, sym, ◌∙◌, ap, subst, arith, List, [], ◌∷◌, length, map, slice_index, ◌⊕◌, ErrorTable, odd, row, flipped_by_rows, IsLogicalError, HasNone, HasSome, HasNoneWithin, Each, AreRowsOf, IsLogicalWithin, IsLogicalSet, IsGathered, HaveClasses, Splits, AreEnough, length-map}
+use Rattle.stab_search.proofs.Names.{◌≡◌, ℕ, ◌≤◌, ◌<◌, refl, sym, ◌∙◌, ap, subst, arith, List, [], ◌∷◌, length, map, slice_index, ◌⊕◌, ErrorTable, odd, row, flipped_by_rows, IsLogicalError, HasNone, HasSome, HasNoneWithin, ForEach, AreRowsOf, IsLogicalWithin, IsLogicalSet, IsGathered, HaveClasses, Splits, ErrorsAreEnough, length-map}
 use Rattle.stab_search.proofs.ListLemmas.{each-all, all-each}
 use Rattle.stab_search.proofs.ClassLemmas.{enough-classes}
 use Rattle.stab_search.proofs.ShortestLemmas.{gathered-logical}
 
 module _ (rows chosen : List (List ℕ)) (numbers : List ℕ) (are : AreRowsOf rows chosen numbers) where
-  numbers-inside : (xs : List ℕ) → Each (λ k. k < length chosen) xs → Each (λ r. r < length rows) (map (slice_index numbers) xs)
+  numbers-inside : (xs : List ℕ) → ForEach (λ k. k < length chosen) xs → ForEach (λ r. r < length rows) (map (slice_index numbers) xs)
   numbers-inside [] a = tt
   numbers-inside (x ∷ xs) a = ((are.same x a.0).0, numbers-inside xs a.1)
 
-  numbers-flips : (xs : List ℕ) → Each (λ k. k < length chosen) xs → (i : ℕ) → flipped_by_rows rows (map (slice_index numbers) xs) i ≡ flipped_by_rows chosen xs i
+  numbers-flips : (xs : List ℕ) → ForEach (λ k. k < length chosen) xs → (i : ℕ) → flipped_by_rows rows (map (slice_index numbers) xs) i ≡ flipped_by_rows chosen xs i
   numbers-flips [] a i = refl
   numbers-flips (x ∷ xs) a i =
       ap (λ b. odd i (row rows (slice_index numbers x)) ⊕ b) (numbers-flips xs a.1 i)
       ∙ ap (λ (ys : List ℕ). odd i ys ⊕ flipped_by_rows chosen xs i) (sym (are.same x a.0).1)
 
 -- a logical error of errors that are enough is one of the table, by their numbers there
-logical-enough : (t fewer : ErrorTable) (numbers : List ℕ) → AreEnough t fewer numbers → (errors : List ℕ) → IsLogicalError fewer errors
+logical-enough : (t fewer : ErrorTable) (numbers : List ℕ) → ErrorsAreEnough t fewer numbers → (errors : List ℕ) → IsLogicalError fewer errors
     → IsLogicalError t (map (slice_index numbers) errors)
 logical-enough t fewer numbers is errors e =
     let a = each-all (λ k. k < length fewer.rows) errors e.inside in
@@ -27,7 +27,7 @@ logical-enough t fewer numbers is errors e =
           (o, subst (λ n. n ≤ o) is.detectors e.observed.1, numbers-flips t.rows fewer.rows numbers is.rows errors a o ∙ e.observed.2);
     }
 
-module _ (t fewer : ErrorTable) (numbers : List ℕ) (is : AreEnough t fewer numbers) where
+module _ (t fewer : ErrorTable) (numbers : List ℕ) (is : ErrorsAreEnough t fewer numbers) where
   pub none-enough : HasNone fewer → HasNone t
   none-enough none errors logical = let other = is.enough errors logical in none other.0 other.1.0
 
@@ -60,9 +60,9 @@ module _ (t fewer : ErrorTable) (numbers : List ℕ) (is : AreEnough t fewer num
       }
 
 -- of errors that are enough, those of one class each are
-pub fewer-enough : (t fewer : ErrorTable) (numbers : List ℕ) → AreEnough t fewer numbers
+pub fewer-enough : (t fewer : ErrorTable) (numbers : List ℕ) → ErrorsAreEnough t fewer numbers
     → (kept : ErrorTable) (classes chosen : List ℕ) → kept.detectors ≡ fewer.detectors → AreRowsOf t.rows kept.rows chosen → HaveClasses kept classes
-    → ((r : ℕ) → r < length fewer.rows → Splits kept classes (row fewer.rows r)) → AreEnough t kept chosen
+    → ((r : ℕ) → r < length fewer.rows → Splits kept classes (row fewer.rows r)) → ErrorsAreEnough t kept chosen
 fewer-enough t fewer numbers is kept classes chosen same rows have split = record {
   detectors = same ∙ is.detectors;
   rows = rows;
@@ -75,8 +75,8 @@ fewer-enough t fewer numbers is kept classes chosen same rows have split = recor
 }
 
 -- of errors that are enough, others can be enough again, by their numbers in the table
-pub enough-again : (t fewer part : ErrorTable) (numbers chosen found : List ℕ) → AreEnough t fewer numbers → AreEnough fewer part chosen → length found ≡ length chosen
-    → ((k : ℕ) → k < length chosen → slice_index found k ≡ slice_index numbers (slice_index chosen k)) → AreEnough t part found
+pub enough-again : (t fewer part : ErrorTable) (numbers chosen found : List ℕ) → ErrorsAreEnough t fewer numbers → ErrorsAreEnough fewer part chosen → length found ≡ length chosen
+    → ((k : ℕ) → k < length chosen → slice_index found k ≡ slice_index numbers (slice_index chosen k)) → ErrorsAreEnough t part found
 enough-again t fewer part numbers chosen found outer inner count each = record {
   detectors = inner.detectors ∙ outer.detectors;
   rows = record {

@@ -1,5 +1,5 @@
 -- The first error of a set, after which a search looks for the others.
-use Rattle.stab_search.proofs.Names.{◌≡◌, ℕ, ◌+◌, ◌≤◌, ◌<◌, sym, ◌∙◌, ap, subst, arith, Bool, true, false, ◌||◌, List, [], ◌∷◌, length, false≢true, ne_eqb, ◌⊕◌, parity-comm, parity-twice, parity-false, AscendsFrom, IsAscending, ErrorTable, odd, row, flipped_by_rows, IsLogicalError, Each, has, Vec, Ends, HasBefore}
+use Rattle.stab_search.proofs.Names.{◌≡◌, ℕ, ◌+◌, ◌≤◌, ◌<◌, sym, ◌∙◌, ap, subst, arith, Bool, true, false, ◌||◌, List, [], ◌∷◌, length, false≢true, ne_eqb, ◌⊕◌, parity-comm, parity-twice, parity-false, AscendsFrom, IsAscending, ErrorTable, odd, row, flipped_by_rows, IsLogicalError, ForEach, has, Vec, CompletesSet, HasBefore}
 use Rattle.stab_search.proofs.ListLemmas.{each-map, each-all, each-above, each-has, has-here, has-there}
 use Rattle.stab_search.proofs.PairLemmas.{Unpaired, among}
 
@@ -12,7 +12,7 @@ ascends-lower m k [] le a = tt
 ascends-lower m k (x ∷ xs) le a = (let h = a.0 in omega arith, a.1)
 
 pub first-ends : (t : ErrorTable) (pairs : List (Vec ℕ)) (f : ℕ) (rest : List ℕ) → IsAscending (f ∷ rest) → IsLogicalError t (f ∷ rest)
-    → Unpaired pairs (f ∷ rest) (f ∷ rest) → Ends t pairs f (f ∷ []) (row t.rows f) rest
+    → Unpaired pairs (f ∷ rest) (f ∷ rest) → CompletesSet t pairs f (f ∷ []) (row t.rows f) rest
 first-ends t pairs f rest a e unpaired = record {
   completes = record {
     inside = (each-all (λ r. r < length t.rows) (f ∷ rest) e.inside).1;
@@ -29,7 +29,7 @@ first-ends t pairs f rest a e unpaired = record {
   };
 }
   where
-    after : Each (λ r. f < r) rest
+    after : ForEach (λ r. f < r) rest
     after = each-map (λ y. f + 1 ≤ y) (λ r. f < r) (λ y h. omega arith) rest (each-above (f + 1) rest a.1)
 
 -- an error that can be first, and the others after it

@@ -1,5 +1,5 @@
 -- Graphs: labels that differ by at most 1 along each edge bound the number of errors that flip an observable and no detector.
-use Rattle.stab_search.proofs.Names.{◌≡◌, ℕ, zero, suc, ◌+◌, ◌≤◌, ◌<◌, ◌⊎◌, inl, inr, refl, sym, ◌∙◌, ap, subst, arith, Bool, true, false, List, [], ◌∷◌, length, map, get_or, ne_eqb, lt-ltb, le-ltb, ◌==◌, nat_lt, eqb-true, eq-eqb, cases_eq, cases_lt, false≢true, ◌⊕◌, parity-false, parity-self, parity-comm, parity-assoc, parity-mid, parity-twice, Edge, Labels, ErrorTable, odd, row, flipped_by_rows, Each, has, edge, AreEdges, AreBits, HasAtLeast, label, AreLabels, IsFar, AreCovered}
+use Rattle.stab_search.proofs.Names.{◌≡◌, ℕ, zero, suc, ◌+◌, ◌≤◌, ◌<◌, ◌⊎◌, inl, inr, refl, sym, ◌∙◌, ap, subst, arith, Bool, true, false, List, [], ◌∷◌, length, map, get_or, ne_eqb, lt-ltb, le-ltb, ◌==◌, nat_lt, eqb-true, eq-eqb, cases_eq, cases_lt, false≢true, ◌⊕◌, parity-false, parity-self, parity-comm, parity-assoc, parity-mid, parity-twice, Edge, Labels, ErrorTable, odd, row, flipped_by_rows, ForEach, has, edge, AreEdges, RowsFlip, HasAtLeast, label, AreLabels, IsFar, AreCovered}
 use Rattle.stab_search.proofs.ListLemmas.{by-bit, each-all, each-has, each-without, without, length-without}
 use Rattle.stab_search.proofs.Totals.{total, bits as group, total-append, total-none, odd-total}
 use Rattle.stab_search.proofs.FlipLemmas.{flips-without, namer, named_by, odd-named}
@@ -49,7 +49,7 @@ module _ (t : ErrorTable) (edges : List Edge) (are : AreEdges t edges) where
 
   -- the edges flip a detector as their rows do
 
-  detector-flips : (xs : List ℕ) → Each Inside xs → (d : ℕ) → d < t.detectors → flipped_by_rows nodes xs d ≡ flipped_by_rows t.rows xs d
+  detector-flips : (xs : List ℕ) → ForEach Inside xs → (d : ℕ) → d < t.detectors → flipped_by_rows nodes xs d ≡ flipped_by_rows t.rows xs d
   detector-flips [] a d lt = refl
   detector-flips (x ∷ xs) a d lt =
       ap (λ b. b ⊕ flipped_by_rows nodes xs d) (named x d a.0 ∙ sym ((are.each x a.0).same d lt))
@@ -67,7 +67,7 @@ module _ (t : ErrorTable) (edges : List Edge) (are : AreEdges t edges) where
   abbrev one : ℕ → Bool
   one i = nat_lt i t.detectors ⊕ (i == t.detectors)
 
-  ends-even : (xs : List ℕ) → Each Inside xs → total false ◌⊕◌ one (named_by nodes xs) ≡ false
+  ends-even : (xs : List ℕ) → ForEach Inside xs → total false ◌⊕◌ one (named_by nodes xs) ≡ false
   ends-even [] a = refl
   ends-even (x ∷ xs) a =
       total-append _ false ◌⊕◌ group one (row nodes x) (named_by nodes xs)
@@ -77,7 +77,7 @@ module _ (t : ErrorTable) (edges : List Edge) (are : AreEdges t edges) where
       ∙ ap (λ b. true ⊕ (b ⊕ false)) (node-one (edge edges x).second (are.each x a.0).second))
       ∙ ends-even xs a.1
 
-  boundary-even : (xs : List ℕ) → Each Inside xs → ((d : ℕ) → d < t.detectors → flipped_by_rows t.rows xs d ≡ false) → flipped_by_rows nodes xs t.detectors ≡ false
+  boundary-even : (xs : List ℕ) → ForEach Inside xs → ((d : ℕ) → d < t.detectors → flipped_by_rows t.rows xs d ≡ false) → flipped_by_rows nodes xs t.detectors ≡ false
   boundary-even xs a undetected =
       sym (odd-named nodes xs t.detectors) ∙ odd-total t.detectors (named_by nodes xs)
       ∙ sym (ap (λ b. b ⊕ total false ◌⊕◌ (λ i. i == t.detectors) (named_by nodes xs)) detectors-even)
@@ -95,20 +95,20 @@ module _ (t : ErrorTable) (edges : List Edge) (are : AreEdges t edges) where
   abbrev Unflipped : List ℕ → Type 0
   Unflipped xs = (x : ℕ) → x ≤ t.detectors → flipped_by_rows nodes xs x ≡ false
 
-  unflipped : (xs : List ℕ) → Each Inside xs → ((d : ℕ) → d < t.detectors → flipped_by_rows t.rows xs d ≡ false) → Unflipped xs
+  unflipped : (xs : List ℕ) → ForEach Inside xs → ((d : ℕ) → d < t.detectors → flipped_by_rows t.rows xs d ≡ false) → Unflipped xs
   unflipped xs a undetected x le = by_position (cases_lt x t.detectors)
     where
       by_position : (x < t.detectors) ⊎ (t.detectors ≤ x) → flipped_by_rows nodes xs x ≡ false
       by_position (inl lt) = detector-flips xs a x lt ∙ undetected x lt
       by_position (inr ge) = let same : x ≡ t.detectors = omega arith in ap (flipped_by_rows nodes xs) same ∙ boundary-even xs a undetected
 
-  module _ (o : ℕ) (bits : List Bool) (are_bits : AreBits t.rows o bits) where
+  module _ (o : ℕ) (bits : List Bool) (are_bits : RowsFlip t.rows o bits) where
     abbrev bit : ℕ → Bool
     bit r = get_or bits r false
 
     -- errors that go from a source to a node, and flip the observable by a parity
     record Connects (s : ℕ) (xs : List ℕ) (v : ℕ) (p : Bool) : Type 0 where
-      pub inside : Each Inside xs
+      pub inside : ForEach Inside xs
       pub between : (x : ℕ) → x ≤ t.detectors → flipped_by_rows nodes xs x ≡ (s == x) ⊕ (v == x)
       pub parity : flipped_by_rows t.rows xs o ≡ p
 
@@ -170,7 +170,7 @@ module _ (t : ErrorTable) (edges : List Edge) (are : AreEdges t edges) where
           by_node (inl same) = by_first same
           by_node (inr same) = by_second same
 
-      module _ (n : ℕ) (none : (xs : List ℕ) → Each Inside xs → length xs < n → Unflipped xs → flipped_by_rows t.rows xs o ≡ false) where
+      module _ (n : ℕ) (none : (xs : List ℕ) → ForEach Inside xs → length xs < n → Unflipped xs → flipped_by_rows t.rows xs o ≡ false) where
         label-here : (xs : List ℕ) (v : ℕ) (p : Bool) → length xs < n → Connects s xs v p → s ≡ v → label l v p ≤ length xs
         label-here xs v p lt connects same =
             let unflipped_here = none xs connects.inside lt (λ x le. connects.between x le ∙ ap (λ k. (s == x) ⊕ (k == x)) (sym same) ∙ parity-self (s == x)) in
@@ -191,7 +191,7 @@ module _ (t : ErrorTable) (edges : List Edge) (are : AreEdges t edges) where
                 label-step xs v p found.0 connects found.1.0 (node-named found.0 v lt_rows found.1.1) (λ ys w q count less led. fewer ys w q (omega arith) (omega arith) less led)
 
         -- an odd cycle with an edge of the source has as many errors as the bound
-        cycle-far : (xs : List ℕ) (r : ℕ) → Each Inside xs → length xs ≤ n → Unflipped xs → flipped_by_rows t.rows xs o ≡ true → has r xs ≡ true → HasNode r s
+        cycle-far : (xs : List ℕ) (r : ℕ) → ForEach Inside xs → length xs ≤ n → Unflipped xs → flipped_by_rows t.rows xs o ≡ true → has r xs ≡ true → HasNode r s
             → bound ≤ length xs
         cycle-far xs r a le unflipped_xs odd_xs among here =
             let connects : Connects s xs s true = record { inside = a; between = λ x less. unflipped_xs x less ∙ sym (parity-self (s == x)); parity = odd_xs } in
@@ -203,8 +203,8 @@ module _ (t : ErrorTable) (edges : List Edge) (are : AreEdges t edges) where
 
     module _ (sources : List Bool) (bound : ℕ) (covered : AreCovered edges bits sources)
         (far : (s : ℕ) → get_or sources s false ≡ true → IsFar edges bits s bound) where
-      far-odd : (n : ℕ) (none : (xs : List ℕ) → Each Inside xs → length xs < n → Unflipped xs → flipped_by_rows t.rows xs o ≡ false)
-          (xs : List ℕ) → Each Inside xs → length xs ≤ n → Unflipped xs → flipped_by_rows t.rows xs o ≡ true → bound ≤ length xs
+      far-odd : (n : ℕ) (none : (xs : List ℕ) → ForEach Inside xs → length xs < n → Unflipped xs → flipped_by_rows t.rows xs o ≡ false)
+          (xs : List ℕ) → ForEach Inside xs → length xs ≤ n → Unflipped xs → flipped_by_rows t.rows xs o ≡ true → bound ≤ length xs
       far-odd n none xs a le unflipped_xs odd_xs =
           let found = namer t.rows xs o odd_xs in
           let lt = each-has Inside found.0 xs a found.1.0 in
@@ -219,12 +219,12 @@ module _ (t : ErrorTable) (edges : List Edge) (are : AreEdges t edges) where
           by_node r among (inl is_source) = from r (edge edges r).first among (inl refl) is_source
           by_node r among (inr is_source) = from r (edge edges r).second among (inr refl) is_source
 
-      none-fewer : (n : ℕ) → n ≤ bound → (xs : List ℕ) → Each Inside xs → length xs < n → Unflipped xs → flipped_by_rows t.rows xs o ≡ false
+      none-fewer : (n : ℕ) → n ≤ bound → (xs : List ℕ) → ForEach Inside xs → length xs < n → Unflipped xs → flipped_by_rows t.rows xs o ≡ false
       none-fewer zero le xs a lt unflipped_xs = absurd (omega arith)
       none-fewer (suc n) le xs a lt unflipped_xs =
           next (none-fewer n (omega arith))
         where
-          next : ((ys : List ℕ) → Each Inside ys → length ys < n → Unflipped ys → flipped_by_rows t.rows ys o ≡ false) → flipped_by_rows t.rows xs o ≡ false
+          next : ((ys : List ℕ) → ForEach Inside ys → length ys < n → Unflipped ys → flipped_by_rows t.rows ys o ≡ false) → flipped_by_rows t.rows xs o ≡ false
           next none =
               by-bit (flipped_by_rows t.rows xs o)
               (λ odd_xs. let more = far-odd n none xs a (omega arith) unflipped_xs odd_xs in absurd (omega arith))
@@ -233,7 +233,7 @@ module _ (t : ErrorTable) (edges : List Edge) (are : AreEdges t edges) where
       pub at-least : HasAtLeast t o bound
       at-least xs inside undetected odd_xs = by_length (cases_lt (length xs) bound)
         where
-          a : Each Inside xs
+          a : ForEach Inside xs
           a = each-all Inside xs inside
 
           by_length : (length xs < bound) ⊎ (bound ≤ length xs) → bound ≤ length xs

@@ -1,5 +1,5 @@
 -- Groups: errors that flip the same, taken together with their number as weight, have as many ways.
-use Rattle.stab_search.proofs.Names.{◌≡◌, ℕ, zero, suc, ◌+◌, ◌*◌, ◌≤◌, ◌<◌, inl, inr, refl, sym, ◌∙◌, ap, subst, arith, List, [], ◌∷◌, ◌++◌, append-nil, append_assoc, length, length-append, drop, drop-cons, drop_of_length-le, get_or, set, ErrorTable, row, HasRow, HasBound, HasNoneBelow, ways, ones, AreGroups, IsAdded}
+use Rattle.stab_search.proofs.Names.{◌≡◌, ℕ, zero, suc, ◌+◌, ◌*◌, ◌≤◌, ◌<◌, inl, inr, refl, sym, ◌∙◌, ap, subst, arith, List, [], ◌∷◌, ◌++◌, append-nil, append_assoc, length, length-append, drop, drop-cons, drop_of_length-le, get_or, set, ErrorTable, row, HasRow, HasBound, HasNoneBelow, ways, unit_weights, AreGroups, IsWeightAdded}
 use Rattle.std.proofs.lemmas.List.{set-append_left, set-get_or}
 use Rattle.std.proofs.Math.Nat.{add-mul, mul-zero}
 use Rattle.stab_search.proofs.ChoiceLemmas.{completes-logical}
@@ -11,13 +11,13 @@ pub record AreSoFar (t : ErrorTable) (n : ℕ) (rows : List (List ℕ)) (weights
   pub count : length weights ≡ length rows
   pub rows_of : (k : ℕ) → k < length (rows ++ drop n t.rows) → HasRow t.rows (row (rows ++ drop n t.rows) k)
   pub same : (size : ℕ) → HasNoneBelow t size
-      → ways t.detectors (rows ++ drop n t.rows) (weights ++ ones (drop n t.rows)) size [] ≡ ways t.detectors t.rows (ones t.rows) size []
+      → ways t.detectors (rows ++ drop n t.rows) (weights ++ unit_weights (drop n t.rows)) size [] ≡ ways t.detectors t.rows (unit_weights t.rows) size []
 
 pub so-far_all : (t : ErrorTable) (n : ℕ) (rows : List (List ℕ)) (weights : List ℕ) → length t.rows ≤ n → AreSoFar t n rows weights → AreGroups t rows weights
 so-far_all t n rows weights all so_far =
     let nothing : drop n t.rows ≡ [] = drop_of_length-le t.rows all in
     let same_rows : rows ++ drop n t.rows ≡ rows = ap (λ (xs : List (List ℕ)). rows ++ xs) nothing ∙ append-nil rows in
-    let same_weights : weights ++ ones (drop n t.rows) ≡ weights = ap (λ (xs : List (List ℕ)). weights ++ ones xs) nothing ∙ append-nil weights in
+    let same_weights : weights ++ unit_weights (drop n t.rows) ≡ weights = ap (λ (xs : List (List ℕ)). weights ++ unit_weights xs) nothing ∙ append-nil weights in
     record {
       count = so_far.count;
       rows_of = subst (λ (xs : List (List ℕ)). (k : ℕ) → k < length xs → HasRow t.rows (row xs k)) same_rows so_far.rows_of;
@@ -45,7 +45,7 @@ each-left_out P [] x rest all k lt = all (suc k) (omega arith)
 each-left_out P (r ∷ rows) x rest all zero lt = all zero (omega arith)
 each-left_out P (r ∷ rows) x rest all (suc k) lt = each-left_out P rows x rest (λ j l. all (suc j) (omega arith)) k (omega arith)
 
-length-ones : (rows : List (List ℕ)) → length (ones rows) ≡ length rows
+length-ones : (rows : List (List ℕ)) → length (unit_weights rows) ≡ length rows
 length-ones [] = refl
 length-ones (r ∷ rows) = ap suc (length-ones rows)
 
@@ -122,14 +122,14 @@ module _ (t : ErrorTable) (n : ℕ) (rows : List (List ℕ)) (weights : List ℕ
   all_rows : (k : ℕ) → k < length (rows ++ new ∷ rest) → HasRow t.rows (row (rows ++ new ∷ rest) k)
   all_rows = subst (λ (xs : List (List ℕ)). (k : ℕ) → k < length (rows ++ xs) → HasRow t.rows (row (rows ++ xs) k)) next so_far.rows_of
 
-  all_same : (size : ℕ) → HasNoneBelow t size → ways t.detectors (rows ++ new ∷ rest) (weights ++ 1 ∷ ones rest) size [] ≡ ways t.detectors t.rows (ones t.rows) size []
+  all_same : (size : ℕ) → HasNoneBelow t size → ways t.detectors (rows ++ new ∷ rest) (weights ++ 1 ∷ unit_weights rest) size [] ≡ ways t.detectors t.rows (unit_weights t.rows) size []
   all_same size none =
-      subst (λ (xs : List (List ℕ)). ways t.detectors (rows ++ xs) (weights ++ ones xs) size [] ≡ ways t.detectors t.rows (ones t.rows) size []) next (so_far.same size none)
+      subst (λ (xs : List (List ℕ)). ways t.detectors (rows ++ xs) (weights ++ unit_weights xs) size [] ≡ ways t.detectors t.rows (unit_weights t.rows) size []) next (so_far.same size none)
 
   so-far_new : (more : List (List ℕ)) (heavy : List ℕ) → more ≡ rows ++ new ∷ [] → heavy ≡ weights ++ 1 ∷ [] → AreSoFar t (n + 1) more heavy
   so-far_new more heavy is are =
       let same_rows : more ++ rest ≡ rows ++ new ∷ rest = ap (λ (xs : List (List ℕ)). xs ++ rest) is ∙ append_assoc rows (new ∷ []) rest in
-      let same_weights : heavy ++ ones rest ≡ weights ++ 1 ∷ ones rest = ap (λ (ws : List ℕ). ws ++ ones rest) are ∙ append_assoc weights (1 ∷ []) (ones rest) in
+      let same_weights : heavy ++ unit_weights rest ≡ weights ++ 1 ∷ unit_weights rest = ap (λ (ws : List ℕ). ws ++ unit_weights rest) are ∙ append_assoc weights (1 ∷ []) (unit_weights rest) in
       let few = so_far.count in
       let long = ap length is ∙ length-append rows (new ∷ []) in
       let heavy_long = ap length are ∙ length-append weights (1 ∷ []) in
@@ -137,7 +137,7 @@ module _ (t : ErrorTable) (n : ℕ) (rows : List (List ℕ)) (weights : List ℕ
         count = omega arith;
         rows_of = subst (λ (xs : List (List ℕ)). (k : ℕ) → k < length xs → HasRow t.rows (row xs k)) (sym same_rows) all_rows;
         same = λ size none.
-            ap (λ (xs : List (List ℕ)). ways t.detectors xs (heavy ++ ones rest) size []) same_rows
+            ap (λ (xs : List (List ℕ)). ways t.detectors xs (heavy ++ unit_weights rest) size []) same_rows
             ∙ ap (λ (ws : List ℕ). ways t.detectors (rows ++ new ∷ rest) ws size []) same_weights
             ∙ all_same size none;
       }
@@ -158,26 +158,26 @@ module _ (t : ErrorTable) (n : ℕ) (rows : List (List ℕ)) (weights : List ℕ
       fewer = each-left_out (HasRow t.rows) rows new rest all_rows
 
       by_size : (size : ℕ) → HasNoneBelow t size
-          → ways t.detectors (rows ++ rest) (set weights k (get_or weights k 0 + 1) ++ ones rest) size [] ≡ ways t.detectors t.rows (ones t.rows) size []
+          → ways t.detectors (rows ++ rest) (set weights k (get_or weights k 0 + 1) ++ unit_weights rest) size [] ≡ ways t.detectors t.rows (unit_weights t.rows) size []
       by_size zero none = all_same zero none
       by_size (suc left) none =
           let all = rows ++ rest in
-          let heavy_all = weights ++ ones rest in
+          let heavy_all = weights ++ unit_weights rest in
           let whole : length heavy_all ≡ length all =
-          (let a = length-append weights (ones rest) in let b = length-append rows rest in let c = length-ones rest in let d = so_far.count in omega arith) in
+          (let a = length-append weights (unit_weights rest) in let b = length-append rows rest in let c = length-ones rest in let d = so_far.count in omega arith) in
           let within : k < length all = (let b = length-append rows rest in omega arith) in
           let count = so_far.count in
           let there : k < length weights = omega arith in
           let same_row : row all k ≡ new = row-left rows rest k inside ∙ alike in
-          let heavier_all : set heavy_all k (get_or heavy_all k 0 + 1) ≡ set weights k (get_or weights k 0 + 1) ++ ones rest =
-          ap (λ w. set heavy_all k (w + 1)) (weight-left weights (ones rest) k there) ∙ set-append_left weights (ones rest) k (get_or weights k 0 + 1) there in
+          let heavier_all : set heavy_all k (get_or heavy_all k 0 + 1) ≡ set weights k (get_or weights k 0 + 1) ++ unit_weights rest =
+          ap (λ w. set heavy_all k (w + 1)) (weight-left weights (unit_weights rest) k there) ∙ set-append_left weights (unit_weights rest) k (get_or weights k 0 + 1) there in
           ap (λ (ws : List ℕ). ways t.detectors all ws (suc left) []) (sym heavier_all)
           ∙ sym (heavier t all heavy_all whole fewer k within (suc left) left none (omega arith))
           ∙ ap (λ (xs : List ℕ). ways t.detectors all heavy_all (suc left) [] + 1 * ways t.detectors all heavy_all left (xs ++ [])) same_row
-          ∙ sym (insert t.detectors rows weights new 1 rest (ones rest) left [] so_far.count)
+          ∙ sym (insert t.detectors rows weights new 1 rest (unit_weights rest) left [] so_far.count)
           ∙ all_same (suc left) none
 
-  pub so-far_more : (numbers : List ℕ) (more : List (List ℕ)) (heavy : List ℕ) → numbers ≡ new → IsAdded numbers rows weights more heavy → AreSoFar t (n + 1) more heavy
+  pub so-far_more : (numbers : List ℕ) (more : List (List ℕ)) (heavy : List ℕ) → numbers ≡ new → IsWeightAdded numbers rows weights more heavy → AreSoFar t (n + 1) more heavy
   so-far_more numbers more heavy is (inl alone) =
       so-far_new more heavy (alone.0 ∙ ap (λ (xs : List ℕ). rows ++ xs ∷ []) is) alone.1
   so-far_more numbers more heavy is (inr same) =

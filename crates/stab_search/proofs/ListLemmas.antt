@@ -1,5 +1,5 @@
 -- Lists of numbers: each of a list, those that are among them, and one left out or toggled.
-use Rattle.stab_search.proofs.Names.{◌≡◌, ℕ, suc, ◌+◌, ◌≤◌, ◌<◌, refl, sym, ◌∙◌, ap, subst, arith, Bool, true, false, ◌||◌, List, [], ◌∷◌, ◌++◌, length, get_or, ne_eqb, lt-ltb, le-ltb, ◌==◌, nat_lt, All, if◌then◌else◌, eqb-true, eqb-false, eq-eqb, ltb-true, ltb-false, false≢true, or_left, or_right, All-nil, All-cons, All-head, All-tail, list_any-append, AscendsFrom, Each, has, toggle}
+use Rattle.stab_search.proofs.Names.{◌≡◌, ℕ, suc, ◌+◌, ◌≤◌, ◌<◌, refl, sym, ◌∙◌, ap, subst, arith, Bool, true, false, ◌||◌, List, [], ◌∷◌, ◌++◌, length, get_or, ne_eqb, lt-ltb, le-ltb, ◌==◌, nat_lt, All, if◌then◌else◌, eqb-true, eqb-false, eq-eqb, ltb-true, ltb-false, false≢true, or_left, or_right, All-nil, All-cons, All-head, All-tail, list_any-append, AscendsFrom, ForEach, has, toggle}
 use Rattle.std.specs.Prelude.{◌≢◌}
 
 -- cases of a bit, with the equation
@@ -9,30 +9,30 @@ by-bit false t f = f refl
 
 -- each of a list
 
-pub each-map : (P Q : ℕ → Type 0) → ((x : ℕ) → P x → Q x) → (xs : List ℕ) → Each P xs → Each Q xs
+pub each-map : (P Q : ℕ → Type 0) → ((x : ℕ) → P x → Q x) → (xs : List ℕ) → ForEach P xs → ForEach Q xs
 each-map P Q f [] a = tt
 each-map P Q f (x ∷ xs) a = (f x a.0, each-map P Q f xs a.1)
 
-pub each-has : (P : ℕ → Type 0) (g : ℕ) (xs : List ℕ) → Each P xs → has g xs ≡ true → P g
+pub each-has : (P : ℕ → Type 0) (g : ℕ) (xs : List ℕ) → ForEach P xs → has g xs ≡ true → P g
 each-has P g [] a e = absurd (false≢true e)
 each-has P g (x ∷ xs) a e =
     by-bit (x == g)
     (λ same. subst P (eqb-true x g same) a.0)
     (λ other. each-has P g xs a.1 (ap (λ b. b || has g xs) (sym other) ∙ e))
 
-pub each-push : (P : ℕ → Type 0) (xs : List ℕ) (r : ℕ) → P r → Each P xs → Each P (xs ++ r ∷ [])
+pub each-push : (P : ℕ → Type 0) (xs : List ℕ) (r : ℕ) → P r → ForEach P xs → ForEach P (xs ++ r ∷ [])
 each-push P [] r p a = (p, tt)
 each-push P (x ∷ xs) r p a = (a.0, each-push P xs r p a.1)
 
-pub each-all : (P : ℕ → Type 0) (xs : List ℕ) → All P xs → Each P xs
+pub each-all : (P : ℕ → Type 0) (xs : List ℕ) → All P xs → ForEach P xs
 each-all P [] a = tt
 each-all P (x ∷ xs) a = (All-head P x xs a, each-all P xs (All-tail P x xs a))
 
-pub all-each : (P : ℕ → Type 0) (xs : List ℕ) → Each P xs → All P xs
+pub all-each : (P : ℕ → Type 0) (xs : List ℕ) → ForEach P xs → All P xs
 all-each P [] a = All-nil P
 all-each P (x ∷ xs) a = All-cons P x xs a.0 (all-each P xs a.1)
 
-pub each-above : (m : ℕ) (xs : List ℕ) → AscendsFrom m xs → Each (λ x. m ≤ x) xs
+pub each-above : (m : ℕ) (xs : List ℕ) → AscendsFrom m xs → ForEach (λ x. m ≤ x) xs
 each-above m [] a = tt
 each-above m (x ∷ xs) a = (a.0, each-map (λ y. x + 1 ≤ y) (λ y. m ≤ y) (λ y h. let k = a.0 in omega arith) xs (each-above (x + 1) xs a.1))
 
@@ -72,12 +72,12 @@ without-here g x xs e = ap (λ b. if b then xs else x ∷ without g xs) e
 pub without-there : (g x : ℕ) (xs : List ℕ) → (x == g) ≡ false → without g (x ∷ xs) ≡ x ∷ without g xs
 without-there g x xs e = ap (λ b. if b then xs else x ∷ without g xs) e
 
-pub each-without : (P : ℕ → Type 0) (g : ℕ) (xs : List ℕ) → Each P xs → Each P (without g xs)
+pub each-without : (P : ℕ → Type 0) (g : ℕ) (xs : List ℕ) → ForEach P xs → ForEach P (without g xs)
 each-without P g [] a = tt
 each-without P g (x ∷ xs) a =
     by-bit (x == g)
-    (λ e. subst (Each P) (sym (without-here g x xs e)) a.1)
-    (λ e. subst (Each P) (sym (without-there g x xs e)) (a.0, each-without P g xs a.1))
+    (λ e. subst (ForEach P) (sym (without-here g x xs e)) a.1)
+    (λ e. subst (ForEach P) (sym (without-there g x xs e)) (a.0, each-without P g xs a.1))
 
 pub length-without : (g : ℕ) (xs : List ℕ) → has g xs ≡ true → length xs ≡ suc (length (without g xs))
 length-without g [] e = absurd (false≢true e)
@@ -117,7 +117,7 @@ module _ (g x : ℕ) (xs : List ℕ) where
       ap (λ b. if b then g ∷ x ∷ xs else if x == g then xs else x ∷ toggle g xs) (le-ltb g x (omega arith))
       ∙ ap (λ b. if b then xs else x ∷ toggle g xs) (ne_eqb x g (λ same. omega arith))
 
--- whether it is in its place, and where it is there
+-- whether it is there in order, and where it is there
 pub by-position : {P : Type 0} (g x : ℕ) → (g < x → P) → (x ≡ g → P) → (x < g → P) → P
 by-position g x less same more =
     by-bit (nat_lt g x)
@@ -126,13 +126,13 @@ by-position g x less same more =
     let le : x ≤ g = ltb-false g x e in
     by-bit (x == g) (λ is. same (eqb-true x g is)) (λ isnt. let other = eqb-false x g isnt in more (omega arith)))
 
-pub each-toggle : (P : ℕ → Type 0) (g : ℕ) (xs : List ℕ) → P g → Each P xs → Each P (toggle g xs)
+pub each-toggle : (P : ℕ → Type 0) (g : ℕ) (xs : List ℕ) → P g → ForEach P xs → ForEach P (toggle g xs)
 each-toggle P g [] p a = (p, tt)
 each-toggle P g (x ∷ xs) p a =
     by-position g x
-    (λ lt. subst (Each P) (sym (toggle-here g x xs lt)) (p, (a.0, a.1)))
-    (λ same. subst (Each P) (sym (toggle-out g x xs same)) a.1)
-    (λ lt. subst (Each P) (sym (toggle-there g x xs lt)) (a.0, each-toggle P g xs p a.1))
+    (λ lt. subst (ForEach P) (sym (toggle-here g x xs lt)) (p, (a.0, a.1)))
+    (λ same. subst (ForEach P) (sym (toggle-out g x xs same)) a.1)
+    (λ lt. subst (ForEach P) (sym (toggle-there g x xs lt)) (a.0, each-toggle P g xs p a.1))
 
 pub length-toggle : (g : ℕ) (xs : List ℕ) → length (toggle g xs) ≤ suc (length xs)
 length-toggle g [] = omega arith

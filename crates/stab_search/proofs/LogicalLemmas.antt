@@ -1,11 +1,11 @@
 -- Logical errors: what errors flip together, by the list that is made of their rows one by one.
-use Rattle.stab_search.proofs.Names.{◌≡◌, ℕ, ◌≤◌, ◌<◌, sym, ◌∙◌, arith, List, [], ◌∷◌, length, get_or, IsAscending, ErrorTable, Each, odd, flipped_by_rows, IsLogicalError}
+use Rattle.stab_search.proofs.Names.{◌≡◌, ℕ, ◌≤◌, ◌<◌, sym, ◌∙◌, arith, List, [], ◌∷◌, length, get_or, IsAscending, ErrorTable, ForEach, odd, flipped_by_rows, IsLogicalError}
 use Rattle.stab_search.proofs.ListLemmas.{has-here, all-each}
 use Rattle.stab_search.proofs.AscendingLemmas.{odd-below, named-ascending}
 
 -- what is flipped ascends, and begins with an observable
 pub flipped-logical : (t : ErrorTable) (errors flipped : List ℕ) → IsAscending flipped → ((i : ℕ) → odd i flipped ≡ flipped_by_rows t.rows errors i)
-    → Each (λ r. r < length t.rows) errors → 0 < length flipped → t.detectors ≤ get_or flipped 0 0 → IsLogicalError t errors
+    → ForEach (λ r. r < length t.rows) errors → 0 < length flipped → t.detectors ≤ get_or flipped 0 0 → IsLogicalError t errors
 flipped-logical t errors [] a sum inside some first = absurd (omega arith)
 flipped-logical t errors (x ∷ xs) a sum inside some first = record {
   inside = all-each (λ r. r < length t.rows) errors inside;

@@ -18,29 +18,29 @@ pub use denote.RawPtr.{null_ptr}
 pub use lib.Bits.{xor_comm, xor_assoc, xor_self, xor_zero_r}
 pub use Rattle.stab_search.specs.Ascending.{AscendsFrom, IsAscending}
 pub use Rattle.stab_search.specs.Graphlike.{IsGraphlike, IsGraphlikeError, IsLeastGraphlike, HasNoGraphlikeWithin, IsGraphlikeAnswer}
-pub use Rattle.stab_search.specs.Progress.{Heard, begins, none_within, Hears, up_to, IsExcludedBy, ReportsSearch}
-pub use Rattle.stab_search.specs.LogicalErrors.{IsLogicalError, HasNoneWithin, IsAnswer, IsLeast, HasNone, HasSome}
+pub use Rattle.stab_search.specs.Progress.{Heard, begins, none_within, Hears, numbers_up_to, IsExcludedBy, ReportsSearch}
+pub use Rattle.stab_search.specs.LogicalErrors.{IsLogicalError, HasNoneWithin, IsLeastAnswer, IsLeast, HasNone, HasSome}
 pub use Rattle.stab_search.specs.Tables.{ErrorTable, odd, flipped_by_rows, row}
 pub use Rattle.stab_search.specs.declared.answer.Answer.{Answer}
 pub use Rattle.stab_search.specs.declared.answer.Answer.TheVariants.{Least, NoneWithin, NoneAtAll}
 pub use Rattle.stab_search.specs.declared.edges.Edge.{Edge}
 pub use Rattle.stab_search.specs.declared.labels.Labels.{Labels}
-pub use Rattle.stab_search.specs.inner.Classes.{class_of, AreOfClass, HaveClasses, Counts, AreParts, Splits, AreEnough}
+pub use Rattle.stab_search.specs.inner.Classes.{class_of, AreOfClass, HaveClasses, CountsNumber, AreParts, Splits, ErrorsAreEnough}
 pub use Rattle.stab_search.specs.inner.Certificates.{odd_members, IsCertificate, FollowsDetectors}
-pub use Rattle.stab_search.specs.inner.Covers.{shares, MayBe, Covers}
-pub use Rattle.stab_search.specs.inner.Ends.{Completes, MayFollow, Ends, EndsWithin, NoEnds, NoEndsBy, Meet}
+pub use Rattle.stab_search.specs.inner.Covers.{shares, MayBe, CoversEach}
+pub use Rattle.stab_search.specs.inner.Ends.{Completes, MayFollow, CompletesSet, CompletesSetWithin, NoEnds, NoEndsBy, Meet}
 pub use Rattle.stab_search.specs.inner.Errors.{AreRowsOf, HasRow, key_of, Keyed}
-pub use Rattle.stab_search.specs.inner.Graphs.{HasAtLeast, HasBound, IsEdge, edge, AreEdges, AreBits}
-pub use Rattle.stab_search.specs.inner.Indexes.{listed}
+pub use Rattle.stab_search.specs.inner.Graphs.{HasAtLeast, HasBound, IsEdge, edge, AreEdges, RowsFlip}
+pub use Rattle.stab_search.specs.inner.Indexes.{rows_listed}
 pub use Rattle.stab_search.specs.inner.Labels.{label, AreLabels, IsFar, AreCovered, AreNearAlong}
-pub use Rattle.stab_search.specs.inner.Lists.{Each, has, toggle}
+pub use Rattle.stab_search.specs.inner.Lists.{ForEach, has, toggle}
 pub use Rattle.stab_search.specs.inner.Parts.{IsGraphlikePart}
 pub use Rattle.stab_search.specs.inner.Pairs.{KeepFirst, IsLeftOut, by_one, by_two, ArePairs}
 pub use Rattle.stab_search.specs.inner.Steps.{lowered, AreLower, AreMoved, MovesDown, MoveDown, HasBefore, BeginsBefore}
 pub use Rattle.stab_search.specs.inner.Shortest.{IsLogicalSet, IsGathered, IsLogicalWithin, Decides}
 pub use Rattle.stab_search.specs.inner.ReportedProgress.{HearsOn, ReportsSizes, ReportsAnswer}
-pub use Rattle.stab_search.specs.inner.Ways.{leaf, ways, Reports, HasNoFewer, IsWay, MeetsEach, IsPart, ones, AreGroups, IsAdded}
-pub use Rattle.stab_search.specs.Counts.{HasNoneBelow, IsLogicalSetOf, AreAsMany, IsCount}
+pub use Rattle.stab_search.specs.inner.Ways.{leaf, ways, ReportsNumber, HasNoFewer, IsWeightedWay, MeetsEach, IsWaysPart, unit_weights, AreGroups, IsWeightAdded}
+pub use Rattle.stab_search.specs.Counts.{HasNoneBelow, IsLogicalSetOf, AreAsMany, IsCountOfSets}
 pub use Rattle.stab_instructions.proofs.WriteLemmas.{writes_failed, writes_then, HasWritten, written_more, written_failed}
 pub use Rattle.stab_io.specs.Devices.{OutputView, WritesAll}
 pub use Rattle.stab_io.specs.declared.refusal.Refusal.{Refusal}
@@ -49,7 +49,7 @@ pub use Rattle.stab_search.specs.declared.literal.Literal.TheVariants.{Is, IsNot
 pub use Rattle.stab_search.specs.declared.sums.Sum.{Sum}
 pub use Rattle.stab_search.specs.declared.sums.Parities.{Parities}
 pub use Rattle.stab_search.specs.declared.problem.Problem.{Problem}
-pub use Rattle.stab_search.specs.Problems.{Clauses, holds, meets, IsWithin, literal_text, clause_text, head_text, problem_text}
+pub use Rattle.stab_search.specs.Problems.{Clauses, holds, meets, IsVariableWithin, literal_text, clause_text, problem_head, problem_text}
 pub use Rattle.stab_search.specs.Questions.{without, errors_in, Asks}
-pub use Rattle.stab_search.specs.inner.Sums.{value, AreSums, IsSumAt, AreFrom, flipped_by, parity, AreParities, Adds, AreBuilt, variables_of, one_of}
+pub use Rattle.stab_search.specs.inner.Sums.{variable_value, AreSums, IsSumAt, AreFrom, flipped_in_sum, parity_variable, AreParities, Adds, AreBuilt, variables_of, one_of}
 pub use Rattle.stab_search.specs.Made.{sum_clauses, is_false, clauses_of, IsCountable}

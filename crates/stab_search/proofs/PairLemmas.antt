@@ -1,31 +1,31 @@
 -- Pairs that are left out: of the least sets that are logical errors one has none of them, the last in the order of their errors.
-use Rattle.stab_search.proofs.Names.{◌≡◌, ◌≢◌, ℕ, suc, ◌+◌, ◌-◌, ◌^◌, ◌≤◌, ◌<◌, ◌⊎◌, inl, inr, sym, ◌∙◌, ap, subst, arith, true, false, ◌||◌, List, [], ◌∷◌, ◌++◌, length, false≢true, ◌==◌, eqb-true, ◌⊕◌, parity-assoc, IsAscending, ErrorTable, odd, row, flipped_by_rows, IsLogicalError, HasNoneWithin, Each, has, toggle, listed, Vec, HasBefore, KeepFirst, IsLeftOut, by_one, by_two, ArePairs, pow-le-pow_right, pow-succ'}
-use Rattle.stab_search.specs.SearchParts.{weight, IsLastSet}
+use Rattle.stab_search.proofs.Names.{◌≡◌, ◌≢◌, ℕ, suc, ◌+◌, ◌-◌, ◌^◌, ◌≤◌, ◌<◌, ◌⊎◌, inl, inr, sym, ◌∙◌, ap, subst, arith, true, false, ◌||◌, List, [], ◌∷◌, ◌++◌, length, false≢true, ◌==◌, eqb-true, ◌⊕◌, parity-assoc, IsAscending, ErrorTable, odd, row, flipped_by_rows, IsLogicalError, HasNoneWithin, ForEach, has, toggle, rows_listed, Vec, HasBefore, KeepFirst, IsLeftOut, by_one, by_two, ArePairs, pow-le-pow_right, pow-succ'}
+use Rattle.stab_search.specs.SearchParts.{set_weight, IsLastSet}
 use Rattle.stab_search.proofs.FlipLemmas.{flips-without}
 use Rattle.stab_search.proofs.ListLemmas.{by-bit, by-position, each-all, all-each, each-without, length-without, length-toggle, has-without, without, without-here, without-there, has-here, has-there, toggle-here, toggle-out, toggle-there}
 use Rattle.stab_search.proofs.ShortestLemmas.{gathering, gathered-logical}
 
-weight-without : (n g : ℕ) (xs : List ℕ) → has g xs ≡ true → weight n xs ≡ 2 ^ (n - g) + weight n (without g xs)
+weight-without : (n g : ℕ) (xs : List ℕ) → has g xs ≡ true → set_weight n xs ≡ 2 ^ (n - g) + set_weight n (without g xs)
 weight-without n g [] e = absurd (false≢true e)
 weight-without n g (x ∷ xs) e =
     by-bit (x == g)
     (λ same.
-    ap (λ k. 2 ^ (n - k) + weight n xs) (eqb-true x g same)
-    ∙ ap (λ ys. 2 ^ (n - g) + weight n ys) (sym (without-here g x xs same)))
+    ap (λ k. 2 ^ (n - k) + set_weight n xs) (eqb-true x g same)
+    ∙ ap (λ ys. 2 ^ (n - g) + set_weight n ys) (sym (without-here g x xs same)))
     (λ other.
     let later = weight-without n g xs (ap (λ b. b || has g xs) (sym other) ∙ e) in
-    let whole = ap (weight n) (without-there g x xs other) in
+    let whole = ap (set_weight n) (without-there g x xs other) in
     omega arith)
 
-weight-toggle : (n g : ℕ) (xs : List ℕ) → weight n (toggle g xs) ≤ 2 ^ (n - g) + weight n xs
+weight-toggle : (n g : ℕ) (xs : List ℕ) → set_weight n (toggle g xs) ≤ 2 ^ (n - g) + set_weight n xs
 weight-toggle n g [] = omega arith
 weight-toggle n g (x ∷ xs) =
     by-position g x
-    (λ lt. let is = ap (weight n) (toggle-here g x xs lt) in omega arith)
-    (λ same. let is = ap (weight n) (toggle-out g x xs same) in omega arith)
-    (λ lt. let is = ap (weight n) (toggle-there g x xs lt) in let later = weight-toggle n g xs in omega arith)
+    (λ lt. let is = ap (set_weight n) (toggle-here g x xs lt) in omega arith)
+    (λ same. let is = ap (set_weight n) (toggle-out g x xs same) in omega arith)
+    (λ lt. let is = ap (set_weight n) (toggle-there g x xs lt) in let later = weight-toggle n g xs in omega arith)
 
-weight-gathering : (n : ℕ) (xs : List ℕ) → weight n (gathering xs).0 ≤ weight n xs
+weight-gathering : (n : ℕ) (xs : List ℕ) → set_weight n (gathering xs).0 ≤ set_weight n xs
 weight-gathering n [] = omega arith
 weight-gathering n (x ∷ xs) =
     let here = weight-toggle n x (gathering xs).0 in
@@ -98,19 +98,19 @@ module _ (t : ErrorTable) (set : List ℕ) (a b : ℕ) (in_a : has a set ≡ tru
   length-others : length set ≡ suc (suc (length others))
   length-others = length-without a set in_a ∙ ap suc (length-without b (without a set) still)
 
-  weight-others : (n : ℕ) → weight n set ≡ 2 ^ (n - a) + (2 ^ (n - b) + weight n others)
+  weight-others : (n : ℕ) → set_weight n set ≡ 2 ^ (n - a) + (2 ^ (n - b) + set_weight n others)
   weight-others n = weight-without n a set in_a ∙ ap (λ w. 2 ^ (n - a) + w) (weight-without n b (without a set) still)
 
   -- errors that flip what the two do, with those left, are a logical error too
-  logical-others : (more : List ℕ) → Each (λ r. r < length t.rows) more
-      → ((i : ℕ) → flipped_by_rows t.rows (more ++ others) i ≡ flipped_by_rows t.rows set i) → IsLogicalError t set → Each (λ r. r < length t.rows) (more ++ others) → IsLogicalError t (more ++ others)
+  logical-others : (more : List ℕ) → ForEach (λ r. r < length t.rows) more
+      → ((i : ℕ) → flipped_by_rows t.rows (more ++ others) i ≡ flipped_by_rows t.rows set i) → IsLogicalError t set → ForEach (λ r. r < length t.rows) (more ++ others) → IsLogicalError t (more ++ others)
   logical-others more inside same e each = record {
     inside = all-each (λ r. r < length t.rows) (more ++ others) each;
     undetected = λ d lt. same d ∙ e.undetected d lt;
     observed = (e.observed.0, e.observed.1, same e.observed.0 ∙ e.observed.2);
   }
 
-  -- one that can be first is still there, or one of those in their place is
+  -- one that can be first is still there, or one of those for them is
   before-others : (firsts c d : ℕ) → KeepFirst firsts a b c d → HasBefore firsts set → HasBefore firsts (c ∷ d ∷ others)
   before-others firsts c d (inl lt) first = (c, (lt, has-here c (d ∷ others)))
   before-others firsts c d (inr (inl lt)) first = (d, (lt, has-there d c (d ∷ others) (has-here d others)))
@@ -124,7 +124,7 @@ module _ (t : ErrorTable) (set : List ℕ) (a b : ℕ) (in_a : has a set ≡ tru
     ),
   )
 
-  each-others : IsLogicalError t set → Each (λ r. r < length t.rows) others
+  each-others : IsLogicalError t set → ForEach (λ r. r < length t.rows) others
   each-others e = each-without (λ r. r < length t.rows) b (without a set) (each-without (λ r. r < length t.rows) a set (each-all (λ r. r < length t.rows) set e.inside))
 
 -- a least set with a pair that is left out, and the set that is after it
@@ -134,7 +134,7 @@ pub record Later (t : ErrorTable) (firsts left : ℕ) (set : List ℕ) : Type 0 
   pub ascending : IsAscending next
   pub logical : IsLogicalError t next
   pub count : length next ≡ left + 1
-  pub less : weight (length t.rows) next < weight (length t.rows) set
+  pub less : set_weight (length t.rows) next < set_weight (length t.rows) set
 
 later : (t : ErrorTable) (firsts left : ℕ) (set : List ℕ) (a b : ℕ) → HasNoneWithin t left → IsLogicalError t set → length set ≡ left + 1 → HasBefore firsts set
     → has a set ≡ true → has b set ≡ true → a ≢ b → IsLeftOut t.rows firsts a b → Later t firsts left set
@@ -177,39 +177,39 @@ later t firsts left set a b none e count first in_a in_b differ (by_two c d in_c
 
 -- no error of one list is listed with one of the other
 abbrev pub Unpaired : List (Vec ℕ) → List ℕ → List ℕ → Type 0
-Unpaired pairs xs ys = (a g : ℕ) → has a xs ≡ true → has g ys ≡ true → has g (listed pairs a) ≡ false
+Unpaired pairs xs ys = (a g : ℕ) → has a xs ≡ true → has g ys ≡ true → has g (rows_listed pairs a) ≡ false
 
 record Paired (pairs : List (Vec ℕ)) (xs ys : List ℕ) : Type 0 where
   a : ℕ
   g : ℕ
   in_xs : has a xs ≡ true
   in_ys : has g ys ≡ true
-  pair : has g (listed pairs a) ≡ true
+  pair : has g (rows_listed pairs a) ≡ true
 
-pairs-with : (pairs : List (Vec ℕ)) (x : ℕ) (ys : List ℕ) → ((g : ℕ) → has g ys ≡ true → has g (listed pairs x) ≡ false) ⊎ Paired pairs (x ∷ []) ys
+pairs-with : (pairs : List (Vec ℕ)) (x : ℕ) (ys : List ℕ) → ((g : ℕ) → has g ys ≡ true → has g (rows_listed pairs x) ≡ false) ⊎ Paired pairs (x ∷ []) ys
 pairs-with pairs x [] = inl (λ g e. absurd (false≢true e))
 pairs-with pairs x (y ∷ ys) =
-    by-bit (has y (listed pairs x))
+    by-bit (has y (rows_listed pairs x))
     (λ pair. inr (record { a = x; g = y; in_xs = has-here x []; in_ys = has-here y ys; pair = pair }))
     (λ none. on none (pairs-with pairs x ys))
   where
-    on : has y (listed pairs x) ≡ false → ((g : ℕ) → has g ys ≡ true → has g (listed pairs x) ≡ false) ⊎ Paired pairs (x ∷ []) ys
-        → ((g : ℕ) → has g (y ∷ ys) ≡ true → has g (listed pairs x) ≡ false) ⊎ Paired pairs (x ∷ []) (y ∷ ys)
-    on none (inl rest) = inl (λ g e. among g y ys e (λ same. subst (λ k. has k (listed pairs x) ≡ false) same none) (rest g))
+    on : has y (rows_listed pairs x) ≡ false → ((g : ℕ) → has g ys ≡ true → has g (rows_listed pairs x) ≡ false) ⊎ Paired pairs (x ∷ []) ys
+        → ((g : ℕ) → has g (y ∷ ys) ≡ true → has g (rows_listed pairs x) ≡ false) ⊎ Paired pairs (x ∷ []) (y ∷ ys)
+    on none (inl rest) = inl (λ g e. among g y ys e (λ same. subst (λ k. has k (rows_listed pairs x) ≡ false) same none) (rest g))
     on none (inr p) = inr (record { a = p.a; g = p.g; in_xs = p.in_xs; in_ys = has-there p.g y ys p.in_ys; pair = p.pair })
 
 paired : (pairs : List (Vec ℕ)) (xs ys : List ℕ) → Unpaired pairs xs ys ⊎ Paired pairs xs ys
 paired pairs [] ys = inl (λ a g e. absurd (false≢true e))
 paired pairs (x ∷ xs) ys = on (pairs-with pairs x ys) (paired pairs xs ys)
   where
-    on : ((g : ℕ) → has g ys ≡ true → has g (listed pairs x) ≡ false) ⊎ Paired pairs (x ∷ []) ys → Unpaired pairs xs ys ⊎ Paired pairs xs ys
+    on : ((g : ℕ) → has g ys ≡ true → has g (rows_listed pairs x) ≡ false) ⊎ Paired pairs (x ∷ []) ys → Unpaired pairs xs ys ⊎ Paired pairs xs ys
         → Unpaired pairs (x ∷ xs) ys ⊎ Paired pairs (x ∷ xs) ys
-    on (inr p) rest = inr (record { a = x; g = p.g; in_xs = has-here x xs; in_ys = p.in_ys; pair = subst (λ k. has p.g (listed pairs k) ≡ true) (alone p.a p.in_xs) p.pair })
+    on (inr p) rest = inr (record { a = x; g = p.g; in_xs = has-here x xs; in_ys = p.in_ys; pair = subst (λ k. has p.g (rows_listed pairs k) ≡ true) (alone p.a p.in_xs) p.pair })
       where
         alone : (k : ℕ) → has k (x ∷ []) ≡ true → k ≡ x
         alone k e = among k x [] e (λ same. sym same) (λ none. absurd (false≢true none))
     on (inl none) (inr p) = inr (record { a = p.a; g = p.g; in_xs = has-there p.a x xs p.in_xs; in_ys = p.in_ys; pair = p.pair })
-    on (inl none) (inl rest) = inl (λ a g e. among a x xs e (λ same. subst (λ k. has g ys ≡ true → has g (listed pairs k) ≡ false) same (none g)) (λ there. rest a g there))
+    on (inl none) (inl rest) = inl (λ a g e. among a x xs e (λ same. subst (λ k. has g ys ≡ true → has g (rows_listed pairs k) ≡ false) same (none g)) (λ there. rest a g there))
 
 module _ (t : ErrorTable) (pairs : List (Vec ℕ)) (firsts : ℕ) (are : ArePairs t.rows firsts pairs) (left : ℕ) (none : HasNoneWithin t left) where
   after : (set : List ℕ) → IsLogicalError t set → length set ≡ left + 1 → HasBefore firsts set → Paired pairs set set → Later t firsts left set

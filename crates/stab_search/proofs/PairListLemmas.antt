@@ -1,10 +1,10 @@
 -- Lists of pairs that are left out: one more pair is listed.
-use Rattle.stab_search.proofs.Names.{◌≡◌, ◌≢◌, ℕ, ◌<◌, ◌⊎◌, inl, inr, refl, sym, ◌∙◌, ap, subst, Bool, true, false, List, [], ◌∷◌, ◌++◌, length, ◌==◌, eqb-true, eqb-false, ◌⊕◌, parity-comm, odd, row, has, listed, Vec, KeepFirst, IsLeftOut, by_two, ArePairs}
+use Rattle.stab_search.proofs.Names.{◌≡◌, ◌≢◌, ℕ, ◌<◌, ◌⊎◌, inl, inr, refl, sym, ◌∙◌, ap, subst, Bool, true, false, List, [], ◌∷◌, ◌++◌, length, ◌==◌, eqb-true, eqb-false, ◌⊕◌, parity-comm, odd, row, has, rows_listed, Vec, KeepFirst, IsLeftOut, by_two, ArePairs}
 use Rattle.stab_search.proofs.ListLemmas.{by-bit}
 use Rattle.stab_search.proofs.EndLemmas.{at-end}
 
-pub pairs-more : (rows : List (List ℕ)) (firsts : ℕ) (old new : List (Vec ℕ)) (a b : ℕ) → listed new a ≡ listed old a ++ b ∷ []
-    → ((e : ℕ) → e ≢ a → listed new e ≡ listed old e) → a ≢ b → IsLeftOut rows firsts a b ⊎ IsLeftOut rows firsts b a → ArePairs rows firsts old → ArePairs rows firsts new
+pub pairs-more : (rows : List (List ℕ)) (firsts : ℕ) (old new : List (Vec ℕ)) (a b : ℕ) → rows_listed new a ≡ rows_listed old a ++ b ∷ []
+    → ((e : ℕ) → e ≢ a → rows_listed new e ≡ rows_listed old e) → a ≢ b → IsLeftOut rows firsts a b ⊎ IsLeftOut rows firsts b a → ArePairs rows firsts old → ArePairs rows firsts new
 pairs-more rows firsts old new a b here elsewhere differ out are = record {
   differ = λ x y there. on x y there (are.differ x y) (λ same_x same_y. subst (λ k. k ≢ y) (sym same_x) (subst (λ k. a ≢ k) (sym same_y) differ));
   left_out = λ x y there.
@@ -13,13 +13,13 @@ pairs-more rows firsts old new a b here elsewhere differ out are = record {
       subst (λ k. IsLeftOut rows firsts k y ⊎ IsLeftOut rows firsts y k) (sym same_x) (subst (λ k. IsLeftOut rows firsts a k ⊎ IsLeftOut rows firsts k a) (sym same_y) out));
 }
   where
-    on : {P : Type 0} (x y : ℕ) → has y (listed new x) ≡ true → (has y (listed old x) ≡ true → P) → (x ≡ a → y ≡ b → P) → P
+    on : {P : Type 0} (x y : ℕ) → has y (rows_listed new x) ≡ true → (has y (rows_listed old x) ≡ true → P) → (x ≡ a → y ≡ b → P) → P
     on x y there before added =
         by-bit (x == a)
         (λ same.
         let is : x ≡ a = eqb-true x a same in
-        at-end y (listed old a) b (sym (ap (has y) here) ∙ subst (λ k. has y (listed new k) ≡ true) is there)
-        (λ was. before (subst (λ k. has y (listed old k) ≡ true) (sym is) was)) (added is))
+        at-end y (rows_listed old a) b (sym (ap (has y) here) ∙ subst (λ k. has y (rows_listed new k) ≡ true) is there)
+        (λ was. before (subst (λ k. has y (rows_listed old k) ≡ true) (sym is) was)) (added is))
         (λ other. before (sym (ap (has y) (elsewhere x (eqb-false x a other))) ∙ there))
 
 -- two errors flip the same as two after one of them

@@ -1,5 +1,5 @@
 -- Parts: what holds of a table's graph-like part holds of the graph-like errors of the table.
-use Rattle.stab_search.proofs.Names.{◌≡◌, ℕ, zero, suc, ◌+◌, ◌≤◌, ◌<◌, ◌⊎◌, inl, inr, refl, sym, ◌∙◌, ap, subst, arith, true, List, [], ◌∷◌, ◌++◌, length, min, All, cases_lt, ◌⊕◌, Answer, Least, NoneWithin, NoneAtAll, ErrorTable, odd, row, flipped_by_rows, IsLogicalError, HasNoneWithin, IsLeast, IsAnswer, IsGraphlike, IsGraphlikeError, IsLeastGraphlike, HasNoGraphlikeWithin, IsGraphlikeAnswer, Each, has, IsGraphlikePart}
+use Rattle.stab_search.proofs.Names.{◌≡◌, ℕ, zero, suc, ◌+◌, ◌≤◌, ◌<◌, ◌⊎◌, inl, inr, refl, sym, ◌∙◌, ap, subst, arith, true, List, [], ◌∷◌, ◌++◌, length, min, All, cases_lt, ◌⊕◌, Answer, Least, NoneWithin, NoneAtAll, ErrorTable, odd, row, flipped_by_rows, IsLogicalError, HasNoneWithin, IsLeast, IsLeastAnswer, IsGraphlike, IsGraphlikeError, IsLeastGraphlike, HasNoGraphlikeWithin, IsGraphlikeAnswer, ForEach, has, IsGraphlikePart}
 use Rattle.stab_search.proofs.ListLemmas.{each-all, all-each, each-has, each-without, has-here, has-there, without, length-without}
 use Rattle.stab_search.proofs.FlipLemmas.{flips-without}
 use Rattle.stab_search.proofs.ShortestLemmas.{none-up_to_each}
@@ -12,7 +12,7 @@ module _ (t part : ErrorTable) (is : IsGraphlikePart t part) where
   abbrev Graphlike : ℕ → Type 0
   Graphlike r = IsGraphlike t.detectors (row t.rows r)
 
-  flips-same : (xs : List ℕ) → Each Inside xs → Each Graphlike xs → (i : ℕ) → flipped_by_rows part.rows xs i ≡ flipped_by_rows t.rows xs i
+  flips-same : (xs : List ℕ) → ForEach Inside xs → ForEach Graphlike xs → (i : ℕ) → flipped_by_rows part.rows xs i ≡ flipped_by_rows t.rows xs i
   flips-same [] a g i = refl
   flips-same (x ∷ xs) a g i =
       ap (λ (ys : List ℕ). odd i ys ⊕ flipped_by_rows part.rows xs i) (is.rows.kept x a.0 g.0) ∙ ap (λ b. odd i (row t.rows x) ⊕ b) (flips-same xs a.1 g.1 i)
@@ -32,7 +32,7 @@ module _ (t part : ErrorTable) (is : IsGraphlikePart t part) where
       same = flips-same xs (each-all Inside xs inside) (each-all Graphlike xs e.graphlike)
 
   -- and one of the part whose rows are graph-like is one of the table
-  whole-logical : (xs : List ℕ) → IsLogicalError part xs → Each Graphlike xs → IsLogicalError t xs
+  whole-logical : (xs : List ℕ) → IsLogicalError part xs → ForEach Graphlike xs → IsLogicalError t xs
   whole-logical xs e g = record {
     inside = subst (λ n. All (λ r. r < n) xs) is.rows.count e.inside;
     undetected = λ d lt. sym (same d) ∙ e.undetected d (subst (λ n. d < n) (sym is.detectors) lt);
@@ -65,7 +65,7 @@ module _ (t part : ErrorTable) (is : IsGraphlikePart t part) where
             let one_less = length-without r xs among in
             absurd (omega arith)
 
-    each-among : (ys : List ℕ) → ((r : ℕ) → has r ys ≡ true → Graphlike r) → Each Graphlike ys
+    each-among : (ys : List ℕ) → ((r : ℕ) → has r ys ≡ true → Graphlike r) → ForEach Graphlike ys
     each-among [] all = tt
     each-among (y ∷ ys) all = (all y (has-here y ys), each-among ys (λ r there. all r (has-there r y ys there)))
 
@@ -82,7 +82,7 @@ module _ (t part : ErrorTable) (is : IsGraphlikePart t part) where
   pub part-none : (most : ℕ) → HasNoneWithin part most → HasNoGraphlikeWithin t most
   part-none most none errors e = none errors (part-logical errors e)
 
-  pub part-answer : (most : ℕ) (answer : Answer) → IsAnswer part most answer → IsGraphlikeAnswer t most answer
+  pub part-answer : (most : ℕ) (answer : Answer) → IsLeastAnswer part most answer → IsGraphlikeAnswer t most answer
   part-answer most (Least errors) least = least-graphlike most errors.items least
   part-answer most NoneWithin none =
       let set = least-of part none.1 in

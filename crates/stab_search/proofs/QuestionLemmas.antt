@@ -1,5 +1,5 @@
 -- Questions: the problem of a table asks for its logical errors.
-use Rattle.stab_search.proofs.Names.{◌≡◌, ℕ, zero, suc, ◌+◌, ◌-◌, ◌<◌, ◌≤◌, ◌⊎◌, inl, inr, refl, sym, ◌∙◌, subst, ap, arith, Bool, true, false, not, List, [], ◌∷◌, ◌++◌, length, ◌&&◌, ◌||◌, drop, take, min, map, get_or, false≢true, and_parts, cases_lt, length-take, list_all-append, All, All-nil, All-cons, All-append, filter, flat_map, list_all, list_any, range_with_len, IsAscending, IsLogicalError, ErrorTable, flipped_by_rows, Literal, Is, IsNot, Sum, Problem, holds, meets, IsWithin, without, errors_in, Asks, value, parity, AreSums, AreFrom, AreParities, flipped_by, sum_clauses, is_false, variables_of, one_of, clauses_of}
+use Rattle.stab_search.proofs.Names.{◌≡◌, ℕ, zero, suc, ◌+◌, ◌-◌, ◌<◌, ◌≤◌, ◌⊎◌, inl, inr, refl, sym, ◌∙◌, subst, ap, arith, Bool, true, false, not, List, [], ◌∷◌, ◌++◌, length, ◌&&◌, ◌||◌, drop, take, min, map, get_or, false≢true, and_parts, cases_lt, length-take, list_all-append, All, All-nil, All-cons, All-append, filter, flat_map, list_all, list_any, range_with_len, IsAscending, IsLogicalError, ErrorTable, flipped_by_rows, Literal, Is, IsNot, Sum, Problem, holds, meets, IsVariableWithin, without, errors_in, Asks, variable_value, parity_variable, AreSums, AreFrom, AreParities, flipped_in_sum, sum_clauses, is_false, variables_of, one_of, clauses_of}
 use Rattle.std.proofs.Math.ListN.{drop_of_length-le}
 use Rattle.std.proofs.lemmas.List.{get_or-take, get_or-drop, get_or_past, length-take-le, take_all}
 use Rattle.std.proofs.lemmas.List.Elements.{All-take, All-drop}
@@ -19,9 +19,9 @@ pub record IsMadeOf (t : ErrorTable) (p : Problem) (parities : List ℕ) : Type 
 -- the clauses that have to be met, in their three parts
 pub record AreMet (a : ℕ → Bool) (t : ErrorTable) (p : Problem) (parities : List ℕ) : Type 0 where
   pub sums : AreSums a p.sums.items
-  pub undetected : (d : ℕ) → value a (parity (take t.detectors parities) d) ≡ false
+  pub undetected : (d : ℕ) → variable_value a (parity_variable (take t.detectors parities) d) ≡ false
   pub some : a (p.errors + 1) ≡ true
-  pub observed : (j : ℕ) × (value a (parity (drop t.detectors parities) j) ≡ true)
+  pub observed : (j : ℕ) × (variable_value a (parity_variable (drop t.detectors parities) j) ≡ true)
 
 hard-split : (a : ℕ → Bool) (p : Problem) → meets a (clauses_of p).hard
     ≡ (meets a (flat_map sum_clauses p.sums.items) && (meets a (map is_false p.undetected.items) && ((a (p.errors + 1) || false) && (list_any (holds a) p.observed.items && true))))
@@ -81,7 +81,7 @@ drop_min n xs = at (cases_lt n (length xs))
     at (inr more) = ap (λ m. drop m xs) (let same : min n (length xs) ≡ length xs = omega (arith, more) in same) ∙ drop_of_length-le xs (omega arith) ∙ sym (drop_of_length-le xs more)
 
 -- a detector's or observable's parity
-flips-value : (a : ℕ → Bool) (t : ErrorTable) (p : Problem) (parities : List ℕ) → IsMadeOf t p parities → AreSums a p.sums.items → (i : ℕ) → flipped_by_rows t.rows (errors_in a (length t.rows)) i ≡ value a (parity parities i)
+flips-value : (a : ℕ → Bool) (t : ErrorTable) (p : Problem) (parities : List ℕ) → IsMadeOf t p parities → AreSums a p.sums.items → (i : ℕ) → flipped_by_rows t.rows (errors_in a (length t.rows)) i ≡ variable_value a (parity_variable parities i)
 flips-value a t p parities made sums i = flips-chosen a t.rows i ∙ sym (made.are a sums i)
 
 sound : (t : ErrorTable) (p : Problem) (parities : List ℕ) → IsMadeOf t p parities → (a : ℕ → Bool) → meets a (clauses_of p).hard ≡ true → IsLogicalError t (errors_in a (length t.rows))
@@ -90,8 +90,8 @@ sound t p parities made a met =
     let flipped = flips-value a t p parities made are.sums in
     let j = are.observed.0 in record {
       inside = subst (λ n. All (λ r. r < n) (errors_in a (length t.rows))) (omega arith) (chosen-within (λ k. a (k + 1)) 0 (length t.rows));
-      undetected = λ d less. flipped d ∙ ap (value a) (sym (get_or-take t.detectors parities d 0 less)) ∙ are.undetected d;
-      observed = (t.detectors + j, omega arith, flipped (t.detectors + j) ∙ ap (value a) (sym (get_or-drop t.detectors parities j 0)) ∙ are.observed.1);
+      undetected = λ d less. flipped d ∙ ap (variable_value a) (sym (get_or-take t.detectors parities d 0 less)) ∙ are.undetected d;
+      observed = (t.detectors + j, omega arith, flipped (t.detectors + j) ∙ ap (variable_value a) (sym (get_or-drop t.detectors parities j 0)) ∙ are.observed.1);
     }
 
 complete : (t : ErrorTable) (p : Problem) (parities : List ℕ) → IsMadeOf t p parities → (errors : List ℕ) → IsAscending errors → IsLogicalError t errors
@@ -113,12 +113,12 @@ complete t p parities made errors ascends logical = (a, parts-met a t p parities
     same : errors_in a (length t.rows) ≡ errors
     same = chosen-set a (length t.rows) errors ascends logical.inside (λ k less. below (k + 1) (omega (arith, less)))
 
-    flipped : (i : ℕ) → value a (parity parities i) ≡ flipped_by_rows t.rows errors i
+    flipped : (i : ℕ) → variable_value a (parity_variable parities i) ≡ flipped_by_rows t.rows errors i
     flipped i = sym (flips-value a t p parities made sums i) ∙ ap (λ l. flipped_by_rows t.rows l i) same
 
-    undetected : (d : ℕ) → (d < t.detectors) ⊎ (t.detectors ≤ d) → value a (parity (take t.detectors parities) d) ≡ false
-    undetected d (inl less) = ap (value a) (get_or-take t.detectors parities d 0 less) ∙ flipped d ∙ logical.undetected d less
-    undetected d (inr past) = ap (value a) (get_or_past (take t.detectors parities) d 0 (omega (arith, taken t.detectors parities, past)))
+    undetected : (d : ℕ) → (d < t.detectors) ⊎ (t.detectors ≤ d) → variable_value a (parity_variable (take t.detectors parities) d) ≡ false
+    undetected d (inl less) = ap (variable_value a) (get_or-take t.detectors parities d 0 less) ∙ flipped d ∙ logical.undetected d less
+    undetected d (inr past) = ap (variable_value a) (get_or_past (take t.detectors parities) d 0 (omega (arith, taken t.detectors parities, past)))
 
     o : ℕ
     o = logical.observed.0
@@ -130,16 +130,16 @@ complete t p parities made errors ascends logical = (a, parts-met a t p parities
       some = ap a (ap (λ m. m + 1) made.errors) ∙ below (length t.rows + 1) (omega arith) ∙ of_set-after (length t.rows) errors;
       observed = (
         o - t.detectors,
-        ap (value a) (get_or-drop t.detectors parities (o - t.detectors) 0 ∙ ap (λ i. parity parities i) (omega (arith, logical.observed.1))) ∙ flipped o ∙ logical.observed.2,
+        ap (variable_value a) (get_or-drop t.detectors parities (o - t.detectors) 0 ∙ ap (λ i. parity_variable parities i) (omega (arith, logical.observed.1))) ∙ flipped o ∙ logical.observed.2,
       );
     }
 
-within : (t : ErrorTable) (p : Problem) (parities : List ℕ) → IsMadeOf t p parities → All (All (IsWithin (clauses_of p).variables)) (clauses_of p).hard
+within : (t : ErrorTable) (p : Problem) (parities : List ℕ) → IsMadeOf t p parities → All (All (IsVariableWithin (clauses_of p).variables)) (clauses_of p).hard
 within t p parities made =
-    All-append (All (IsWithin n)) (flat_map sum_clauses p.sums.items) (map is_false p.undetected.items ++ (Is (p.errors + 1) ∷ []) ∷ p.observed.items ∷ []) (sums-within n (length t.rows + 2) p.sums.items made.sums (omega (arith, made.errors)))
-    (All-append (All (IsWithin n)) (map is_false p.undetected.items) ((Is (p.errors + 1) ∷ []) ∷ p.observed.items ∷ []) (false-within n p.undetected.items (subst (All (IsIn n)) (sym made.undetected) (variables-within n (take t.detectors parities) (All-take (λ v. v ≤ n) t.detectors parities inside))))
-    (All-cons (All (IsWithin n)) (Is (p.errors + 1) ∷ []) (p.observed.items ∷ []) (All-cons (IsWithin n) (Is (p.errors + 1)) [] one (All-nil (IsWithin n)))
-    (All-cons (All (IsWithin n)) p.observed.items [] observed (All-nil (All (IsWithin n))))))
+    All-append (All (IsVariableWithin n)) (flat_map sum_clauses p.sums.items) (map is_false p.undetected.items ++ (Is (p.errors + 1) ∷ []) ∷ p.observed.items ∷ []) (sums-within n (length t.rows + 2) p.sums.items made.sums (omega (arith, made.errors)))
+    (All-append (All (IsVariableWithin n)) (map is_false p.undetected.items) ((Is (p.errors + 1) ∷ []) ∷ p.observed.items ∷ []) (false-within n p.undetected.items (subst (All (IsIn n)) (sym made.undetected) (variables-within n (take t.detectors parities) (All-take (λ v. v ≤ n) t.detectors parities inside))))
+    (All-cons (All (IsVariableWithin n)) (Is (p.errors + 1) ∷ []) (p.observed.items ∷ []) (All-cons (IsVariableWithin n) (Is (p.errors + 1)) [] one (All-nil (IsVariableWithin n)))
+    (All-cons (All (IsVariableWithin n)) p.observed.items [] observed (All-nil (All (IsVariableWithin n))))))
   where
     n : ℕ
     n = p.errors + 1 + length p.sums.items
@@ -153,10 +153,10 @@ within t p parities made =
     others : List ℕ
     others = variables_of (drop t.detectors parities)
 
-    observed : All (IsWithin n) p.observed.items
+    observed : All (IsVariableWithin n) p.observed.items
     observed =
-        subst (All (IsWithin n)) (sym made.observed)
-        (All-cons (IsWithin n) (IsNot (p.errors + 1)) (map (λ v. Is v) others) one (is-within n others (variables-within n (drop t.detectors parities) (All-drop (λ v. v ≤ n) t.detectors parities inside))))
+        subst (All (IsVariableWithin n)) (sym made.observed)
+        (All-cons (IsVariableWithin n) (IsNot (p.errors + 1)) (map (λ v. Is v) others) one (is-within n others (variables-within n (drop t.detectors parities) (All-drop (λ v. v ≤ n) t.detectors parities inside))))
 
 pub asks : (t : ErrorTable) (p : Problem) (parities : List ℕ) → IsMadeOf t p parities → Asks t (clauses_of p)
 asks t p parities made = record {

@@ -1,5 +1,5 @@
 -- Going over a list: what is left of it, and what was passed.
-use Rattle.stab_search.proofs.Names.{◌≡◌, ◌≢◌, ℕ, zero, suc, ◌+◌, ◌≤◌, ◌<◌, ◌⊎◌, inl, inr, sym, ◌∙◌, ap, subst, arith, Bool, true, false, ◌||◌, List, [], ◌∷◌, ◌++◌, length, get_or, take, drop, drop-cons, drop_of_length-le, false≢true, eqb-true, eqb-false, ◌==◌, if◌then◌else◌, ◌⊕◌, IsAscending, odd, row, flipped_by_rows, Each, has, shares}
+use Rattle.stab_search.proofs.Names.{◌≡◌, ◌≢◌, ℕ, zero, suc, ◌+◌, ◌≤◌, ◌<◌, ◌⊎◌, inl, inr, sym, ◌∙◌, ap, subst, arith, Bool, true, false, ◌||◌, List, [], ◌∷◌, ◌++◌, length, get_or, take, drop, drop-cons, drop_of_length-le, false≢true, eqb-true, eqb-false, ◌==◌, if◌then◌else◌, ◌⊕◌, IsAscending, odd, row, flipped_by_rows, ForEach, has, shares}
 use Rattle.stab_search.proofs.AscendingLemmas.{named-ascending}
 use Rattle.stab_search.proofs.FlipLemmas.{flips-push}
 use Rattle.stab_search.proofs.ListLemmas.{by-bit, each-push, has-here, has-there}
@@ -35,8 +35,8 @@ is-other e xs k lt none same = false≢true (sym none ∙ subst (λ r. has r xs 
 pub passed : (xs : List ℕ) (k : ℕ) → k < length xs → take (k + 1) xs ≡ take k xs ++ get_or xs k 0 ∷ []
 passed xs k lt = let next : k + 1 ≡ suc k = omega arith in ap (λ n. take n xs) next ∙ take-push xs k 0 lt
 
-pub each-passed : (P : ℕ → Type 0) (xs : List ℕ) (k : ℕ) → k < length xs → Each P (take k xs) → P (get_or xs k 0) → Each P (take (k + 1) xs)
-each-passed P xs k lt each here = subst (Each P) (sym (passed xs k lt)) (each-push P (take k xs) (get_or xs k 0) here each)
+pub each-passed : (P : ℕ → Type 0) (xs : List ℕ) (k : ℕ) → k < length xs → ForEach P (take k xs) → P (get_or xs k 0) → ForEach P (take (k + 1) xs)
+each-passed P xs k lt each here = subst (ForEach P) (sym (passed xs k lt)) (each-push P (take k xs) (get_or xs k 0) here each)
 
 pub flips-passed : (rows : List (List ℕ)) (xs : List ℕ) (k i : ℕ) → k < length xs
     → flipped_by_rows rows (take (k + 1) xs) i ≡ flipped_by_rows rows (take k xs) i ⊕ odd i (row rows (get_or xs k 0))
@@ -59,7 +59,7 @@ shares-within rows e (d ∷ ds) = let later = shares-within rows e ds in by_bit 
     by_bit false later = omega arith
 
 -- numbers of an ascending list are there an odd number of times
-pub each-odd : (xs ys : List ℕ) → IsAscending ys → ((g : ℕ) → has g xs ≡ true → has g ys ≡ true) → Each (λ d. odd d ys ≡ true) xs
+pub each-odd : (xs ys : List ℕ) → IsAscending ys → ((g : ℕ) → has g xs ≡ true → has g ys ≡ true) → ForEach (λ d. odd d ys ≡ true) xs
 each-odd [] ys a among = tt
 each-odd (x ∷ xs) ys a among =
     (sym (named-ascending ys x a) ∙ among x (has-here x xs), each-odd xs ys a (λ g there. among g (has-there g x xs there)))

@@ -1,13 +1,12 @@
 -- Parts of a search: of the least sets that are logical errors there is a last one, and it begins in one of the parts.
-use Rattle.stab_search.proofs.Names.{◌≡◌, ℕ, zero, suc, ◌+◌, ◌≤◌, ◌<◌, ◌⊎◌, inl, inr, refl, sym, ◌∙◌, ap, subst, arith, List, [], ◌∷◌, length, min, cases_lt, ErrorTable, row, HasNoneWithin, Vec, NoEnds, BeginsBefore, ArePairs, Answer, Least, NoneWithin, NoneAtAll, HasSome, IsAnswer, IsExcludedBy, AreEnough, Bool, Option, Some, None, is_some, Decides, Each}
+use Rattle.stab_search.proofs.Names.{◌≡◌, ℕ, zero, suc, ◌+◌, ◌≤◌, ◌<◌, ◌⊎◌, inl, inr, refl, sym, ◌∙◌, ap, subst, arith, List, [], ◌∷◌, length, min, cases_lt, ErrorTable, row, HasNoneWithin, Vec, NoEnds, BeginsBefore, ArePairs, Answer, Least, NoneWithin, NoneAtAll, HasSome, IsLeastAnswer, IsExcludedBy, ErrorsAreEnough, Bool, Option, Some, None, is_some, Decides, ForEach}
 use Rattle.std.specs.Prelude.{◌%◌}
 use Rattle.std.proofs.lemmas.Nat.{mod_below}
 use Rattle.stab_search.specs.PartNumbers.{PartNumbers}
-use Rattle.stab_search.specs.SearchParts.{Searched, weight, IsCandidate, IsLastSet, BeginsIn, HasNoneIn, IsSearchOf, HaveNoneWithin, PartsAreWhole, PartsFindLeast, digest_of, IsFoundIn, IsPartAnswer}
-use Rattle.stab_search.specs.declared.part_search.Found.{Found}
+use Rattle.stab_search.specs.SearchParts.{Searched, set_weight, IsCandidate, IsLastSet, BeginsIn, HasNoneIn, IsSearchOf, HaveNoneWithin, PartsAreWhole, PartsFindLeast, digest_of, IsFoundIn, IsPartAnswer}
 use Rattle.stab_search.specs.declared.search_part.PartAnswer.{PartAnswer}
-use Rattle.stab_search.specs.declared.sizes.Begun.{Begun}
-use Rattle.stab_search.specs.inner.ReportedProgress.{IsFirst, IsFoundAfter, IsFound, AreInside, IsInTable, Reaches}
+use Rattle.stab_search.specs.declared.sizes.Found.{Found}
+use Rattle.stab_search.specs.inner.ReportedProgress.{IsBegunBy, IsFirstFound, IsFoundAfter, IsPartFound, AreInside, IsInTable, ReachesMost}
 use Rattle.stab_search.proofs.EnoughLemmas.{none-enough, none-within_enough, none-within_fewer, set-enough, some-enough}
 use Rattle.stab_search.proofs.FirstLemmas.{first-ends, begins-first}
 use Rattle.stab_search.proofs.ListLemmas.{each-all}
@@ -33,10 +32,10 @@ none-larger p s size more below set last begins =
     omega (arith, few, is.count, more)
 
 -- a set that is not later
-not-later : (n : ℕ) (set other : List ℕ) → (weight n other < weight n set → ⊥) → weight n set ≤ weight n other
-not-later n set other never = by_order (cases_lt (weight n other) (weight n set))
+not-later : (n : ℕ) (set other : List ℕ) → (set_weight n other < set_weight n set → ⊥) → set_weight n set ≤ set_weight n other
+not-later n set other never = by_order (cases_lt (set_weight n other) (set_weight n set))
   where
-    by_order : (weight n other < weight n set) ⊎ (weight n set ≤ weight n other) → weight n set ≤ weight n other
+    by_order : (set_weight n other < set_weight n set) ⊎ (set_weight n set ≤ set_weight n other) → set_weight n set ≤ set_weight n other
     by_order (inl lt) = absurd (never lt)
     by_order (inr more) = more
 
@@ -49,7 +48,7 @@ module _ (s : Searched) (count : ℕ) (some : 0 < count) (begun : BeginsBefore s
   no-last (f ∷ rest) last = all (f % count) (mod_below f count some) (λ errors e. omega (arith, none errors e)) (f ∷ rest) last refl
 
   -- and there is a last one if there is one
-  no-set : (most : ℕ) (set : List ℕ) → weight (length s.table.rows) set ≤ most → IsCandidate s (left + 1) set → ⊥
+  no-set : (most : ℕ) (set : List ℕ) → set_weight (length s.table.rows) set ≤ most → IsCandidate s (left + 1) set → ⊥
   no-set zero set le is = no-last set (record { is = is; last = λ other o. omega (arith, le) })
   no-set (suc most) set le is = no-last set (record { is = is; last = λ other o. not-later (length s.table.rows) set other (λ lt. no-set most other (omega (arith, le, lt)) o) })
 
@@ -66,7 +65,7 @@ module _ (s : Searched) (count : ℕ) (some : 0 < count) (begun : BeginsBefore s
           let fewer = set.1.fewer in
           let few = other.1.1.0 in
           absurd
-          (no-set (weight (length s.table.rows) set.0) set.0 (omega arith)
+          (no-set (set_weight (length s.table.rows) set.0) set.0 (omega arith)
           (record {
             ascending = set.1.ascending;
             logical = is;
@@ -120,7 +119,7 @@ same-searched t u k l table firsts = ap (λ (x : ErrorTable). let s : Searched =
 -- what a part answers
 
 -- errors that are enough are searched for a table
-pub enough-search : (t fewer : ErrorTable) (numbers : List ℕ) (firsts : ℕ) → AreEnough t fewer numbers → BeginsBefore fewer firsts → IsSearchOf t (record { table = fewer; firsts = firsts })
+pub enough-search : (t fewer : ErrorTable) (numbers : List ℕ) (firsts : ℕ) → ErrorsAreEnough t fewer numbers → BeginsBefore fewer firsts → IsSearchOf t (record { table = fewer; firsts = firsts })
 enough-search t fewer numbers firsts is begun = record {
   fewer = none-within_fewer t fewer numbers is;
   enough = none-within_enough t fewer numbers is;
@@ -131,7 +130,7 @@ enough-search t fewer numbers firsts is begun = record {
 pub own-search : (t : ErrorTable) (firsts : ℕ) → BeginsBefore t firsts → IsSearchOf t (record { table = t; firsts = firsts })
 own-search t firsts begun = record { fewer = λ size none. none; enough = λ size none. none; begun = begun }
 
-module _ (p : PartNumbers) (t : ErrorTable) (s : Searched) (numbers : List ℕ) (enough : AreEnough t s.table numbers) (is : IsSearchOf t s) (most : ℕ) where
+module _ (p : PartNumbers) (t : ErrorTable) (s : Searched) (numbers : List ℕ) (enough : ErrorsAreEnough t s.table numbers) (is : IsSearchOf t s) (most : ℕ) where
   found-in : (last first : ℕ) (own answer : Answer) → IsFoundAfter p s most last first own → IsInTable numbers own answer → IsFoundIn p t s most last first answer
   found-in last first (Least own) answer found (set, same, gathered) =
       subst (IsFoundIn p t s most last first) (sym same) (found.0, set-enough t s.table numbers enough (last + 1) own.items set.items found.1.found gathered, own.items, found.1)
@@ -140,20 +139,20 @@ module _ (p : PartNumbers) (t : ErrorTable) (s : Searched) (numbers : List ℕ) 
       ((λ size lt le. none-larger p s size (omega (arith, lt, le, found.0))), some-enough t s.table numbers enough found.1)
   found-in last first NoneAtAll answer found same = subst (IsFoundIn p t s most last first) (sym same) (none-enough t s.table numbers enough found)
 
-  reaches-in : (last first : ℕ) (own answer : Answer) → IsFoundAfter p s most last first own → IsInTable numbers own answer → Reaches s most last answer
-  reaches-in last first (Least own) answer found (set, same, gathered) = subst (Reaches s most last) (sym same) tt
-  reaches-in last first NoneWithin answer found same = subst (Reaches s most last) (sym same) found.0
-  reaches-in last first NoneAtAll answer found same = subst (Reaches s most last) (sym same) tt
+  reaches-in : (last first : ℕ) (own answer : Answer) → IsFoundAfter p s most last first own → IsInTable numbers own answer → ReachesMost s most last answer
+  reaches-in last first (Least own) answer found (set, same, gathered) = subst (ReachesMost s most last) (sym same) tt
+  reaches-in last first NoneWithin answer found same = subst (ReachesMost s most last) (sym same) found.0
+  reaches-in last first NoneAtAll answer found same = subst (ReachesMost s most last) (sym same) tt
 
-  pub part-reaches : (f : Found) (last : ℕ) → IsFound p s most last f → (answer : Answer) → IsInTable numbers f.answer answer → (f.last ≡ last) × Reaches s most last answer
-  part-reaches f last found answer in_table = (found.0, subst (λ k. Reaches s most k answer) found.0 (reaches-in f.last f.first f.answer answer found.2 in_table))
+  pub part-reaches : (f : Found) (last : ℕ) → IsPartFound p s most last f → (answer : Answer) → IsInTable numbers f.answer answer → (f.last ≡ last) × ReachesMost s most last answer
+  part-reaches f last found answer in_table = (found.0, subst (λ k. ReachesMost s most k answer) found.0 (reaches-in f.last f.first f.answer answer found.2 in_table))
 
   pub inside-in : (last first : ℕ) (own : Answer) → IsFoundAfter p s most last first own → AreInside (length numbers) own
-  inside-in last first (Least own) found = subst (λ n. Each (λ r. r < n) own.items) (sym enough.rows.count) (each-all (λ r. r < length s.table.rows) own.items found.1.found.logical.inside)
+  inside-in last first (Least own) found = subst (λ n. ForEach (λ r. r < n) own.items) (sym enough.rows.count) (each-all (λ r. r < length s.table.rows) own.items found.1.found.logical.inside)
   inside-in last first NoneWithin found = tt
   inside-in last first NoneAtAll found = tt
 
-  pub part-answer : (f : Found) (last : ℕ) → ((size : ℕ) → 0 < size → size ≤ last → HasNoneIn p s size) → IsFound p s most last f → (digest : ℕ) → digest ≡ digest_of s
+  pub part-answer : (f : Found) (last : ℕ) → ((size : ℕ) → 0 < size → size ≤ last → HasNoneIn p s size) → IsPartFound p s most last f → (digest : ℕ) → digest ≡ digest_of s
       → (answer : Answer) → IsInTable numbers f.answer answer → IsPartAnswer p t most (record { digest = digest; last = f.last; first = f.first; answer = answer })
   part-answer f last none found digest same answer in_table = record {
     searched = s;
@@ -165,10 +164,18 @@ module _ (p : PartNumbers) (t : ErrorTable) (s : Searched) (numbers : List ℕ) 
   }
 
 -- what is found among fewer sizes
-pub begun-found : (p : PartNumbers) (s : Searched) (end most last : ℕ) (b : Begun) (f : Found) → f ≡ record { last = b.last; first = b.first; answer = Least b.errors } → end ≤ most
-    → IsFirst p s end last (Some b) → IsFound p s most last f
-begun-found p s end most last b f is le first =
-    subst (λ (g : Found). IsFound p s most last g) (sym is) (first.0, omega (arith, first.1, le), (omega (arith, first.1, le), first.2))
+pub begun-found : (p : PartNumbers) (s : Searched) (end most last : ℕ) (f : Found) → end ≤ most → IsFirstFound p s end last (Some f) → IsPartFound p s most last f
+begun-found p s end most last f le first = (first.0, omega (arith, first.1, le), by_answer f.answer first.2)
+  where
+    by_answer : (answer : Answer) → IsBegunBy p s (f.last + 1) f.first answer → IsFoundAfter p s most f.last f.first answer
+    by_answer (Least errors) begun = (omega (arith, first.1, le), begun)
+    by_answer NoneWithin begun = absurd begun
+    by_answer NoneAtAll begun = absurd begun
+
+some-begun : (p : PartNumbers) (s : Searched) (most first : ℕ) (answer : Answer) → IsBegunBy p s most first answer → HasSome s.table
+some-begun p s most first (Least errors) begun = (errors.items, begun.found.logical)
+some-begun p s most first NoneWithin begun = absurd begun
+some-begun p s most first NoneAtAll begun = absurd begun
 
 -- the one part of a whole search
 module _ (t : ErrorTable) (p : PartNumbers) (one : p ≡ record { index = 0; count = 1 }) where
@@ -178,10 +185,10 @@ module _ (t : ErrorTable) (p : PartNumbers) (one : p ≡ record { index = 0; cou
       (λ index size lt pos le. let first : 0 ≡ index = omega (arith, lt) in
       subst (λ k. HasNoneIn (record { index = k; count = 1 }) s size) first (subst (λ (q : PartNumbers). HasNoneIn q s size) one (none size pos le)))
 
-  pub whole-answer : (most : ℕ) (a : PartAnswer) → IsPartAnswer p t most a → IsAnswer t most a.answer
+  pub whole-answer : (most : ℕ) (a : PartAnswer) → IsPartAnswer p t most a → IsLeastAnswer t most a.answer
   whole-answer most a is = by_answer a.answer is.found
     where
-      by_answer : (answer : Answer) → IsFoundIn p t is.searched most a.last a.first answer → IsAnswer t most answer
+      by_answer : (answer : Answer) → IsFoundIn p t is.searched most a.last a.first answer → IsLeastAnswer t most answer
       by_answer (Least set) found = record {
         ascending = found.1.ascending;
         logical = found.1.logical;
@@ -203,18 +210,18 @@ module _ (t : ErrorTable) (p : PartNumbers) (one : p ≡ record { index = 0; cou
           absurd (omega (arith, less))
 
   pub whole-excluded : (s : Searched) → IsSearchOf t s → (most last : ℕ) → ((size : ℕ) → 0 < size → size ≤ last → HasNoneIn p s size)
-      → (a : PartAnswer) → IsPartAnswer p t most a → a.last ≡ last → Reaches s most last a.answer → IsExcludedBy most a.answer last
+      → (a : PartAnswer) → IsPartAnswer p t most a → a.last ≡ last → ReachesMost s most last a.answer → IsExcludedBy most a.answer last
   whole-excluded s is most last none a answers same reaches = by_answer a.answer answers.found reaches
     where
-      by_answer : (answer : Answer) → IsFoundIn p t answers.searched most a.last a.first answer → Reaches s most last answer → IsExcludedBy most answer last
+      by_answer : (answer : Answer) → IsFoundIn p t answers.searched most a.last a.first answer → ReachesMost s most last answer → IsExcludedBy most answer last
       by_answer (Least set) found reaches = omega (arith, same, found.1.within, whole-none s is last none set.items found.1.logical)
       by_answer NoneWithin found reaches = reached s is most last reaches (omega (arith, same, answers.within)) (whole-none s is last none) found.1
       by_answer NoneAtAll found reaches = tt
 
 -- a search of all sizes decides whether there is a logical error
-pub decided : (t : ErrorTable) (p : PartNumbers) (s : Searched) → s.table ≡ t → (n last : ℕ) (a : Option Begun) (b : Bool) → b ≡ is_some a → length t.rows ≤ n → HasNoneWithin t last
-    → IsFirst p s n last a → Decides t b
-decided t p s same n last (Some v) b e le none first = subst (Decides t) (sym e) (subst HasSome same (v.errors.items, first.2.found.logical))
+pub decided : (t : ErrorTable) (p : PartNumbers) (s : Searched) → s.table ≡ t → (n last : ℕ) (a : Option Found) (b : Bool) → b ≡ is_some a → length t.rows ≤ n → HasNoneWithin t last
+    → IsFirstFound p s n last a → Decides t b
+decided t p s same n last (Some v) b e le none first = subst (Decides t) (sym e) (subst HasSome same (some-begun p s (v.last + 1) v.first v.answer first.2))
 decided t p s same n last None b e le none first =
     subst (Decides t) (sym e)
     (λ errors logical. let less : length errors < length errors = none-up_to t (length errors) last (omega (arith, le, first)) none errors logical in omega (arith, less))

@@ -1,11 +1,11 @@
 -- Shortest logical errors: sets of a list, and the first error of a set.
-use Rattle.stab_search.proofs.Names.{◌≡◌, ℕ, zero, suc, ◌+◌, ◌≤◌, ◌<◌, refl, sym, ◌∙◌, ap, subst, arith, List, [], ◌∷◌, ◌++◌, length, get_or, take, drop, map, min, false≢true, length-append, ◌⊕◌, parity-comm, parity-self, AscendsFrom, ErrorTable, odd, row, flipped_by_rows, IsLogicalError, HasNoneWithin, Each, toggle, EndsWithin, IsLogicalWithin, IsGathered}
+use Rattle.stab_search.proofs.Names.{◌≡◌, ℕ, zero, suc, ◌+◌, ◌≤◌, ◌<◌, refl, sym, ◌∙◌, ap, subst, arith, List, [], ◌∷◌, ◌++◌, length, get_or, take, drop, map, min, false≢true, length-append, ◌⊕◌, parity-comm, parity-self, AscendsFrom, ErrorTable, odd, row, flipped_by_rows, IsLogicalError, HasNoneWithin, ForEach, toggle, CompletesSetWithin, IsLogicalWithin, IsGathered}
 use Rattle.stab_search.proofs.FlipLemmas.{flips-push, flips-toggle}
 use Rattle.stab_search.proofs.ListLemmas.{each-all, all-each, each-push, each-toggle, length-toggle, ascends-toggle, toggle-here, toggle-out, toggle-there}
 
 -- one more error of a set
 
-each-first : (P : ℕ → Type 0) (xs : List ℕ) (x : ℕ) → Each P (xs ++ x ∷ []) → P x × Each P xs
+each-first : (P : ℕ → Type 0) (xs : List ℕ) (x : ℕ) → ForEach P (xs ++ x ∷ []) → P x × ForEach P xs
 each-first P [] x a = (a.0, tt)
 each-first P (y ∷ ys) x a = let later = each-first P ys x a.1 in (later.0, (a.0, later.1))
 
@@ -35,7 +35,7 @@ abbrev pub gathering : (xs : List ℕ) → (set : List ℕ) × IsGathered xs set
 gathering [] = ([], gathered-none)
 gathering (x ∷ xs) = let later = gathering xs in (toggle x later.0, gathered-cons xs later.0 x later.1)
 
-gathering-each : (P : ℕ → Type 0) (xs : List ℕ) → Each P xs → Each P (gathering xs).0
+gathering-each : (P : ℕ → Type 0) (xs : List ℕ) → ForEach P xs → ForEach P (gathering xs).0
 gathering-each P [] a = tt
 gathering-each P (x ∷ xs) a = each-toggle P x (gathering xs).0 a.0 (gathering-each P xs a.1)
 
@@ -65,7 +65,7 @@ gathered-logical t xs set g e = record {
 }
 
 -- an error in front of those that end a search from it
-pub begun : (t : ErrorTable) (first left : ℕ) (rest : List ℕ) → first < length t.rows → EndsWithin t (row t.rows first) left rest
+pub begun : (t : ErrorTable) (first left : ℕ) (rest : List ℕ) → first < length t.rows → CompletesSetWithin t (row t.rows first) left rest
     → IsLogicalWithin t (left + 1) (rest ++ first ∷ [])
 begun t first left rest lt e = record {
   logical = record {
@@ -79,7 +79,7 @@ begun t first left rest lt e = record {
 
 -- how many errors a set has
 
-pub bounded : (m n : ℕ) (set : List ℕ) → m ≤ n → AscendsFrom m set → Each (λ r. r < n) set → m + length set ≤ n
+pub bounded : (m n : ℕ) (set : List ℕ) → m ≤ n → AscendsFrom m set → ForEach (λ r. r < n) set → m + length set ≤ n
 bounded m n [] le a i = omega arith
 bounded m n (x ∷ xs) le a i =
     let here = a.0 in
@@ -90,8 +90,8 @@ bounded m n (x ∷ xs) le a i =
 -- none has more errors than the table
 
 pub none-up_to_each : (t : ErrorTable) (P : ℕ → Type 0) (most reached : ℕ) → min most (length t.rows) ≤ reached
-    → ((errors : List ℕ) → IsLogicalError t errors → Each P errors → reached < length errors)
-    → (errors : List ℕ) → IsLogicalError t errors → Each P errors → most < length errors
+    → ((errors : List ℕ) → IsLogicalError t errors → ForEach P errors → reached < length errors)
+    → (errors : List ℕ) → IsLogicalError t errors → ForEach P errors → most < length errors
 none-up_to_each t P most reached le none errors logical each =
     let set = gathering errors in
     let is = gathered-logical t errors set.0 set.1 logical in
@@ -110,7 +110,7 @@ pub none-empty : (t : ErrorTable) → HasNoneWithin t 0
 none-empty t [] e = absurd (false≢true e.observed.2)
 none-empty t (x ∷ xs) e = omega arith
 
--- a row toggled, by its place
+-- a row toggled, by its position
 
 pub toggle-insert : (g : ℕ) (xs : List ℕ) (k : ℕ) → k ≤ length xs → ((j : ℕ) → j < k → get_or xs j 0 < g) → (k < length xs → g < get_or xs k 0)
     → take k xs ++ g ∷ drop k xs ≡ toggle g xs

@@ -1,15 +1,15 @@
 -- Steps: an error of each shortest logical error can be one that no step moves down, since the others can all be moved.
-use Rattle.stab_search.proofs.Names.{◌≡◌, ◌≢◌, ℕ, zero, suc, ◌+◌, ◌≤◌, ◌<◌, ◌⊎◌, inl, inr, refl, sym, ◌∙◌, ap, ap₂, subst, arith, Bool, true, false, List, [], ◌∷◌, length, ◌&&◌, ◌==◌, cases_eq, cases_lt, false≢true, eq-eqb, ne_eqb, get_or, slice_index, ◌⊕◌, parity-mid, parity-false, ErrorTable, odd, row, flipped_by_rows, IsLogicalError, Each, lowered, AreLower, AreMoved, MoveDown, HasBefore, BeginsBefore, Vec, ArePairs}
+use Rattle.stab_search.proofs.Names.{◌≡◌, ◌≢◌, ℕ, zero, suc, ◌+◌, ◌≤◌, ◌<◌, ◌⊎◌, inl, inr, refl, sym, ◌∙◌, ap, ap₂, subst, arith, Bool, true, false, List, [], ◌∷◌, length, ◌&&◌, ◌==◌, cases_eq, cases_lt, false≢true, eq-eqb, ne_eqb, get_or, slice_index, ◌⊕◌, parity-mid, parity-false, ErrorTable, odd, row, flipped_by_rows, IsLogicalError, ForEach, lowered, AreLower, AreMoved, MoveDown, HasBefore, BeginsBefore, Vec, ArePairs}
 use Rattle.stab_search.proofs.ListLemmas.{each-all, all-each, has-here, has-there}
 use Rattle.stab_search.proofs.ParityLemmas.{and-false, and-true, and-sum}
 
 -- a list has a number before another, or none
 
-pub before-or-not : (n : ℕ) (xs : List ℕ) → HasBefore n xs ⊎ Each (λ r. n ≤ r) xs
+pub before-or-not : (n : ℕ) (xs : List ℕ) → HasBefore n xs ⊎ ForEach (λ r. n ≤ r) xs
 before-or-not n [] = inr tt
 before-or-not n (x ∷ xs) = by_first (cases_lt x n) (before-or-not n xs)
   where
-    by_first : (x < n) ⊎ (n ≤ x) → HasBefore n xs ⊎ Each (λ r. n ≤ r) xs → HasBefore n (x ∷ xs) ⊎ Each (λ r. n ≤ r) (x ∷ xs)
+    by_first : (x < n) ⊎ (n ≤ x) → HasBefore n xs ⊎ ForEach (λ r. n ≤ r) xs → HasBefore n (x ∷ xs) ⊎ ForEach (λ r. n ≤ r) (x ∷ xs)
     by_first (inl lt) later = inl (x, (lt, has-here x xs))
     by_first (inr le) (inl found) = inl (found.0, (found.1.0, has-there found.0 x xs found.1.1))
     by_first (inr le) (inr none) = inr (le, none)
@@ -48,7 +48,7 @@ module _ (n : ℕ) (lower : List ℕ) (are : AreLower n lower) where
         | inr past ↦ subst (λ e. e < n) (sym (at-outside lower d d past)) lt
       ]
 
-  -- whether an odd number of the detectors before k that flip take the place of detector i
+  -- whether an odd number of the detectors before k that flip move to detector i
 
   abbrev pull : ℕ → ℕ → (ℕ → Bool) → Bool
   pull zero i f = false
@@ -127,13 +127,13 @@ index_sum (x ∷ xs) = x + index_sum xs
 module _ (t : ErrorTable) (from : ℕ) (lower : List ℕ) (are : AreLower t.detectors lower) (down : MoveDown t from lower) where
   -- each from `from` on, and in the table
   abbrev Late : List ℕ → Type 0
-  Late xs = Each (λ r. from ≤ r) xs × Each (λ r. r < length t.rows) xs
+  Late xs = ForEach (λ r. from ≤ r) xs × ForEach (λ r. r < length t.rows) xs
 
   abbrev moved : (xs : List ℕ) → Late xs → List ℕ
   moved [] a = []
   moved (x ∷ xs) a = (down x a.0.0 a.1.0).0 ∷ moved xs (a.0.1, a.1.1)
 
-  moved-inside : (xs : List ℕ) (a : Late xs) → Each (λ r. r < length t.rows) (moved xs a)
+  moved-inside : (xs : List ℕ) (a : Late xs) → ForEach (λ r. r < length t.rows) (moved xs a)
   moved-inside [] a = tt
   moved-inside (x ∷ xs) a = (let before = (down x a.0.0 a.1.0).1.0 in let inside = a.1.0 in omega arith, moved-inside xs (a.0.1, a.1.1))
 
@@ -172,7 +172,7 @@ module _ (t : ErrorTable) (from : ℕ) (lower : List ℕ) (are : AreLower t.dete
   abbrev Begins : List ℕ → Type 0
   Begins errors = (others : List ℕ) × (IsLogicalError t others × ((length others ≤ length errors) × HasBefore from others))
 
-  late : (xs : List ℕ) → Each (λ r. from ≤ r) xs → IsLogicalError t xs → Late xs
+  late : (xs : List ℕ) → ForEach (λ r. from ≤ r) xs → IsLogicalError t xs → Late xs
   late xs each e = (each, each-all (λ r. r < length t.rows) xs e.inside)
 
   begins-within : (most : ℕ) (xs : List ℕ) → index_sum xs ≤ most → IsLogicalError t xs → Begins xs

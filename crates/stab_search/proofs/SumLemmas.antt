@@ -1,8 +1,8 @@
 -- Sums: assignments that have them, and how they are added at the end.
-use Rattle.stab_search.proofs.Names.{◌≡◌, ℕ, zero, suc, ◌+◌, ◌<◌, ◌⊎◌, inl, inr, refl, sym, ◌∙◌, subst, ap, arith, Bool, true, false, List, [], ◌∷◌, ◌++◌, length, ◌&&◌, ◌==◌, cond, ne_eqb, eq-eqb, ◌⊕◌, Sum, AreSums, IsSumAt, AreFrom, value}
+use Rattle.stab_search.proofs.Names.{◌≡◌, ℕ, zero, suc, ◌+◌, ◌<◌, ◌⊎◌, inl, inr, refl, sym, ◌∙◌, subst, ap, arith, Bool, true, false, List, [], ◌∷◌, ◌++◌, length, ◌&&◌, ◌==◌, cond, ne_eqb, eq-eqb, ◌⊕◌, Sum, AreSums, IsSumAt, AreFrom, variable_value}
 
 -- a variable's value, if it is not 0
-pub value-there : (a : ℕ → Bool) (v : ℕ) → 0 < v → value a v ≡ a v
+pub value-there : (a : ℕ → Bool) (v : ℕ) → 0 < v → variable_value a v ≡ a v
 value-there a zero less = absurd (omega (arith, less))
 value-there a (suc v) less = refl
 

@@ -1,5 +1,5 @@
 -- Tries: an error is tried, the ways with it are added up, and its weight is put back.
-use Rattle.stab_search.proofs.Names.{◌≡◌, ◌≢◌, ℕ, zero, suc, ◌+◌, ◌*◌, ◌≤◌, ◌<◌, ◌⊎◌, inl, inr, refl, sym, ◌∙◌, ap, subst, arith, true, false, List, [], ◌∷◌, ◌++◌, length, drop, get_or, set, slice_index, cases_lt, ◌==◌, eqb-true, eqb-false, ◌⊕◌, parity-comm, bit_xor, Option, IsAscending, ErrorTable, odd, row, HasNoneWithin, Each, has, key_of, flipped_by_rows, parity-false, false≢true, length-append, ways, Reports, HasNoFewer, IsPart}
+use Rattle.stab_search.proofs.Names.{◌≡◌, ◌≢◌, ℕ, zero, suc, ◌+◌, ◌*◌, ◌≤◌, ◌<◌, ◌⊎◌, inl, inr, refl, sym, ◌∙◌, ap, subst, arith, true, false, List, [], ◌∷◌, ◌++◌, length, drop, get_or, set, slice_index, cases_lt, ◌==◌, eqb-true, eqb-false, ◌⊕◌, parity-comm, bit_xor, Option, IsAscending, ErrorTable, odd, row, HasNoneWithin, ForEach, has, key_of, flipped_by_rows, parity-false, false≢true, length-append, ways, ReportsNumber, HasNoFewer, IsWaysPart}
 use Rattle.std.proofs.lemmas.List.{get_or-set_same, get_or-set_other, set-get_or, ext_get_or}
 use Rattle.stab_search.proofs.ChoiceLemmas.{meet-keyed, meet-flipping, nothing-left, none-after}
 use Rattle.stab_search.proofs.EndLemmas.{completes-push, completes-observed, completes-detected, completes-nothing}
@@ -30,10 +30,10 @@ none-less t n m le none errors logical = let more = none errors logical in omega
 -- the ways with one more error added
 
 pub part-more : (t : ErrorTable) (before now next s : List ℕ) (g rest : ℕ) (sum more total : Option ℕ) → g < length t.rows → length now ≡ length t.rows
-    → next ≡ set now g 0 → IsPart t before now (rest + 1) s sum
-    → Reports (get_or now g 0 * ways t.detectors t.rows (set now g 0) rest (row t.rows g ++ s)) more
-    → ((m n : ℕ) → Reports m sum → Reports n more → Reports (m + n) total)
-    → IsPart t before next (rest + 1) s total
+    → next ≡ set now g 0 → IsWaysPart t before now (rest + 1) s sum
+    → ReportsNumber (get_or now g 0 * ways t.detectors t.rows (set now g 0) rest (row t.rows g ++ s)) more
+    → ((m n : ℕ) → ReportsNumber m sum → ReportsNumber n more → ReportsNumber (m + n) total)
+    → IsWaysPart t before next (rest + 1) s total
 part-more t before now next s g rest sum more total lt count is part reported plus =
     let one = get_or now g 0 * ways t.detectors t.rows (set now g 0) rest (row t.rows g ++ s) in
     let after : suc rest ≡ rest + 1 = omega arith in
@@ -54,18 +54,18 @@ part-more t before now next s g rest sum more total lt count is part reported pl
     sums : (n one next none now before : ℕ) → next ≡ none → now ≡ none + one → n + now ≡ before → (n + one) + next ≡ before
     sums n one next none now before e f g = omega arith
 
-pub part-none : (t : ErrorTable) (weights s : List ℕ) (left : ℕ) (a : Option ℕ) → Reports 0 a → IsPart t weights weights left s a
+pub part-none : (t : ErrorTable) (weights s : List ℕ) (left : ℕ) (a : Option ℕ) → ReportsNumber 0 a → IsWaysPart t weights weights left s a
 part-none t weights s left a reported = (0, (reported, nothing-more (ways t.detectors t.rows weights left s)))
   where
     nothing-more : (n : ℕ) → 0 + n ≡ n
     nothing-more n = omega arith
 
-pub part-whole : (t : ErrorTable) (before after s : List ℕ) (left : ℕ) (a : Option ℕ) → IsPart t before after left s a → ways t.detectors t.rows after left s ≡ 0
-    → Reports (ways t.detectors t.rows before left s) a
+pub part-whole : (t : ErrorTable) (before after s : List ℕ) (left : ℕ) (a : Option ℕ) → IsWaysPart t before after left s a → ways t.detectors t.rows after left s ≡ 0
+    → ReportsNumber (ways t.detectors t.rows before left s) a
 part-whole t before after s left a part none =
     let same = part.1.1 in
     let is : part.0 ≡ ways t.detectors t.rows before left s = omega arith in
-    subst (λ n. Reports n a) is part.1.0
+    subst (λ n. ReportsNumber n a) is part.1.0
 
 -- without a weight, or without a last error that has the key, nothing is added
 
@@ -86,7 +86,7 @@ nothing-last t numbers weights s x w rest few count one none =
 
 -- weights put back
 
-pub put-step : (errors before was now next : List ℕ) (k e : ℕ) → k < length errors → Each (λ g. g < length now) errors
+pub put-step : (errors before was now next : List ℕ) (k e : ℕ) → k < length errors → ForEach (λ g. g < length now) errors
     → next ≡ set now (get_or errors k 0) (get_or before k 0)
     → ((j : ℕ) → j < length errors → get_or before j 0 ≡ get_or was (get_or errors j 0) 0)
     → (has e (drop k errors) ≡ true) ⊎ (get_or now e 0 ≡ get_or was e 0)

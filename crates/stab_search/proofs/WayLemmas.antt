@@ -1,5 +1,5 @@
 -- Ways: of none but observables, of what is flipped alike, with one weight changed, and the errors after them.
-use Rattle.stab_search.proofs.Names.{eqb-true, ◌≡◌, ℕ, zero, suc, ◌+◌, ◌*◌, ◌≤◌, ◌<◌, ◌⊎◌, inl, inr, refl, sym, ◌∙◌, ap, subst, arith, Bool, true, false, ◌||◌, List, [], ◌∷◌, ◌++◌, length, map, set, slice_index, cases_lt, false≢true, ◌==◌, nat_lt, if◌then◌else◌, and_parts, or_left, or_right, lt-ltb, ltb-true, length-map, list_any, ◌⊕◌, parity-comm, parity-assoc, parity-twice, ErrorTable, odd, row, flipped_by_rows, Each, has, Completes, leaf, ways, IsWay}
+use Rattle.stab_search.proofs.Names.{eqb-true, ◌≡◌, ℕ, zero, suc, ◌+◌, ◌*◌, ◌≤◌, ◌<◌, ◌⊎◌, inl, inr, refl, sym, ◌∙◌, ap, subst, arith, Bool, true, false, ◌||◌, List, [], ◌∷◌, ◌++◌, length, map, set, slice_index, cases_lt, false≢true, ◌==◌, nat_lt, if◌then◌else◌, and_parts, or_left, or_right, lt-ltb, ltb-true, length-map, list_any, ◌⊕◌, parity-comm, parity-assoc, parity-twice, ErrorTable, odd, row, flipped_by_rows, ForEach, has, Completes, leaf, ways, IsWeightedWay}
 use Rattle.std.specs.Prelude.{◌&&◌}
 use Rattle.std.proofs.Math.Nat.{mul-add, mul_left_comm, mul-zero}
 use Rattle.stab_search.proofs.ListLemmas.{by-bit, has-here, has-there}
@@ -221,7 +221,7 @@ pub flips-shift : (r : List ℕ) (rows : List (List ℕ)) (es : List ℕ) (i : �
 flips-shift r rows [] i = refl
 flips-shift r rows (e ∷ es) i = ap (λ b. odd i (row rows e) ⊕ b) (flips-shift r rows es i)
 
-pub each-shift : (P Q : ℕ → Type 0) → ((e : ℕ) → P e → Q (suc e)) → (es : List ℕ) → Each P es → Each Q (map suc es)
+pub each-shift : (P Q : ℕ → Type 0) → ((e : ℕ) → P e → Q (suc e)) → (es : List ℕ) → ForEach P es → ForEach Q (map suc es)
 each-shift P Q f [] a = tt
 each-shift P Q f (e ∷ es) a = (f e a.0, each-shift P Q f es a.1)
 
@@ -232,7 +232,7 @@ module _ (detectors : ℕ) (r : List ℕ) (rows : List (List ℕ)) (s es : List 
   abbrev whole : ErrorTable
   whole = record { detectors = detectors; rows = r ∷ rows }
 
-  inside-shift : Each (λ e. e < length rows) es → Each (λ e. e < suc (length rows)) (map suc es)
+  inside-shift : ForEach (λ e. e < length rows) es → ForEach (λ e. e < suc (length rows)) (map suc es)
   inside-shift a = each-shift (λ e. e < length rows) (λ e. e < suc (length rows)) (λ e lt. omega arith) es a
 
   pub completes-skip : Completes part s es → Completes whole s (map suc es)
@@ -269,7 +269,7 @@ others-some : (a b : ℕ) → 0 < a + b → a ≤ 0 → 0 < b
 others-some a b some none = omega arith
 
 pub found : (detectors : ℕ) (rows : List (List ℕ)) (weights : List ℕ) (left : ℕ) (s : List ℕ) → length weights ≡ length rows
-    → 0 < ways detectors rows weights left s → (rest : List ℕ) × IsWay (record { detectors = detectors; rows = rows }) weights s left rest
+    → 0 < ways detectors rows weights left s → (rest : List ℕ) × IsWeightedWay (record { detectors = detectors; rows = rows }) weights s left rest
 found detectors rows weights zero s count some =
     ([], record { completes = leaf-some (record { detectors = detectors; rows = rows }) s some; weighted = tt; count = refl })
 found detectors [] weights (suc left) s count some = absurd (omega arith)
@@ -298,7 +298,7 @@ found detectors (r ∷ rows) (w ∷ weights) (suc left) s count some =
     ]
 
 -- so without such errors there are none
-pub no-ways : (t : ErrorTable) (weights : List ℕ) (left : ℕ) (s : List ℕ) → length weights ≡ length t.rows → ((rest : List ℕ) → IsWay t weights s left rest → ⊥)
+pub no-ways : (t : ErrorTable) (weights : List ℕ) (left : ℕ) (s : List ℕ) → length weights ≡ length t.rows → ((rest : List ℕ) → IsWeightedWay t weights s left rest → ⊥)
     → ways t.detectors t.rows weights left s ≡ 0
 no-ways t weights left s count none =
     elim (cases_lt 0 (ways t.detectors t.rows weights left s)) [

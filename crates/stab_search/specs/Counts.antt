@@ -23,6 +23,6 @@ pub record AreAsMany (IsOne : List ℕ → Type 0) (count : ℕ) : Type 0 where
   pub all : (errors : List ℕ) → IsOne errors → (k : ℕ) × ((k < count) × (set k ≡ errors))
 
 -- what an answer says: how many sets of this many errors are a logical error, or that their number takes more than 64 bits
-abbrev pub IsCount : ErrorTable → (size : ℕ) → Option ℕ → Type 0
-IsCount t size (Some count) = AreAsMany (IsLogicalSetOf t size) count
-IsCount t size None = (count : ℕ) × ((2 ^ 64 ≤ count) × AreAsMany (IsLogicalSetOf t size) count)
+abbrev pub IsCountOfSets : ErrorTable → (size : ℕ) → Option ℕ → Type 0
+IsCountOfSets t size (Some count) = AreAsMany (IsLogicalSetOf t size) count
+IsCountOfSets t size None = (count : ℕ) × ((2 ^ 64 ≤ count) × AreAsMany (IsLogicalSetOf t size) count)

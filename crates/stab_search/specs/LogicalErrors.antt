@@ -32,11 +32,11 @@ abbrev pub HasSome : ErrorTable → Type 0
 HasSome t = (errors : List ℕ) × IsLogicalError t errors
 
 -- what an answer says of a table, if a logical error of at most `most` errors was asked for; of these answers one is so, and no other
-abbrev pub IsAnswer : ErrorTable → (most : ℕ) → Answer → Type 0
-IsAnswer t most (Least errors) = IsLeast t most errors.items
-IsAnswer t most NoneWithin = HasNoneWithin t most × HasSome t
-IsAnswer t most NoneAtAll = HasNone t
+abbrev pub IsLeastAnswer : ErrorTable → (most : ℕ) → Answer → Type 0
+IsLeastAnswer t most (Least errors) = IsLeast t most errors.items
+IsLeastAnswer t most NoneWithin = HasNoneWithin t most × HasSome t
+IsLeastAnswer t most NoneAtAll = HasNone t
 
 -- each table has an answer, if no more errors are asked for than a list in memory can hold
 abbrev pub TablesHaveAnswers : Type 0
-TablesHaveAnswers = (t : ErrorTable) (most : ℕ) → most < 2 ^ 63 → (a : Answer) × IsAnswer t most a
+TablesHaveAnswers = (t : ErrorTable) (most : ℕ) → most < 2 ^ 63 → (a : Answer) × IsLeastAnswer t most a

@@ -21,9 +21,9 @@ abbrev pub meets : (ℕ → Bool) → List (List Literal) → Bool
 meets a clauses = list_all (list_any (holds a)) clauses
 
 -- a literal's variable is one of this many
-abbrev pub IsWithin : ℕ → Literal → Type 0
-IsWithin variables (Is v) = (0 < v) × (v ≤ variables)
-IsWithin variables (IsNot v) = (0 < v) × (v ≤ variables)
+abbrev pub IsVariableWithin : ℕ → Literal → Type 0
+IsVariableWithin variables (Is v) = (0 < v) × (v ≤ variables)
+IsVariableWithin variables (IsNot v) = (0 < v) × (v ≤ variables)
 
 -- a literal, after a space: a variable, or minus it
 abbrev pub literal_text : Literal → List ℕ
@@ -35,11 +35,11 @@ abbrev pub clause_text : (weight : ℕ) → List Literal → List ℕ
 clause_text weight clause = decimal weight ++ (flat_map literal_text clause ++ codes " 0\n")
 
 -- the first line: how many variables and clauses there are, and the weight of clauses that have to be met
-abbrev pub head_text : (variables clauses top : ℕ) → List ℕ
-head_text variables clauses top = codes "p wcnf " ++ (decimal variables ++ (codes " " ++ (decimal clauses ++ (codes " " ++ (decimal top ++ codes "\n")))))
+abbrev pub problem_head : (variables clauses top : ℕ) → List ℕ
+problem_head variables clauses top = codes "p wcnf " ++ (decimal variables ++ (codes " " ++ (decimal clauses ++ (codes " " ++ (decimal top ++ codes "\n")))))
 
 -- the text: a clause that may be broken has weight 1, and one that has to be met weighs more than all of those
 abbrev pub problem_text : Clauses → List ℕ
 problem_text p =
-    head_text p.variables (length p.soft + length p.hard) (length p.soft + 1)
+    problem_head p.variables (length p.soft + length p.hard) (length p.soft + 1)
     ++ (flat_map (clause_text 1) p.soft ++ flat_map (clause_text (length p.soft + 1)) p.hard)

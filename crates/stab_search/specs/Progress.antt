@@ -14,9 +14,9 @@ abbrev pub Hears : Option (List Heard) → Option (List Heard) → List Heard �
 Hears old new more = (new ≡ None) ⊎ ((before : List Heard) × (old ≡ Some before) × (new ≡ Some (before ++ more)))
 
 -- each number of errors from 1 up to this one, in ascending order, each once
-abbrev pub up_to : ℕ → List Heard
-up_to zero = []
-up_to (suc k) = up_to k ++ none_within (suc k) ∷ []
+abbrev pub numbers_up_to : ℕ → List Heard
+numbers_up_to zero = []
+numbers_up_to (suc k) = numbers_up_to k ++ none_within (suc k) ∷ []
 
 -- whether this is the last number of errors that an answer excludes: one less than a least set has, or the number that was asked for
 abbrev pub IsExcludedBy : (most : ℕ) → Answer → ℕ → Type 0
@@ -29,5 +29,5 @@ IsExcludedBy most NoneAtAll k = Unit {0}
 pub record ReportsSearch {E : Type 0} (count most : ℕ) (has_none : ℕ → Type 0) (old new : Option (List Heard)) (result : Result Answer E) : Type 0 where
   pub last : ℕ
   pub none : has_none last
-  pub heard : Hears old new (begins count ∷ up_to last)
+  pub heard : Hears old new (begins count ∷ numbers_up_to last)
   pub all : IfOk result (λ a. IsExcludedBy most a last)

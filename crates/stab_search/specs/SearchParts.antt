@@ -1,5 +1,5 @@
 -- Parts of a search: each searches the sets whose first error is one of its own, so that all parts together search all sets.
--- Source: this project's own; the digest is FNV-1a, over numbers of 64 bits in the place of bytes.
+-- Source: this project's own; the digest is FNV-1a, over numbers of 64 bits, not bytes.
 use Rattle.std.specs.Prelude.{◌≡◌, ℕ, ◌+◌, ◌-◌, ◌*◌, ◌%◌, ◌^◌, ◌<◌, ◌≤◌, true, List, [], ◌∷◌, length, bit_xor}
 use Rattle.stab_search.specs.declared.answer.Answer.{Answer}
 use Rattle.stab_search.specs.declared.answer.Answer.TheVariants.{Least, NoneWithin, NoneAtAll}
@@ -19,9 +19,9 @@ pub record Searched : Type 0 where
   pub firsts : ℕ
 
 -- a set of errors below n as a binary number, in which each error has a bit, and error 0 the most significant one; a later set has a lesser number
-abbrev pub weight : (n : ℕ) → List ℕ → ℕ
-weight n [] = 0
-weight n (r ∷ rs) = 2 ^ (n - r) + weight n rs
+abbrev pub set_weight : (n : ℕ) → List ℕ → ℕ
+set_weight n [] = 0
+set_weight n (r ∷ rs) = 2 ^ (n - r) + set_weight n rs
 
 -- a logical error of this many errors, one of which can be the first
 pub record IsCandidate (s : Searched) (size : ℕ) (set : List ℕ) : Type 0 where
@@ -33,7 +33,7 @@ pub record IsCandidate (s : Searched) (size : ℕ) (set : List ℕ) : Type 0 whe
 -- the last of these sets: all others have a number at least as great
 pub record IsLastSet (s : Searched) (size : ℕ) (set : List ℕ) : Type 0 where
   pub is : IsCandidate s size set
-  pub last : (other : List ℕ) → IsCandidate s size other → weight (length s.table.rows) set ≤ weight (length s.table.rows) other
+  pub last : (other : List ℕ) → IsCandidate s size other → set_weight (length s.table.rows) set ≤ set_weight (length s.table.rows) other
 
 -- the first error of a set is one of a part's: its number leaves the part's when divided by how many parts there are
 abbrev pub BeginsIn : PartNumbers → List ℕ → Type 0

@@ -1,10 +1,11 @@
 //! Errors of which each set that completes those chosen has one: few are tried where few are enough.
 ghost use Rattle.std.specs.Prelude.{◌≡◌, ◌≢◌, ℕ, ◌+◌, ◌-◌, ◌<◌, ◌≤◌, true, false, List, length, slice_index, IfOk, OnOk, [], ◌^◌};
 ghost use Rattle.stab_search.specs.Ascending.{IsAscending};
-ghost use Rattle.stab_search.specs.inner.Covers.{MayBe, Covers};
+ghost use Rattle.stab_search.specs.inner.Covers.{MayBe, CoversEach};
 ghost use Rattle.stab_search.specs.inner.Ends.{Meet};
-ghost use Rattle.stab_search.specs.inner.Indexes.{listed};
-ghost use Rattle.stab_search.specs.inner.Lists.{Each, has};
+ghost use Rattle.stab_search.specs.inner.Errors.{key_of};
+ghost use Rattle.stab_search.specs.inner.Indexes.{rows_listed};
+ghost use Rattle.stab_search.specs.inner.Lists.{ForEach, has};
 ghost use Rattle.stab_search.specs.Tables.{odd, row};
 
 use crate::covers::{covering, is_covering, seldom, set_zero, take_covering};
@@ -17,37 +18,43 @@ const PLAIN: usize = 2;
 
 /// Errors of which each set of `left` errors has one that completes those chosen. `cover` is scratch, 0 between calls.
 ///
-/// They are all that flip one detector, or all that flip many: of `left` errors that flip N detectors back, one flips N / `left` of them.
+/// They are some among which are all with the key of what is flipped, if one is left; all that flip one detector; or all that flip many: of
+/// `left` errors that flip N detectors back, one flips N / `left` of them.
 pub fn candidates(
-    alloc: Global,
     errors: &Errors,
     first: usize,
     path: &[usize],
     flipped: &[u32],
+    key: u64,
     left: usize,
     cover: &mut [usize],
 ) -> Result<Vec<usize>, AllocError>
     requires ascending { IsAscending flipped.now }
+    requires key { key ≡ key_of errors.now.numbers flipped.now }
     requires some { 0 < length flipped.now }
     requires detector { slice_index flipped.now 0 < errors.now.table.detectors }
     requires left { 0 < left }
     requires cover { length cover.old ≡ length errors.now.table.rows }
-    ensures inside { IfOk result (λ v. Each (λ r. r < length errors.now.table.rows) v.items) }
+    ensures inside { IfOk result (λ v. ForEach (λ r. r < length errors.now.table.rows) v.items) }
     ensures meet { IfOk result (λ v. Meet errors.now.table errors.now.pairs first path.now flipped.now left v.items) }
     ensures cover { length cover.new ≡ length cover.old }
 {
+    if left == 1 {
+        let last = Vec::from_slice(errors.alloc(), errors.with_key(key))?;
+        return Ok(last);
+    }
     let detectors = errors.detectors_of(flipped);
     if left == PLAIN {
         let one = errors.flipping(seldom(errors, detectors));
-        let all = Vec::from_slice(alloc, one)?;
+        let all = Vec::from_slice(errors.alloc(), one)?;
         return Ok(all);
     }
     count(errors, first, detectors, cover);
     leave_out(errors, path, cover);
     let rarest = errors.flipping(rarest(errors, detectors, cover));
-    let by_rarest = live(alloc, rarest, cover)?;
+    let by_rarest = live(errors.alloc(), rarest, cover)?;
     let least = (detectors.len() - 1) / left + 1;
-    let by_cover = covering(alloc, errors, detectors, least, cover)?;
+    let by_cover = covering(errors, detectors, least, cover)?;
     if by_rarest.len() < by_cover.len() {
         Ok(by_rarest)
     } else {
@@ -58,7 +65,7 @@ pub fn candidates(
 /// Counts for each error after the first one how many of these detectors it flips, on top of what `cover` has.
 fn count(errors: &Errors, first: usize, detectors: &[u32], cover: &mut [usize])
     requires cover { length cover.old ≡ length errors.now.table.rows }
-    ensures covers { Covers errors.now.table.rows errors.now.pairs first [] detectors.now cover.new }
+    ensures covers { CoversEach errors.now.table.rows errors.now.pairs first [] detectors.now cover.new }
     ensures length { length cover.new ≡ length cover.old }
 {
     for position in 0..detectors.len() {
@@ -90,7 +97,7 @@ fn add_one(r: usize, first: usize, cover: &mut [usize])
 
 /// Takes out those chosen, and those that need not be tried with them.
 fn leave_out(errors: &Errors, path: &[usize], cover: &mut [usize])
-    ensures others { (e : ℕ) → has e path.now ≡ false → ((a : ℕ) → has a path.now ≡ true → has e (listed errors.now.pairs a) ≡ false) → slice_index cover.new e ≡ slice_index cover.old e }
+    ensures others { (e : ℕ) → has e path.now ≡ false → ((a : ℕ) → has a path.now ≡ true → has e (rows_listed errors.now.pairs a) ≡ false) → slice_index cover.new e ≡ slice_index cover.old e }
     ensures length { length cover.new ≡ length cover.old }
 {
     clear(path, cover);
@@ -142,7 +149,7 @@ fn live_count(rows: &[usize], cover: &[usize], end: usize) -> usize {
 
 /// Those of these errors that may be tried.
 fn live(alloc: Global, rows: &[usize], cover: &[usize]) -> Result<Vec<usize>, AllocError>
-    ensures inside { IfOk result (λ v. Each (λ r. r < length cover.now) v.items) }
+    ensures inside { IfOk result (λ v. ForEach (λ r. r < length cover.now) v.items) }
     ensures all { IfOk result (λ v. (e : ℕ) → has e rows.now ≡ true → e < length cover.now → 1 ≤ slice_index cover.now e → has e v.items ≡ true) }
 {
     let mut found = Vec::with_capacity(alloc, rows.len())?;

@@ -3,6 +3,7 @@ ghost use Rattle.stab_search.specs.Tables.{ErrorTable, odd, row};
 ghost use Rattle.stab_search.specs.LogicalErrors.{HasNone};
 ghost use Rattle.stab_search.specs.inner.Certificates.{IsCertificate, odd_members};
 
+use crate::index::bit_at;
 use crate::row::{Row, end_of_rows};
 use std::alloc::{AllocError, Global};
 
@@ -42,7 +43,7 @@ fn are_detectors(members: &[bool], detectors: usize, observable: usize) -> bool
     ensures observable { result ≡ true → slice_index_or members.now observable false ≡ true }
     ensures detectors { result ≡ true → (i : ℕ) → detectors ≤ i → slice_index_or members.now i false ≡ true → i ≡ observable }
 {
-    if !is_member(members, observable) {
+    if !bit_at(members, observable) {
         return false;
     }
     'members: for i in detectors..members.len() {
@@ -51,12 +52,6 @@ fn are_detectors(members: &[bool], detectors: usize, observable: usize) -> bool
         }
     }
     true
-}
-
-fn is_member(members: &[bool], i: usize) -> bool
-    ensures value { result ≡ slice_index_or members.now i false }
-{
-    if i < members.len() { members[i] } else { false }
 }
 
 /// Whether each row names an even number of members.
@@ -78,7 +73,7 @@ fn names_odd(members: &[bool], numbers: &[u32]) -> bool
 {
     let mut odd = false;
     'each: for i in numbers {
-        odd ^= is_member(members, *i as usize);
+        odd ^= bit_at(members, *i as usize);
     }
     odd
 }

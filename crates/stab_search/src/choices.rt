@@ -5,7 +5,7 @@ ghost use Rattle.stab_search.specs.Ascending.{IsAscending};
 ghost use Rattle.stab_search.specs.Tables.{odd, row};
 ghost use Rattle.stab_search.specs.inner.Covers.{shares};
 ghost use Rattle.stab_search.specs.inner.Errors.{key_of};
-ghost use Rattle.stab_search.specs.inner.Lists.{Each, has};
+ghost use Rattle.stab_search.specs.inner.Lists.{ForEach, has};
 ghost use Rattle.stab_search.specs.inner.Ways.{MeetsEach};
 
 use crate::covers::{covering, seldom};
@@ -17,7 +17,6 @@ use std::alloc::{AllocError, Global};
 /// They are all that have the key of what is flipped, if one is left; all that flip one detector; or all that flip many: of `left` errors that
 /// flip N detectors back, one flips N / `left` of them.
 pub fn choices(
-    alloc: Global,
     errors: &Errors,
     weights: &[u64],
     flipped: &[u32],
@@ -32,23 +31,23 @@ pub fn choices(
     requires left { 0 < left }
     requires weights { length weights.now ≡ length errors.now.table.rows }
     requires cover { length cover.old ≡ length errors.now.table.rows }
-    ensures inside { IfOk result (λ v. Each (λ r. r < length errors.now.table.rows) v.items) }
+    ensures inside { IfOk result (λ v. ForEach (λ r. r < length errors.now.table.rows) v.items) }
     ensures meet { IfOk result (λ v. MeetsEach errors.now.table weights.now flipped.now left v.items) }
     ensures cover { length cover.new ≡ length cover.old }
 {
     if left == 1 {
-        let last = live(alloc, errors.with_key(key), weights)?;
+        let last = live(errors.alloc(), errors.with_key(key), weights)?;
         return Ok(last);
     }
     let detectors = errors.detectors_of(flipped);
     let rarest = errors.flipping(seldom(errors, detectors));
-    let by_rarest = live(alloc, rarest, weights)?;
+    let by_rarest = live(errors.alloc(), rarest, weights)?;
     if left == 2 {
         return Ok(by_rarest);
     }
     count_shares(errors, weights, detectors, cover);
     let least = (detectors.len() - 1) / left + 1;
-    let by_cover = covering(alloc, errors, detectors, least, cover)?;
+    let by_cover = covering(errors, detectors, least, cover)?;
     if by_rarest.len() < by_cover.len() {
         Ok(by_rarest)
     } else {
@@ -100,7 +99,7 @@ fn is_live(r: usize, weights: &[u64]) -> bool
 
 /// Those of these errors that have a weight.
 fn live(alloc: Global, rows: &[usize], weights: &[u64]) -> Result<Vec<usize>, AllocError>
-    ensures inside { IfOk result (λ v. Each (λ r. r < length weights.now) v.items) }
+    ensures inside { IfOk result (λ v. ForEach (λ r. r < length weights.now) v.items) }
     ensures all { IfOk result (λ v. (e : ℕ) → has e rows.now ≡ true → e < length weights.now → 0 < slice_index weights.now e → has e v.items ≡ true) }
 {
     let mut found = Vec::with_capacity(alloc, rows.len())?;
@@ -112,7 +111,7 @@ fn live(alloc: Global, rows: &[usize], weights: &[u64]) -> Result<Vec<usize>, Al
 
 /// Takes error r if it has a weight.
 fn take_live(r: usize, weights: &[u64], found: &mut Vec<usize>) -> Result<(), AllocError>
-    ensures inside { OnOk result (Each (λ r. r < length weights.now) found.old.items → Each (λ r. r < length weights.now) found.new.items) }
+    ensures inside { OnOk result (ForEach (λ r. r < length weights.now) found.old.items → ForEach (λ r. r < length weights.now) found.new.items) }
     ensures kept { OnOk result ((e : ℕ) → has e found.old.items ≡ true → has e found.new.items ≡ true) }
     ensures taken { OnOk result (r < length weights.now → 0 < slice_index weights.now r → has r found.new.items ≡ true) }
 {

@@ -1,8 +1,8 @@
 ghost use Rattle.std.specs.Prelude.{◌≡◌, ℕ, ◌<◌, ◌≤◌, true, length, IfOk, IfErr};
 ghost use Rattle.stab_io.specs.declared.refusal.Refusal.TheVariants.{OutOfMemory};
-ghost use Rattle.stab_search.specs.Counts.{HasNoneBelow, IsCount};
+ghost use Rattle.stab_search.specs.Counts.{HasNoneBelow, IsCountOfSets};
 ghost use Rattle.stab_search.specs.Tables.{odd, row};
-ghost use Rattle.stab_search.specs.inner.Lists.{Each, has};
+ghost use Rattle.stab_search.specs.inner.Lists.{ForEach, has};
 
 use crate::counting::try_each;
 use crate::errors::Errors;
@@ -20,7 +20,7 @@ use std::alloc::{AllocError, Global};
 /// The only refusal is `OutOfMemory`.
 pub fn count_least(alloc: Global, table: &Table, size: usize) -> Result<Option<u64>, Refusal>
     requires least { HasNoneBelow table.now size }
-    ensures count { IfOk result (IsCount table.now size) }
+    ensures count { IfOk result (IsCountOfSets table.now size) }
     ensures refusal { IfErr result (λ e. e ≡ OutOfMemory) }
 {
     if size == 0 {
@@ -28,11 +28,10 @@ pub fn count_least(alloc: Global, table: &Table, size: usize) -> Result<Option<u
     }
     let groups = groups_of(alloc, table)?;
     let errors = Errors::new(alloc, table.detectors(), groups.rows)?;
-    let firsts = observing(alloc, &errors)?;
+    let firsts = observing(&errors)?;
     let mut weights = groups.weights;
     let mut cover = vec![in alloc; 0; errors.len()]?;
     let count = try_each(
-        alloc,
         &errors,
         firsts.as_slice(),
         weights.as_mut_slice(),
@@ -45,11 +44,11 @@ pub fn count_least(alloc: Global, table: &Table, size: usize) -> Result<Option<u
 }
 
 /// The errors that flip an observable.
-fn observing(alloc: Global, errors: &Errors) -> Result<Vec<usize>, AllocError>
-    ensures inside { IfOk result (λ v. Each (λ r. r < length errors.now.table.rows) v.items) }
+fn observing(errors: &Errors) -> Result<Vec<usize>, AllocError>
+    ensures inside { IfOk result (λ v. ForEach (λ r. r < length errors.now.table.rows) v.items) }
     ensures all { IfOk result (λ v. (r o : ℕ) → r < length errors.now.table.rows → errors.now.table.detectors ≤ o → odd o (row errors.now.table.rows r) ≡ true → has r v.items ≡ true) }
 {
-    let mut found = Vec::new(alloc);
+    let mut found = Vec::new(errors.alloc());
     'rows: for r in 0..errors.len() {
         if end_of(errors.row(r)) > errors.detectors() {
             found.push(r)?;

@@ -5,8 +5,8 @@ ghost use Rattle.stab_search.specs.Ascending.{IsAscending};
 ghost use Rattle.stab_search.specs.Tables.{row};
 ghost use Rattle.stab_search.specs.LogicalErrors.{HasNoneWithin};
 ghost use Rattle.stab_search.specs.inner.Errors.{key_of};
-ghost use Rattle.stab_search.specs.inner.Lists.{Each, has};
-ghost use Rattle.stab_search.specs.inner.Ways.{ways, Reports, HasNoFewer, IsPart};
+ghost use Rattle.stab_search.specs.inner.Lists.{ForEach, has};
+ghost use Rattle.stab_search.specs.inner.Ways.{ways, ReportsNumber, HasNoFewer, IsWaysPart};
 
 use crate::choices::choices;
 use crate::errors::Errors;
@@ -16,7 +16,6 @@ use std::alloc::{AllocError, Global};
 /// The ways to complete what is flipped by `left` errors that have weights. `cover` is scratch.
 #[cycle(ways)]
 pub fn ways(
-    alloc: Global,
     errors: &Errors,
     weights: &mut [u64],
     flipped: &[u32],
@@ -30,7 +29,7 @@ pub fn ways(
     requires fewer { HasNoFewer errors.now.table flipped.now left }
     requires weights { length weights.old ≡ length errors.now.table.rows }
     requires cover { length cover.old ≡ length errors.now.table.rows }
-    ensures count { IfOk result (Reports (ways errors.now.table.detectors errors.now.table.rows weights.old left flipped.now)) }
+    ensures count { IfOk result (ReportsNumber (ways errors.now.table.detectors errors.now.table.rows weights.old left flipped.now)) }
     ensures weights { OnOk result (weights.new ≡ weights.old) }
     ensures cover { length cover.new ≡ length cover.old }
 {
@@ -40,12 +39,12 @@ pub fn ways(
     if left == 0 {
         return Ok(Some(0));
     }
-    let next = choices(alloc, errors, weights, flipped, key, left, cover)?;
+    let next = choices(errors, weights, flipped, key, left, cover)?;
     let tried = next.as_slice();
-    let kept = weights_at(alloc, tried, weights)?;
+    let kept = weights_at(errors.alloc(), tried, weights)?;
     let before = kept.as_slice();
     let rest = left - 1;
-    let sum = try_each(alloc, errors, tried, weights, flipped, key, rest, cover)?;
+    let sum = try_each(errors, tried, weights, flipped, key, rest, cover)?;
     put_back(tried, before, weights);
     Ok(sum)
 }
@@ -53,7 +52,6 @@ pub fn ways(
 /// The ways with one of these errors and `rest` others. It leaves the weights of these errors at 0.
 #[cycle(ways)]
 pub fn try_each(
-    alloc: Global,
     errors: &Errors,
     tried: &[usize],
     weights: &mut [u64],
@@ -66,21 +64,19 @@ pub fn try_each(
     requires key { key ≡ key_of errors.now.numbers flipped.now }
     requires none { HasNoneWithin errors.now.table rest }
     requires fewer { HasNoFewer errors.now.table flipped.now (rest + 1) }
-    requires inside { Each (λ e. e < length errors.now.table.rows) tried.now }
+    requires inside { ForEach (λ e. e < length errors.now.table.rows) tried.now }
     requires weights { length weights.old ≡ length errors.now.table.rows }
     requires cover { length cover.old ≡ length errors.now.table.rows }
-    ensures count { IfOk result (λ a. IsPart errors.now.table weights.old weights.new (rest + 1) flipped.now a) }
+    ensures count { IfOk result (λ a. IsWaysPart errors.now.table weights.old weights.new (rest + 1) flipped.now a) }
     ensures zero { OnOk result ((e : ℕ) → has e tried.now ≡ true → slice_index weights.new e ≡ 0) }
     ensures others { OnOk result ((e : ℕ) → has e tried.now ≡ false → slice_index weights.new e ≡ slice_index weights.old e) }
     ensures weights { length weights.new ≡ length weights.old }
     ensures cover { length cover.new ≡ length cover.old }
 {
-    let mut next = Vec::new(alloc);
+    let mut next = Vec::new(errors.alloc());
     let mut sum = Some(0);
     'tries: for g in tried {
-        let more = try_error(
-            alloc, errors, *g, weights, flipped, key, rest, &mut next, cover,
-        )?;
+        let more = try_error(errors, *g, weights, flipped, key, rest, &mut next, cover)?;
         sum = plus(sum, more);
     }
     Ok(sum)
@@ -89,7 +85,6 @@ pub fn try_each(
 /// The ways with error g and `rest` others. It leaves the weight of g at 0. What is flipped after g is written to `next`.
 #[cycle(ways)]
 fn try_error(
-    alloc: Global,
     errors: &Errors,
     g: usize,
     weights: &mut [u64],
@@ -106,7 +101,7 @@ fn try_error(
     requires inside { g < length errors.now.table.rows }
     requires weights { length weights.old ≡ length errors.now.table.rows }
     requires cover { length cover.old ≡ length errors.now.table.rows }
-    ensures count { IfOk result (Reports (slice_index weights.old g * ways errors.now.table.detectors errors.now.table.rows (slice_set weights.old g 0) rest (row errors.now.table.rows g ++ flipped.now))) }
+    ensures count { IfOk result (ReportsNumber (slice_index weights.old g * ways errors.now.table.detectors errors.now.table.rows (slice_set weights.old g 0) rest (row errors.now.table.rows g ++ flipped.now))) }
     ensures weights { OnOk result (weights.new ≡ slice_set weights.old g 0) }
     ensures length { length weights.new ≡ length weights.old }
     ensures cover { length cover.new ≡ length cover.old }
@@ -121,15 +116,7 @@ fn try_error(
         return Ok(Some(0));
     }
     merge_into(next, flipped, errors.row(g))?;
-    let each = ways(
-        alloc,
-        errors,
-        weights,
-        next.as_slice(),
-        next_key,
-        rest,
-        cover,
-    )?;
+    let each = ways(errors, weights, next.as_slice(), next_key, rest, cover)?;
     Ok(times(weight, each))
 }
 
@@ -176,7 +163,7 @@ fn ways_without_detector(flipped: &[u32], left: usize) -> u64
 
 /// The weights of these errors.
 fn weights_at(alloc: Global, errors: &[usize], weights: &[u64]) -> Result<Vec<u64>, AllocError>
-    requires inside { Each (λ e. e < length weights.now) errors.now }
+    requires inside { ForEach (λ e. e < length weights.now) errors.now }
     ensures count { IfOk result (λ v. length v.items ≡ length errors.now) }
     ensures each { IfOk result (λ v. (k : ℕ) → k < length errors.now → slice_index v.items k ≡ slice_index weights.now (slice_index errors.now k)) }
 {
@@ -189,7 +176,7 @@ fn weights_at(alloc: Global, errors: &[usize], weights: &[u64]) -> Result<Vec<u6
 
 /// Gives these errors the weights that they had before.
 fn put_back(errors: &[usize], before: &[u64], weights: &mut [u64])
-    requires inside { Each (λ e. e < length weights.old) errors.now }
+    requires inside { ForEach (λ e. e < length weights.old) errors.now }
     requires count { length before.now ≡ length errors.now }
     ensures back { (was : List ℕ) → length was ≡ length weights.old → ((k : ℕ) → k < length errors.now → slice_index before.now k ≡ slice_index was (slice_index errors.now k)) → ((e : ℕ) → has e errors.now ≡ false → slice_index weights.old e ≡ slice_index was e) → weights.new ≡ was }
 {
@@ -200,7 +187,7 @@ fn put_back(errors: &[usize], before: &[u64], weights: &mut [u64])
 
 /// The sum of two numbers, if it fits in 64 bits.
 fn plus(a: Option<u64>, b: Option<u64>) -> Option<u64>
-    ensures sum { (m n : ℕ) → Reports m a → Reports n b → Reports (m + n) result }
+    ensures sum { (m n : ℕ) → ReportsNumber m a → ReportsNumber n b → ReportsNumber (m + n) result }
 {
     match (a, b) {
         (Some(a), Some(b)) => a.checked_add(b),
@@ -211,7 +198,7 @@ fn plus(a: Option<u64>, b: Option<u64>) -> Option<u64>
 /// The product of a weight and a number, if it fits in 64 bits.
 fn times(weight: u64, number: Option<u64>) -> Option<u64>
     requires some { 0 < weight }
-    ensures product { (n : ℕ) → Reports n number → Reports (weight * n) result }
+    ensures product { (n : ℕ) → ReportsNumber n number → ReportsNumber (weight * n) result }
 {
     match number {
         Some(number) => weight.checked_mul(number),

@@ -1,10 +1,10 @@
 //! Counts of how many flipped detectors each error flips, and the errors for which they are high.
 ghost use Rattle.std.specs.Prelude.{◌≡◌, ◌≢◌, ℕ, ◌<◌, ◌≤◌, true, false, length, slice_index, IfOk, OnOk};
 ghost use Rattle.stab_search.specs.Tables.{odd, row};
-ghost use Rattle.stab_search.specs.inner.Lists.{Each, has};
+ghost use Rattle.stab_search.specs.inner.Lists.{ForEach, has};
 
 use crate::errors::Errors;
-use std::alloc::{AllocError, Global};
+use std::alloc::AllocError;
 
 /// The number of errors for which memory is had at once.
 const USUAL_SIZE: usize = 32;
@@ -28,17 +28,16 @@ pub fn seldom(errors: &Errors, detectors: &[u32]) -> u32
 
 /// The errors that flip at least this many of the detectors, as `cover` counts them. The counts of all errors that flip one are set to 0.
 pub fn covering(
-    alloc: Global,
     errors: &Errors,
     detectors: &[u32],
     least: usize,
     cover: &mut [usize],
 ) -> Result<Vec<usize>, AllocError>
-    ensures inside { IfOk result (λ v. Each (λ r. r < length cover.old) v.items) }
+    ensures inside { IfOk result (λ v. ForEach (λ r. r < length cover.old) v.items) }
     ensures all { IfOk result (λ v. (e d : ℕ) → e < length cover.old → least ≤ slice_index cover.old e → has d detectors.now ≡ true → e < length errors.now.table.rows → odd d (row errors.now.table.rows e) ≡ true → has e v.items ≡ true) }
     ensures length { length cover.new ≡ length cover.old }
 {
-    let mut found = Vec::with_capacity(alloc, USUAL_SIZE)?;
+    let mut found = Vec::with_capacity(errors.alloc(), USUAL_SIZE)?;
     for d in detectors {
         take(errors.flipping(*d), least, cover, &mut found)?;
     }
@@ -52,7 +51,7 @@ fn take(
     cover: &mut [usize],
     found: &mut Vec<usize>,
 ) -> Result<(), AllocError>
-    ensures inside { OnOk result ((n : ℕ) → length cover.old ≤ n → Each (λ r. r < n) found.old.items → Each (λ r. r < n) found.new.items) }
+    ensures inside { OnOk result ((n : ℕ) → length cover.old ≤ n → ForEach (λ r. r < n) found.old.items → ForEach (λ r. r < n) found.new.items) }
     ensures kept { OnOk result ((e : ℕ) → has e found.old.items ≡ true → has e found.new.items ≡ true) }
     ensures taken { OnOk result ((e : ℕ) → e < length cover.old → least ≤ slice_index cover.old e → has e rows.now ≡ true → has e found.new.items ≡ true) }
     ensures others { OnOk result ((e : ℕ) → has e rows.now ≡ false → slice_index cover.new e ≡ slice_index cover.old e) }
@@ -72,7 +71,7 @@ pub fn take_covering(
     cover: &[usize],
     found: &mut Vec<usize>,
 ) -> Result<(), AllocError>
-    ensures inside { OnOk result ((n : ℕ) → length cover.now ≤ n → Each (λ r. r < n) found.old.items → Each (λ r. r < n) found.new.items) }
+    ensures inside { OnOk result ((n : ℕ) → length cover.now ≤ n → ForEach (λ r. r < n) found.old.items → ForEach (λ r. r < n) found.new.items) }
     ensures kept { OnOk result ((e : ℕ) → has e found.old.items ≡ true → has e found.new.items ≡ true) }
     ensures taken { OnOk result (r < length cover.now → least ≤ slice_index cover.now r → has r found.new.items ≡ true) }
 {

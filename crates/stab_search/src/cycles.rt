@@ -1,5 +1,5 @@
 use crate::edges::bits_of;
-use crate::graph::{Graph, Place};
+use crate::graph::{Graph, Labelled};
 use crate::labels::{Labels, labels_from};
 use crate::row::end_of_rows;
 use crate::sources::sources_of;
@@ -68,7 +68,7 @@ fn way_back(
     source: usize,
 ) -> Result<Vec<usize>, AllocError> {
     let mut rows = Vec::new(alloc);
-    let mut position = Place {
+    let mut position = Labelled {
         node: source,
         parity: true,
     };
@@ -81,8 +81,8 @@ fn way_back(
     Ok(rows)
 }
 
-/// An edge to a place with a lesser label.
-fn edge_back(graph: &Graph, bits: &[bool], labels: &Labels, position: Place) -> Option<usize> {
+/// An edge to where the label is less.
+fn edge_back(graph: &Graph, bits: &[bool], labels: &Labels, position: Labelled) -> Option<usize> {
     let here = labels.label(position.node, position.parity);
     for r in graph.edges_at(position.node) {
         let next = graph.across(*r, position, bits);

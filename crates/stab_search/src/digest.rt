@@ -1,4 +1,4 @@
-//! A digest of what is searched: FNV-1a, over numbers of 64 bits in the place of bytes.
+//! A digest of what is searched: FNV-1a, over numbers of 64 bits, not bytes.
 ghost use Rattle.std.specs.Prelude.{◌≡◌, ◌*◌, ◌%◌, ◌^◌, ◌∷◌, length, bit_xor};
 ghost use Rattle.stab_search.specs.SearchParts.{digest, digest_rows, digest_searched};
 

@@ -49,8 +49,8 @@ impl Distinct {
 
 /// The first numbers of a row, by which rows are sorted.
 #[derive(Clone, Copy, PartialEq, Eq, PartialOrd, Ord)]
-struct Place {
-    start: [u32; 4],
+struct Start {
+    numbers: [u32; 4],
     row: usize,
 }
 
@@ -88,16 +88,16 @@ pub fn rows_in_order(alloc: Global, rows: &[Row], order: &[usize]) -> Result<Dis
 
 /// The numbers of rows, sorted by what the rows flip.
 fn sorted(alloc: Global, rows: &[Row]) -> Result<Vec<usize>, AllocError> {
-    let mut positions = Vec::with_capacity(alloc, rows.len())?;
+    let mut starts = Vec::with_capacity(alloc, rows.len())?;
     for r in 0..rows.len() {
         let row = &rows[r];
-        let start = start_of(row.numbers());
-        positions.push(Place { start, row: r })?;
+        let numbers = start_of(row.numbers());
+        starts.push(Start { numbers, row: r })?;
     }
-    positions.sort()?;
+    starts.sort()?;
     let mut order = Vec::with_capacity(alloc, rows.len())?;
-    for position in positions.as_slice() {
-        order.push(position.row)?;
+    for start in starts.as_slice() {
+        order.push(start.row)?;
     }
     Ok(order)
 }
@@ -127,7 +127,7 @@ fn take(
     ensures there { OnOk result (HasRow distinct.new.rows.items numbers.now) }
     ensures others { OnOk result ((others : List ℕ) → HasRow distinct.old.rows.items others → HasRow distinct.new.rows.items others) }
 {
-    let position = place_of(numbers, size);
+    let position = position_of(numbers, size);
     if has_row(
         distinct.rows.as_slice(),
         rows_at(index.as_slice(), position),
@@ -155,8 +155,8 @@ fn has_row(rows: &[Row], candidates: &[usize], numbers: &[u32]) -> bool
     false
 }
 
-/// The place at which rows of these numbers are listed, below the number of rows.
-pub(crate) fn place_of(numbers: &[u32], size: usize) -> usize {
+/// The position at which rows of these numbers are listed, below the number of rows.
+pub(crate) fn position_of(numbers: &[u32], size: usize) -> usize {
     let mut hash: u64 = 0;
     for n in numbers {
         hash = (hash ^ u64::from(*n)).wrapping_mul(0x9e3779b97f4a7c15);

@@ -2,7 +2,7 @@ ghost use Rattle.std.specs.Prelude.{◌≡◌, true, false, length, min, slice_i
 ghost use Rattle.stab_search.specs.Ascending.{IsAscending};
 ghost use Rattle.stab_search.specs.Tables.{odd};
 ghost use Rattle.stab_search.specs.Graphlike.{IsGraphlike};
-ghost use Rattle.stab_search.specs.inner.Graphs.{IsEdge, AreEdges, AreBits};
+ghost use Rattle.stab_search.specs.inner.Graphs.{IsEdge, AreEdges, RowsFlip};
 
 use crate::row::{Row, flips};
 use std::alloc::{AllocError, Global};
@@ -70,7 +70,7 @@ pub fn edges_of(
 
 /// For each row whether it flips a number.
 pub fn bits_of(alloc: Global, rows: &[Row], i: usize) -> Result<Vec<bool>, AllocError>
-    ensures bits { IfOk result (λ v. AreBits rows.now i v.items) }
+    ensures bits { IfOk result (λ v. RowsFlip rows.now i v.items) }
 {
     let mut bits = Vec::new(alloc);
     'rows: for r in 0..rows.len() {

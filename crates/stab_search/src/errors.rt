@@ -4,55 +4,45 @@ ghost use Rattle.stab_search.specs.inner.Errors.{key_of, AreKeys};
 ghost use Rattle.stab_search.specs.inner.Steps.{BeginsBefore};
 
 use crate::index::{rows_at, rows_by_detector};
-use crate::keys::Keys;
+use crate::keys::{has_key, mask_for, rows_by_key};
 use crate::pairs::pairs_of;
 use crate::row::{Row, end_of_rows};
-use crate::steps::all_move_down;
+use crate::steps::moved_from;
 use std::alloc::{AllocError, Global};
 use std::marker::Model;
 
 /// The errors of a table, ready for a search.
+#[derive(Drop)]
 pub struct Errors {
+    alloc: Global,
     detectors: usize,
     rows: Vec<Row>,
     numbers: Vec<u64>,
-    keys: Keys,
-    index: Vec<Vec<usize>>,
+    keys: Vec<u64>,
+    // The low bits of keys by which errors are listed.
+    mask: u64,
+    by_key: Vec<Vec<usize>>,
+    by_detector: Vec<Vec<usize>>,
     pairs: Vec<Vec<usize>>,
     firsts: usize,
 }
 
-// Written out, so that a proof sees the drop of a value as one call, and not one for each of its parts.
-impl Drop for Errors {
-    fn drop(self) {
-        let Errors {
-            detectors: _,
-            rows: _,
-            numbers: _,
-            keys: _,
-            index: _,
-            pairs: _,
-            firsts: _,
-        } = self;
-    }
-}
-
 impl Model for Errors {
-    ghost use Rattle.stab_search.specs.inner.Errors.{Keyed, IsReady};
+    ghost use Rattle.stab_search.specs.inner.Errors.{Keyed, AreErrorsReady};
 
     ghost Value = { Keyed };
 
     ghost view = { λ e. record { table = record { detectors = e.detectors; rows = e.rows.items }; firsts = e.firsts; numbers = e.numbers.items; pairs = e.pairs.items } };
 
-    ghost invariant = { λ e. IsReady e.detectors e.rows.items e.numbers.items e.keys e.index.items e.pairs.items e.firsts };
+    ghost invariant = { λ e. AreErrorsReady e.detectors e.rows.items e.numbers.items e.keys.items e.mask e.by_key.items e.by_detector.items e.pairs.items e.firsts };
 }
 
 impl Errors {
     ghost use Rattle.std.specs.Prelude.{◌≡◌, ◌≢◌, ℕ, ◌<◌, ◌≤◌, true, false, length, slice_index, IfOk, OnOk};
     ghost use Rattle.stab_search.specs.Ascending.{IsAscending};
     ghost use Rattle.stab_search.specs.Tables.{row, odd};
-    ghost use Rattle.stab_search.specs.inner.Lists.{Each, has};
-    ghost use Rattle.stab_search.specs.inner.Indexes.{listed};
+    ghost use Rattle.stab_search.specs.inner.Lists.{ForEach, has};
+    ghost use Rattle.stab_search.specs.inner.Indexes.{rows_listed};
     ghost use Rattle.stab_search.specs.inner.Pairs.{ArePairs};
     ghost use Rattle.stab_search.specs.inner.Steps.{BeginsBefore};
     ghost use Rattle.stab_search.specs.inner.Errors.{key_of};
@@ -63,18 +53,28 @@ impl Errors {
     {
         let flipped = detectors.min(end_of_rows(rows.as_slice()));
         let numbers = numbers_of(alloc, flipped)?;
-        let keys = Keys::new(alloc, keys_of(alloc, numbers.as_slice(), rows.as_slice())?)?;
-        let index = rows_by_detector(alloc, rows.as_slice())?;
+        let keys = keys_of(alloc, numbers.as_slice(), rows.as_slice())?;
+        let mask = mask_for(keys.len());
+        let by_key = rows_by_key(alloc, keys.as_slice(), mask)?;
+        let by_detector = rows_by_detector(alloc, rows.as_slice())?;
         let firsts = rows.len();
         Ok(Errors {
+            alloc,
             detectors,
             rows,
             numbers,
             keys,
-            index,
+            mask,
+            by_key,
+            by_detector,
             pairs: Vec::new(alloc),
             firsts,
         })
+    }
+
+    /// What gives memory.
+    pub(crate) fn alloc(&self) -> Global {
+        self.alloc
     }
 
     /// The number of errors.
@@ -113,23 +113,23 @@ impl Errors {
         ensures value { result ≡ key_of self.now.numbers (row self.now.table.rows r) }
         ensures numbered { length self.now.numbers ≤ self.now.table.detectors }
     {
-        self.keys.key(r)
+        self.keys[r]
     }
 
     /// Whether some error has this key.
     pub fn has_key(&self, key: u64) -> bool
         ensures not { result ≡ false → (r : ℕ) → r < length self.now.table.rows → key_of self.now.numbers (row self.now.table.rows r) ≢ key }
     {
-        self.keys.has(key)
+        has_key(self.keys.as_slice(), self.with_key(key), key)
     }
 
     /// Some errors, among them each with this key.
     pub fn with_key(&self, key: u64) -> &[usize]
-        ensures inside { Each (λ r. r < length self.now.table.rows) result.now }
+        ensures inside { ForEach (λ r. r < length self.now.table.rows) result.now }
         ensures complete { (r : ℕ) → r < length self.now.table.rows → key_of self.now.numbers (row self.now.table.rows r) ≡ key → has r result.now ≡ true }
         ensures numbered { length self.now.numbers ≤ self.now.table.detectors }
     {
-        self.keys.rows_with(key)
+        rows_at(self.by_key.as_slice(), (key & self.mask) as usize)
     }
 
     /// The number of detectors up to the last that is flipped.
@@ -138,28 +138,24 @@ impl Errors {
     }
 
     /// The number of a detector.
-    pub(crate) fn number(&self, d: usize) -> u64 {
-        if d < self.numbers.len() {
-            self.numbers[d]
-        } else {
-            0
-        }
+    pub(crate) fn number(&self, d: u32) -> u64 {
+        number_at(self.numbers.as_slice(), d)
     }
 
     /// Some errors, among them each that flips detector d.
     pub fn flipping(&self, d: u32) -> &[usize]
-        ensures inside { Each (λ r. r < length self.now.table.rows) result.now }
+        ensures inside { ForEach (λ r. r < length self.now.table.rows) result.now }
         ensures complete { (r : ℕ) → r < length self.now.table.rows → odd d (row self.now.table.rows r) ≡ true → has r result.now ≡ true }
     {
-        rows_at(self.index.as_slice(), d as usize)
+        rows_at(self.by_detector.as_slice(), d as usize)
     }
 
     /// The detectors among these numbers.
     pub fn detectors_of<'a>(&self, flipped: &'a [u32]) -> &'a [u32]
         requires ascending { IsAscending flipped.now }
         ensures some { 0 < length flipped.now → slice_index flipped.now 0 < self.now.table.detectors → 0 < length result.now }
-        ensures inside { Each (λ d. d < self.now.table.detectors) result.now }
-        ensures flipped { Each (λ d. odd d flipped.now ≡ true) result.now }
+        ensures inside { ForEach (λ d. d < self.now.table.detectors) result.now }
+        ensures flipped { ForEach (λ d. odd d flipped.now ≡ true) result.now }
     {
         let mut count = 0;
         'detectors: while count < flipped.len() && (flipped[count] as usize) < self.detectors {
@@ -170,24 +166,18 @@ impl Errors {
 
     /// Errors that need not be tried with error r.
     pub fn left_out(&self, r: usize) -> &[usize]
-        ensures value { result.now ≡ listed self.now.pairs r }
+        ensures value { result.now ≡ rows_listed self.now.pairs r }
     {
         rows_at(self.pairs.as_slice(), r)
     }
 
     /// Finds pairs of errors that need not be tried together. It takes memory for each two errors that flip a common detector.
-    pub fn leave_out_pairs(&mut self, alloc: Global) -> Result<(), AllocError>
+    pub fn leave_out_pairs(&mut self) -> Result<(), AllocError>
         ensures table { self.new.table ≡ self.old.table }
         ensures firsts { self.new.firsts ≡ self.old.firsts }
         ensures numbers { self.new.numbers ≡ self.old.numbers }
     {
-        self.pairs = pairs_of(
-            alloc,
-            self.rows.as_slice(),
-            self.index.as_slice(),
-            self.detectors,
-            self.firsts,
-        )?;
+        self.pairs = pairs_of(self)?;
         Ok(())
     }
 
@@ -201,13 +191,13 @@ impl Errors {
         self.firsts
     }
 
-    /// Lets only the errors before this number be first, if a step moves down each of the others (`steps`). Forgets which pairs were left
-    /// out.
-    pub fn begin_before(&mut self, firsts: usize, lower: &[u32])
+    /// Lets only those errors be first that are before all that a step moves down at the end (`steps`). Forgets which pairs were left out.
+    pub fn begin_unmoved(&mut self, lower: &[u32])
         ensures table { self.new.table ≡ self.old.table }
         ensures numbers { self.new.numbers ≡ self.old.numbers }
     {
-        if firsts < self.firsts && all_move_down(self, firsts, lower) {
+        let firsts = moved_from(self, lower);
+        if firsts < self.firsts {
             self.firsts = firsts;
             self.pairs.clear();
         }
@@ -226,7 +216,7 @@ fn numbers_of(alloc: Global, detectors: usize) -> Result<Vec<u64>, AllocError>
 }
 
 /// The bits of a number, mixed as in splitmix64.
-pub(crate) fn mixed(n: u64) -> u64 {
+fn mixed(n: u64) -> u64 {
     let a = n.wrapping_add(1).wrapping_mul(0x9e3779b97f4a7c15);
     let b = (a ^ (a >> 30)).wrapping_mul(0xbf58476d1ce4e5b9);
     let c = (b ^ (b >> 27)).wrapping_mul(0x94d049bb133111eb);

@@ -26,7 +26,7 @@ impl Drop for Graph {
 
 /// A node, and the parity of the edges on the way to it that flip an observable.
 #[derive(Clone, Copy)]
-pub struct Place {
+pub struct Labelled {
     pub node: usize,
     pub parity: bool,
 }
@@ -90,8 +90,8 @@ impl Graph {
         rows_at(self.index.as_slice(), node)
     }
 
-    /// Where edge r leads from a place; bit r is whether it flips the observable.
-    pub(crate) fn across(&self, r: usize, position: Place, bits: &[bool]) -> Place {
+    /// Where edge r leads from a node at a parity; bit r is whether it flips the observable.
+    pub(crate) fn across(&self, r: usize, position: Labelled, bits: &[bool]) -> Labelled {
         if r >= self.edges.len() || r >= bits.len() {
             return position;
         }
@@ -101,7 +101,7 @@ impl Graph {
         } else {
             edge.first
         };
-        Place {
+        Labelled {
             node,
             parity: position.parity ^ bits[r],
         }

@@ -1,6 +1,6 @@
 ghost use Rattle.std.specs.Prelude.{◌≡◌, length, IfOk, IfErr, IfSome};
 ghost use Rattle.stab_io.specs.declared.refusal.Refusal.TheVariants.{OutOfMemory};
-ghost use Rattle.stab_search.specs.LogicalErrors.{IsAnswer, HasNoneWithin};
+ghost use Rattle.stab_search.specs.LogicalErrors.{IsLeastAnswer, HasNoneWithin};
 ghost use Rattle.stab_search.specs.Tables.{ErrorTable};
 ghost use Rattle.stab_search.specs.inner.ReportedProgress.{HearsOn};
 ghost use Rattle.stab_search.specs.Graphlike.{IsGraphlikeAnswer, HasNoGraphlikeWithin};
@@ -50,8 +50,8 @@ pub fn least_graphlike_error<P: Progress>(
 
 /// The last number of errors that an answer excludes.
 fn excluded_by(answer: &Answer, most: usize) -> usize
-    ensures none { (t : ErrorTable) → IsAnswer t most answer.now → HasNoneWithin t result }
-    ensures all { (t : ErrorTable) → IsAnswer t most answer.now → IsExcludedBy most answer.now result }
+    ensures none { (t : ErrorTable) → IsLeastAnswer t most answer.now → HasNoneWithin t result }
+    ensures all { (t : ErrorTable) → IsLeastAnswer t most answer.now → IsExcludedBy most answer.now result }
 {
     match answer {
         Answer::Least(errors) => errors.len().saturating_sub(1),
@@ -71,7 +71,7 @@ fn report<P: Progress>(progress: &mut P, last: usize)
 
 /// The answer for a table whose rows are graph-like, if cycles of its graph show it.
 fn by_cycles(alloc: Global, part: &Table, most: usize) -> Result<Option<Answer>, AllocError>
-    ensures answer { IfOk result (λ a. IfSome a (IsAnswer part.now most)) }
+    ensures answer { IfOk result (λ a. IfSome a (IsLeastAnswer part.now most)) }
 {
     let distinct = distinct_rows(alloc, part)?;
     let graph = match Graph::new(alloc, part.detectors(), distinct.rows)? {

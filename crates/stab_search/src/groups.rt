@@ -1,9 +1,9 @@
 ghost use Rattle.std.specs.Prelude.{◌≡◌, ℕ, ◌<◌, ◌^◌, ◌-◌, List, length, slice_index, IfOk, IfSome, OnOk};
 ghost use Rattle.stab_search.specs.Ascending.{IsAscending};
 ghost use Rattle.stab_search.specs.Tables.{ErrorTable, row};
-ghost use Rattle.stab_search.specs.inner.Ways.{AreGroups, IsAdded};
+ghost use Rattle.stab_search.specs.inner.Ways.{AreGroups, IsWeightAdded};
 
-use crate::distinct::place_of;
+use crate::distinct::position_of;
 use crate::index::{list, rows_at};
 use crate::row::Row;
 use crate::table::Table;
@@ -42,9 +42,9 @@ fn add(
 ) -> Result<(), AllocError>
     requires ascending { IsAscending numbers.now }
     requires count { length groups.old.weights.items ≡ length groups.old.rows.items }
-    ensures added { OnOk result (IsAdded numbers.now groups.old.rows.items groups.old.weights.items groups.new.rows.items groups.new.weights.items) }
+    ensures added { OnOk result (IsWeightAdded numbers.now groups.old.rows.items groups.old.weights.items groups.new.rows.items groups.new.weights.items) }
 {
-    let position = place_of(numbers, size);
+    let position = position_of(numbers, size);
     let found = find(
         groups.rows.as_slice(),
         groups.weights.as_slice(),

@@ -1,6 +1,6 @@
-ghost use Rattle.std.specs.Prelude.{◌≡◌, ◌≢◌, ℕ, ◌<◌, true, [], ◌∷◌, ◌++◌, IfOk, OnOk};
-ghost use Rattle.stab_search.specs.inner.Lists.{Each, has};
-ghost use Rattle.stab_search.specs.inner.Indexes.{listed, ListsDetectors};
+ghost use Rattle.std.specs.Prelude.{◌≡◌, ◌≢◌, ℕ, ◌<◌, true, false, [], ◌∷◌, ◌++◌, slice_index, slice_index_or, IfOk, OnOk};
+ghost use Rattle.stab_search.specs.inner.Lists.{ForEach, has};
+ghost use Rattle.stab_search.specs.inner.Indexes.{rows_listed, ListsDetectors};
 
 use crate::row::Row;
 use std::alloc::{AllocError, Global};
@@ -17,16 +17,16 @@ pub fn rows_by_detector(alloc: Global, rows: &[Row]) -> Result<Vec<Vec<usize>>, 
     Ok(index)
 }
 
-/// Lists row r at each of these places.
+/// Lists row r at each of these positions.
 fn list_row(
     alloc: Global,
     index: &mut Vec<Vec<usize>>,
     positions: &[u32],
     r: usize,
 ) -> Result<(), AllocError>
-    ensures others { OnOk result ((d q : ℕ) → has q (listed index.old.items d) ≡ true → has q (listed index.new.items d) ≡ true) }
-    ensures each { OnOk result ((d : ℕ) → has d positions.now ≡ true → has r (listed index.new.items d) ≡ true) }
-    ensures inside { OnOk result ((n d : ℕ) → r < n → Each (λ q. q < n) (listed index.old.items d) → Each (λ q. q < n) (listed index.new.items d)) }
+    ensures others { OnOk result ((d q : ℕ) → has q (rows_listed index.old.items d) ≡ true → has q (rows_listed index.new.items d) ≡ true) }
+    ensures each { OnOk result ((d : ℕ) → has d positions.now ≡ true → has r (rows_listed index.new.items d) ≡ true) }
+    ensures inside { OnOk result ((n d : ℕ) → r < n → ForEach (λ q. q < n) (rows_listed index.old.items d) → ForEach (λ q. q < n) (rows_listed index.new.items d)) }
 {
     'each: for d in positions {
         list(alloc, index, *d as usize, r)?;
@@ -34,15 +34,15 @@ fn list_row(
     Ok(())
 }
 
-/// Lists row r at a place.
+/// Lists row r at a position.
 pub fn list(
     alloc: Global,
     index: &mut Vec<Vec<usize>>,
     position: usize,
     r: usize,
 ) -> Result<(), AllocError>
-    ensures here { OnOk result (listed index.new.items position ≡ listed index.old.items position ++ r ∷ []) }
-    ensures elsewhere { OnOk result ((e : ℕ) → e ≢ position → listed index.new.items e ≡ listed index.old.items e) }
+    ensures here { OnOk result (rows_listed index.new.items position ≡ rows_listed index.old.items position ++ r ∷ []) }
+    ensures elsewhere { OnOk result ((e : ℕ) → e ≢ position → rows_listed index.new.items e ≡ rows_listed index.old.items e) }
 {
     'grow: while index.len() <= position {
         index.push(Vec::new(alloc))?;
@@ -51,13 +51,27 @@ pub fn list(
     Ok(())
 }
 
-/// The rows listed at a place.
+/// The rows listed at a position.
 pub fn rows_at(index: &[Vec<usize>], position: usize) -> &[usize]
-    ensures value { result.now ≡ listed index.now position }
+    ensures value { result.now ≡ rows_listed index.now position }
 {
     if position < index.len() {
         index[position].as_slice()
     } else {
         &[]
     }
+}
+
+/// Number k, 0 past the end.
+pub fn entry(numbers: &[usize], k: usize) -> usize
+    ensures value { result ≡ slice_index numbers.now k }
+{
+    if k < numbers.len() { numbers[k] } else { 0 }
+}
+
+/// Bit k, false past the end.
+pub fn bit_at(bits: &[bool], k: usize) -> bool
+    ensures value { result ≡ slice_index_or bits.now k false }
+{
+    if k < bits.len() { bits[k] } else { false }
 }

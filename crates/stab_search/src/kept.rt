@@ -4,12 +4,13 @@ ghost use Rattle.std.specs.Prelude.{◌≡◌, ◌≢◌, ℕ, ◌<◌, true, fa
 ghost use Rattle.stab_io.specs.declared.refusal.Refusal.TheVariants.{OutOfMemory};
 ghost use Rattle.stab_search.specs.Ascending.{IsAscending};
 ghost use Rattle.stab_search.specs.Tables.{ErrorTable, odd, row};
-ghost use Rattle.stab_search.specs.inner.Classes.{class_of, AreOfClass, HaveClasses, Counts, AreParts, Splits, AreEnough};
+ghost use Rattle.stab_search.specs.inner.Classes.{class_of, AreOfClass, HaveClasses, CountsNumber, AreParts, Splits, ErrorsAreEnough};
 ghost use Rattle.stab_search.specs.inner.Errors.{AreRowsOf};
 
-use crate::classes::{class_at, classes_of, parts_of};
+use crate::classes::{classes_of, parts_of};
 use crate::distinct::{Distinct, distinct_rows, rows_in_order};
 use crate::errors::Errors;
+use crate::index::entry;
 use crate::logical::flipped_by;
 use crate::merging::merge_into;
 use crate::steps::{find_step, order_by};
@@ -24,63 +25,44 @@ pub struct Kept {
     pub numbers: Vec<usize>,
 }
 
-/// The errors of a table that are enough.
+/// The errors of a table that are enough, in an order in which few can be first.
 ///
 /// The only refusal is `OutOfMemory`.
 pub fn enough_of(alloc: Global, table: &Table) -> Result<Kept, Refusal>
-    ensures enough { IfOk result (λ k. AreEnough table.now k.errors.table k.numbers.items) }
+    ensures enough { IfOk result (λ k. ErrorsAreEnough table.now k.errors.table k.numbers.items) }
     ensures refusal { IfErr result (λ e. e ≡ OutOfMemory) }
 {
     let distinct = distinct_rows(alloc, table)?;
     let errors = Errors::new(alloc, table.detectors(), distinct.rows)?;
-    Ok(keep_enough(alloc, errors, distinct.numbers)?)
-}
-
-/// Errors that are enough, in an order in which few can be first.
-fn keep_enough(alloc: Global, errors: Errors, numbers: Vec<usize>) -> Result<Kept, AllocError>
-    ensures enough { IfOk result (λ k. (t : ErrorTable) → AreEnough t errors.table numbers.items → AreEnough t k.errors.table k.numbers.items) }
-{
-    let kept = keep_one_class(alloc, errors, numbers)?;
-    let ordered = put_firsts(alloc, kept)?;
-    Ok(ordered)
+    let numbers = distinct.numbers;
+    let kept = keep_one_class(Kept { errors, numbers })?;
+    Ok(put_firsts(kept)?)
 }
 
 /// The errors with those first that no step moves down, if there is a step that moves down most of them.
-fn put_firsts(alloc: Global, kept: Kept) -> Result<Kept, AllocError>
-    ensures enough { IfOk result (λ k. (t : ErrorTable) → AreEnough t kept.errors.table kept.numbers.items → AreEnough t k.errors.table k.numbers.items) }
+fn put_firsts(kept: Kept) -> Result<Kept, AllocError>
+    ensures enough { IfOk result (λ k. (t : ErrorTable) → ErrorsAreEnough t kept.errors.table kept.numbers.items → ErrorsAreEnough t k.errors.table k.numbers.items) }
 {
-    match find_step(alloc, &kept.errors)? {
+    match find_step(&kept.errors)? {
         None => Ok(kept),
-        Some(lower) => Ok(put_in_order(
-            alloc,
-            &kept.errors,
-            kept.numbers.as_slice(),
-            lower.as_slice(),
-        )?),
+        Some(lower) => Ok(put_in_order(&kept, lower.as_slice())?),
     }
 }
 
 /// The errors with those first that this step does not move down.
-fn put_in_order(
-    alloc: Global,
-    errors: &Errors,
-    numbers: &[usize],
-    lower: &[u32],
-) -> Result<Kept, AllocError>
-    ensures enough { IfOk result (λ k. (t : ErrorTable) → AreEnough t errors.now.table numbers.now → AreEnough t k.errors.table k.numbers.items) }
+fn put_in_order(kept: &Kept, lower: &[u32]) -> Result<Kept, AllocError>
+    ensures enough { IfOk result (λ k. (t : ErrorTable) → ErrorsAreEnough t kept.now.errors.table kept.now.numbers.items → ErrorsAreEnough t k.errors.table k.numbers.items) }
 {
-    let order = order_by(alloc, errors, lower)?;
-    let chosen = rows_in_order(alloc, errors.rows(), order.errors.as_slice())?;
-    let numbers = numbers_at(alloc, numbers, chosen.numbers.as_slice())?;
-    let mut ordered = Errors::new(alloc, errors.detectors(), chosen.rows)?;
-    ordered.begin_before(order.firsts, lower);
-    Ok(Kept {
-        errors: ordered,
-        numbers,
-    })
+    let alloc = kept.errors.alloc();
+    let order = order_by(&kept.errors, lower)?;
+    let chosen = rows_in_order(alloc, kept.errors.rows(), order.as_slice())?;
+    let numbers = numbers_at(alloc, kept.numbers.as_slice(), chosen.numbers.as_slice())?;
+    let mut errors = Errors::new(alloc, kept.errors.detectors(), chosen.rows)?;
+    errors.begin_unmoved(lower);
+    Ok(Kept { errors, numbers })
 }
 
-/// The numbers at these places, 0 if there is none.
+/// The numbers at these positions, 0 if there is none.
 fn numbers_at(
     alloc: Global,
     numbers: &[usize],
@@ -91,48 +73,37 @@ fn numbers_at(
 {
     let mut found = Vec::new(alloc);
     'positions: for k in 0..positions.len() {
-        found.push(number_at(numbers, positions[k]))?;
+        found.push(entry(numbers, positions[k]))?;
     }
     Ok(found)
 }
 
-fn number_at(numbers: &[usize], k: usize) -> usize
-    ensures value { result ≡ slice_index numbers.now k }
-{
-    if k < numbers.len() { numbers[k] } else { 0 }
-}
-
 /// Those of these errors that flip detectors of one class, if they are enough; else all.
-fn keep_one_class(alloc: Global, errors: Errors, numbers: Vec<usize>) -> Result<Kept, AllocError>
-    ensures enough { IfOk result (λ k. (t : ErrorTable) → AreEnough t errors.table numbers.items → AreEnough t k.errors.table k.numbers.items) }
+fn keep_one_class(kept: Kept) -> Result<Kept, AllocError>
+    ensures enough { IfOk result (λ k. (t : ErrorTable) → ErrorsAreEnough t kept.errors.table kept.numbers.items → ErrorsAreEnough t k.errors.table k.numbers.items) }
 {
-    let classes = classes_of(alloc, &errors)?;
-    let chosen = of_one_class(alloc, &errors, numbers.as_slice(), classes.as_slice())?;
-    let fewer = Errors::new(alloc, errors.detectors(), chosen.rows)?;
-    if fewer.len() < errors.len() && all_split(alloc, &errors, &fewer, classes.as_slice())? {
-        Ok(Kept {
-            errors: fewer,
-            numbers: chosen.numbers,
-        })
-    } else {
+    let classes = classes_of(&kept.errors)?;
+    let chosen = of_one_class(&kept, classes.as_slice())?;
+    let errors = Errors::new(kept.errors.alloc(), kept.errors.detectors(), chosen.rows)?;
+    let numbers = chosen.numbers;
+    let fewer = errors.len() < kept.errors.len();
+    if fewer && all_split(&kept.errors, &errors, classes.as_slice())? {
         Ok(Kept { errors, numbers })
+    } else {
+        Ok(kept)
     }
 }
 
 /// The errors that flip detectors of one class.
-fn of_one_class(
-    alloc: Global,
-    errors: &Errors,
-    numbers: &[usize],
-    classes: &[usize],
-) -> Result<Distinct, AllocError>
-    ensures rows { IfOk result (λ x. (rows : List (List ℕ)) → AreRowsOf rows errors.now.table.rows numbers.now → AreRowsOf rows x.rows.items x.numbers.items) }
-    ensures classes { IfOk result (λ x. HaveClasses (record { detectors = errors.now.table.detectors; rows = x.rows.items }) classes.now) }
+fn of_one_class(kept: &Kept, classes: &[usize]) -> Result<Distinct, AllocError>
+    ensures rows { IfOk result (λ x. (rows : List (List ℕ)) → AreRowsOf rows kept.now.errors.table.rows kept.now.numbers.items → AreRowsOf rows x.rows.items x.numbers.items) }
+    ensures classes { IfOk result (λ x. HaveClasses (record { detectors = kept.now.errors.table.detectors; rows = x.rows.items }) classes.now) }
 {
-    let mut chosen = Distinct::new(alloc);
+    let (errors, numbers) = (&kept.errors, kept.numbers.as_slice());
+    let mut chosen = Distinct::new(errors.alloc());
     'rows: for r in 0..errors.len().min(numbers.len()) {
         add_if_of_one_class(
-            alloc,
+            errors.alloc(),
             &mut chosen,
             errors.row(r),
             numbers[r],
@@ -179,7 +150,7 @@ fn is_of_one_class(numbers: &[u32], classes: &[usize], detectors: usize) -> bool
 fn is_of_class(d: u32, classes: &[usize], detectors: usize, class: usize) -> bool
     ensures yes { result ≡ true → d < detectors → (slice_index classes.now d ≡ class) × (class ≢ 0) }
 {
-    d as usize >= detectors || (class != 0 && class_at(classes, d) == class)
+    d as usize >= detectors || (class != 0 && entry(classes, d as usize) == class)
 }
 
 /// The class of the first of these numbers, 0 if there is none.
@@ -189,23 +160,18 @@ fn class_of(numbers: &[u32], classes: &[usize]) -> usize
     if numbers.is_empty() {
         0
     } else {
-        class_at(classes, numbers[0])
+        entry(classes, numbers[0] as usize)
     }
 }
 
 /// Whether each of the errors splits into some of those kept.
-fn all_split(
-    alloc: Global,
-    errors: &Errors,
-    kept: &Errors,
-    classes: &[usize],
-) -> Result<bool, AllocError>
+fn all_split(errors: &Errors, kept: &Errors, classes: &[usize]) -> Result<bool, AllocError>
     ensures all { IfOk result (λ b. b ≡ true → (r : ℕ) → r < length errors.now.table.rows → Splits kept.now.table classes.now (row errors.now.table.rows r)) }
 {
     'rows: for r in 0..errors.len() {
         let numbers = errors.row(r);
-        let parts = parts_of(alloc, kept, classes, numbers)?;
-        if !are_parts(alloc, kept, classes, numbers, parts.as_slice())? {
+        let parts = parts_of(kept, classes, numbers)?;
+        if !are_parts(kept, classes, numbers, parts.as_slice())? {
             return Ok(false);
         }
     }
@@ -214,7 +180,6 @@ fn all_split(
 
 /// Whether these errors flip together the observables among these numbers and the detectors that are not ignored, and have different classes.
 fn are_parts(
-    alloc: Global,
     kept: &Errors,
     classes: &[usize],
     numbers: &[u32],
@@ -223,11 +188,11 @@ fn are_parts(
     requires ascending { IsAscending numbers.now }
     ensures yes { IfOk result (λ b. b ≡ true → AreParts kept.now.table classes.now numbers.now parts.now) }
 {
-    let flipped = match flipped_by(alloc, kept.rows(), parts)? {
+    let flipped = match flipped_by(kept.alloc(), kept.rows(), parts)? {
         None => return Ok(false),
         Some(flipped) => flipped,
     };
-    let mut rest = Vec::new(alloc);
+    let mut rest = Vec::new(kept.alloc());
     merge_into(&mut rest, flipped.as_slice(), numbers)?;
     Ok(
         none_counts(rest.as_slice(), classes, kept.detectors())
@@ -237,7 +202,7 @@ fn are_parts(
 
 /// Whether each of these numbers is a detector that is ignored.
 fn none_counts(numbers: &[u32], classes: &[usize], detectors: usize) -> bool
-    ensures yes { result ≡ true → (i : ℕ) → Counts classes.now detectors i → odd i numbers.now ≡ false }
+    ensures yes { result ≡ true → (i : ℕ) → CountsNumber classes.now detectors i → odd i numbers.now ≡ false }
 {
     'each: for d in numbers {
         if !is_ignored(*d, classes, detectors) {
@@ -251,7 +216,7 @@ fn none_counts(numbers: &[u32], classes: &[usize], detectors: usize) -> bool
 fn is_ignored(d: u32, classes: &[usize], detectors: usize) -> bool
     ensures yes { result ≡ true → (d < detectors) × (slice_index classes.now d ≡ 0) }
 {
-    (d as usize) < detectors && class_at(classes, d) == 0
+    (d as usize) < detectors && entry(classes, d as usize) == 0
 }
 
 /// Whether the classes of these errors ascend.

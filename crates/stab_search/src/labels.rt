@@ -1,9 +1,10 @@
-ghost use Rattle.std.specs.Prelude.{◌≡◌, ℕ, ◌<◌, true, false, length, slice_index, slice_index_or};
+ghost use Rattle.std.specs.Prelude.{◌≡◌, ℕ, ◌<◌, true, false, length, slice_index_or};
 ghost use Rattle.stab_search.specs.inner.Graphs.{edge};
 ghost use Rattle.stab_search.specs.inner.Labels.{AreNear, AreNearAlong, AreLabels};
 
 use crate::edges::Edge;
-use crate::graph::{Graph, Place};
+use crate::graph::{Graph, Labelled};
+use crate::index::{bit_at, entry};
 use std::alloc::{AllocError, Global};
 
 /// For each node the number of edges that lead there from a source, of which an even or an odd number flip an
@@ -39,13 +40,13 @@ impl Labels {
         ensures value { result ≡ label self.now node parity }
     {
         if parity {
-            at(self.odd.as_slice(), node)
+            entry(self.odd.as_slice(), node)
         } else {
-            at(self.even.as_slice(), node)
+            entry(self.even.as_slice(), node)
         }
     }
 
-    /// Labels each place that is nearer to the source by edges than its label says: a search in breadth.
+    /// Labels each node and parity that is nearer to the source by edges than its label says: a search in breadth.
     pub(crate) fn spread(
         &mut self,
         alloc: Global,
@@ -55,7 +56,7 @@ impl Labels {
     ) -> Result<(), AllocError> {
         let positions = self.even.len().saturating_mul(2);
         let mut queue = Vec::new(alloc);
-        let start = Place {
+        let start = Labelled {
             node: source,
             parity: false,
         };
@@ -71,13 +72,13 @@ impl Labels {
         Ok(())
     }
 
-    /// Labels the neighbours of a place, and puts those whose label it lowers at the end of the queue.
+    /// Labels the neighbours of a node at a parity, and puts those whose label it lowers at the end of the queue.
     fn spread_from(
         &mut self,
         graph: &Graph,
         bits: &[bool],
-        position: Place,
-        queue: &mut Vec<Place>,
+        position: Labelled,
+        queue: &mut Vec<Labelled>,
     ) -> Result<(), AllocError> {
         let next = self.label(position.node, position.parity).saturating_add(1);
         for r in graph.edges_at(position.node) {
@@ -90,7 +91,7 @@ impl Labels {
         Ok(())
     }
 
-    fn lower(&mut self, position: Place, label: usize) {
+    fn lower(&mut self, position: Labelled, label: usize) {
         let side = if position.parity {
             self.odd.as_mut_slice()
         } else {
@@ -100,13 +101,6 @@ impl Labels {
             side[position.node] = label;
         }
     }
-}
-
-/// Entry k, 0 past the end.
-fn at(labels: &[usize], k: usize) -> usize
-    ensures value { result ≡ slice_index labels.now k }
-{
-    if k < labels.len() { labels[k] } else { 0 }
 }
 
 /// The labels from a source, none greater than a bound.
@@ -165,11 +159,4 @@ fn are_near(x: usize, y: usize) -> bool
     ensures yes { result ≡ true → AreNear x y }
 {
     x.abs_diff(y) <= 1
-}
-
-/// Bit k, false past the end.
-pub fn bit_at(bits: &[bool], k: usize) -> bool
-    ensures value { result ≡ slice_index_or bits.now k false }
-{
-    if k < bits.len() { bits[k] } else { false }
 }

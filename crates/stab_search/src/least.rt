@@ -1,6 +1,6 @@
 ghost use Rattle.std.specs.Prelude.{◌≡◌, length, IfOk, IfErr};
 ghost use Rattle.stab_io.specs.declared.refusal.Refusal.TheVariants.{OutOfMemory};
-ghost use Rattle.stab_search.specs.LogicalErrors.{IsAnswer, HasNoneWithin};
+ghost use Rattle.stab_search.specs.LogicalErrors.{IsLeastAnswer, HasNoneWithin};
 ghost use Rattle.stab_search.specs.Progress.{ReportsSearch};
 ghost use Rattle.stab_search.specs.inner.ReportedProgress.{ReportsAnswer};
 
@@ -25,7 +25,7 @@ pub fn least_logical_error<P: Progress>(
     most: usize,
     progress: &mut P,
 ) -> Result<Answer, Refusal>
-    ensures answer { IfOk result (IsAnswer table.now most) }
+    ensures answer { IfOk result (IsLeastAnswer table.now most) }
     ensures refusal { IfErr result (λ e. e ≡ OutOfMemory) }
     ensures reported { ReportsSearch (length table.now.rows) most (HasNoneWithin table.now) (P.heard progress.old) (P.heard progress.new) result }
 {
@@ -40,7 +40,7 @@ pub fn least_of<P: Progress>(
     most: usize,
     progress: &mut P,
 ) -> Result<Answer, Refusal>
-    ensures answer { IfOk result (IsAnswer table.now most) }
+    ensures answer { IfOk result (IsLeastAnswer table.now most) }
     ensures refusal { IfErr result (λ e. e ≡ OutOfMemory) }
     ensures reported { ReportsAnswer table.now most (P.heard progress.old) (P.heard progress.new) result }
 {

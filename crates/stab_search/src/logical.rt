@@ -2,7 +2,7 @@ ghost use Rattle.std.specs.Prelude.{◌≡◌, ℕ, ◌<◌, ◌≤◌, true, le
 ghost use Rattle.stab_search.specs.Ascending.{IsAscending};
 ghost use Rattle.stab_search.specs.LogicalErrors.{IsLogicalError};
 ghost use Rattle.stab_search.specs.Tables.{odd, flipped_by_rows};
-ghost use Rattle.stab_search.specs.inner.Lists.{Each};
+ghost use Rattle.stab_search.specs.inner.Lists.{ForEach};
 ghost use Rattle.stab_search.specs.inner.Shortest.{IsLogicalSet};
 
 use crate::merging::merge_into;
@@ -68,7 +68,7 @@ pub fn flipped_by(
     rows: &[Row],
     errors: &[usize],
 ) -> Result<Option<Vec<u32>>, AllocError>
-    ensures inside { IfOk result (λ a. IfSome a (λ v. Each (λ r. r < length rows.now) errors.now)) }
+    ensures inside { IfOk result (λ a. IfSome a (λ v. ForEach (λ r. r < length rows.now) errors.now)) }
     ensures ascending { IfOk result (λ a. IfSome a (λ v. IsAscending v.items)) }
     ensures odd { IfOk result (λ a. IfSome a (λ v. (i : ℕ) → odd i v.items ≡ flipped_by_rows rows.now errors.now i)) }
 {

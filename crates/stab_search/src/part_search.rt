@@ -1,8 +1,7 @@
 ghost use Rattle.std.specs.Prelude.{◌≡◌, length, IfOk, IfErr};
 ghost use Rattle.stab_io.specs.declared.refusal.Refusal.TheVariants.{OutOfMemory};
 ghost use Rattle.stab_search.specs.SearchParts.{IsPartAnswer};
-ghost use Rattle.stab_search.specs.declared.answer.Answer.TheVariants.{Least};
-ghost use Rattle.stab_search.specs.inner.ReportedProgress.{AreInside, IsInTable, IsFound, ReportsPart, ReportsSizes};
+ghost use Rattle.stab_search.specs.inner.ReportedProgress.{AreInside, IsInTable, IsPartFound, ReportsPart, ReportsSizes};
 
 use crate::answer::{Answer, Progress, Unwatched};
 use crate::digest::{EMPTY, with_errors};
@@ -11,7 +10,7 @@ use crate::existence::has_logical_error;
 use crate::kept::enough_of;
 use crate::search_part::{PartAnswer, SearchPart};
 use crate::sets::set_of;
-use crate::sizes::{Begun, first_in_part};
+use crate::sizes::{Found, first_in_part};
 use crate::table::Table;
 use stab_io::Refusal;
 use std::alloc::{AllocError, Global};
@@ -53,7 +52,7 @@ pub fn search_part<P: Progress>(
     let kept = enough_of(alloc, table)?;
     let mut errors = kept.errors;
     let digest = with_errors(EMPTY, &errors);
-    let found = find(alloc, &mut errors, part, most, progress)?;
+    let found = find(&mut errors, part, most, progress)?;
     let answer = in_table(alloc, found.answer, kept.numbers.as_slice())?;
     Ok(PartAnswer {
         digest,
@@ -61,14 +60,6 @@ pub fn search_part<P: Progress>(
         first: found.first,
         answer,
     })
-}
-
-/// What a part finds among errors that are enough, by their own numbers and in any order.
-#[derive(Drop)]
-pub struct Found {
-    pub last: usize,
-    pub first: usize,
-    pub answer: Answer,
 }
 
 /// The answer with the numbers of its errors in the table, in ascending order.
@@ -88,21 +79,20 @@ fn in_table(alloc: Global, found: Answer, numbers: &[usize]) -> Result<Answer, A
 
 /// What a part finds among these errors alone.
 fn find<P: Progress>(
-    alloc: Global,
     errors: &mut Errors,
     part: &SearchPart,
     most: usize,
     progress: &mut P,
 ) -> Result<Found, AllocError>
-    ensures reported { ReportsSizes part.now (record { table = errors.old.table; firsts = errors.old.firsts }) 0 (IsFound part.now (record { table = errors.old.table; firsts = errors.old.firsts }) most) (P.heard progress.old) (P.heard progress.new) result }
+    ensures reported { ReportsSizes part.now (record { table = errors.old.table; firsts = errors.old.firsts }) 0 (IsPartFound part.now (record { table = errors.old.table; firsts = errors.old.firsts }) most) (P.heard progress.old) (P.heard progress.new) result }
 {
     let end = most.min(errors.len());
     let middle = end.min(PLAIN_SIZES);
-    match first_in_part(alloc, errors, part, 0, middle, progress)? {
-        Some(begun) => return Ok(found_with(begun)),
+    match first_in_part(errors, part, 0, middle, progress)? {
+        Some(found) => return Ok(found),
         None => {}
     }
-    let exists = has_logical_error(alloc, errors)?;
+    let exists = has_logical_error(errors)?;
     if !exists {
         return Ok(Found {
             last: middle,
@@ -110,23 +100,13 @@ fn find<P: Progress>(
             answer: Answer::NoneAtAll,
         });
     }
-    errors.leave_out_pairs(alloc)?;
-    match first_in_part(alloc, errors, part, middle, end, progress)? {
-        Some(begun) => Ok(found_with(begun)),
+    errors.leave_out_pairs()?;
+    match first_in_part(errors, part, middle, end, progress)? {
+        Some(found) => Ok(found),
         None => Ok(Found {
             last: end,
             first: 0,
             answer: Answer::NoneWithin,
         }),
-    }
-}
-
-fn found_with(begun: Begun) -> Found
-    ensures value { result ≡ record { last = begun.last; first = begun.first; answer = Least begun.errors } }
-{
-    Found {
-        last: begun.last,
-        first: begun.first,
-        answer: Answer::Least(begun.errors),
     }
 }

@@ -16,7 +16,7 @@ pub fn set_of(alloc: Global, found: &[usize], numbers: &[usize]) -> Result<Vec<u
     Ok(set)
 }
 
-/// Puts row r in its place, or takes it out if it is there.
+/// Puts row r in, in order, or takes it out if it is there.
 fn toggle_row(set: &mut Vec<usize>, r: usize) -> Result<(), AllocError>
     ensures value { OnOk result (set.new.items ≡ toggle r set.old.items) }
 {

@@ -3,7 +3,7 @@ ghost use Rattle.stab_search.specs.inner.Labels.{AreCovered};
 
 use crate::edges::Edge;
 use crate::graph::Graph;
-use crate::labels::bit_at;
+use crate::index::bit_at;
 use std::alloc::{AllocError, Global};
 
 /// Nodes from which to search: of each edge that flips the observable one node, if it can be the boundary.

@@ -1,4 +1,4 @@
-//! Steps: in a circuit of rounds, what an error flips, with each detector in the place of the one a round later, is what another error flips.
+//! Steps: in a circuit of rounds, what an error flips, with each detector for the one a round later, is what another error flips.
 //!
 //! No proof rests on how a step is found: each error is checked.
 ghost use Rattle.std.specs.Prelude.{◌≡◌, ℕ, ◌<◌, true, length, slice_index};
@@ -6,16 +6,16 @@ ghost use Rattle.stab_search.specs.Ascending.{IsAscending};
 ghost use Rattle.stab_search.specs.inner.Steps.{lowered, AreLower, AreMoved, MovesDown, MoveDown};
 
 use crate::errors::Errors;
-use std::alloc::{AllocError, Global};
+use std::alloc::AllocError;
 
 /// Of how many errors it is tried whether a step moves them down.
 const TRIED: usize = 64;
 
-/// For each detector the one that takes its place, by the step that moves down the most of some errors, if it moves down most of these.
+/// For each detector the one that it moves to, by the step that moves down the most of some errors, if it moves down most of these.
 ///
-/// A step is a number of flipped detectors. A detector to which no other is so far keeps its place.
-pub(crate) fn find_step(alloc: Global, errors: &Errors) -> Result<Option<Vec<u32>>, AllocError> {
-    let flipped = flipped_by(alloc, errors)?;
+/// A step is a number of flipped detectors. A detector to which no other is so far does not move.
+pub(crate) fn find_step(errors: &Errors) -> Result<Option<Vec<u32>>, AllocError> {
+    let flipped = flipped_by(errors)?;
     let mut best = 0;
     let mut most = TRIED / 2;
     for step in 1..flipped.len() {
@@ -28,13 +28,13 @@ pub(crate) fn find_step(alloc: Global, errors: &Errors) -> Result<Option<Vec<u32
     if best == 0 {
         return Ok(None);
     }
-    let lower = lower_by(alloc, errors, flipped.as_slice(), best)?;
+    let lower = lower_by(errors, flipped.as_slice(), best)?;
     Ok(Some(lower))
 }
 
 /// The detectors that errors flip.
-fn flipped_by(alloc: Global, errors: &Errors) -> Result<Vec<u32>, AllocError> {
-    let mut flipped = Vec::new(alloc);
+fn flipped_by(errors: &Errors) -> Result<Vec<u32>, AllocError> {
+    let mut flipped = Vec::new(errors.alloc());
     for d in 0..u32::MAX {
         if d as usize >= errors.flipped_detectors() {
             break;
@@ -66,7 +66,7 @@ fn may_move(errors: &Errors, flipped: &[u32], numbers: &[u32], step: usize) -> b
     for d in errors.detectors_of(numbers) {
         match flipped.binary_search(d) {
             Ok(position) if position >= step && position < flipped.len() => {
-                key ^= errors.number(flipped[position - step] as usize);
+                key ^= errors.number(flipped[position - step]);
             }
             _ => return false,
         }
@@ -75,13 +75,8 @@ fn may_move(errors: &Errors, flipped: &[u32], numbers: &[u32], step: usize) -> b
 }
 
 /// For each detector the one a step below it, or itself if there is none.
-fn lower_by(
-    alloc: Global,
-    errors: &Errors,
-    flipped: &[u32],
-    step: usize,
-) -> Result<Vec<u32>, AllocError> {
-    let mut lower = Vec::with_capacity(alloc, errors.flipped_detectors())?;
+fn lower_by(errors: &Errors, flipped: &[u32], step: usize) -> Result<Vec<u32>, AllocError> {
+    let mut lower = Vec::with_capacity(errors.alloc(), errors.flipped_detectors())?;
     for d in 0..u32::MAX {
         if d as usize >= errors.flipped_detectors() {
             break;
@@ -96,17 +91,10 @@ fn lower_by(
     Ok(lower)
 }
 
-/// Errors in order: first, as many as `firsts`, those that a step does not move down.
-#[derive(Drop)]
-pub(crate) struct Order {
-    pub(crate) errors: Vec<usize>,
-    pub(crate) firsts: usize,
-}
-
 /// The errors that a step does not move down, and then the others.
-pub(crate) fn order_by(alloc: Global, errors: &Errors, lower: &[u32]) -> Result<Order, AllocError> {
-    let mut order = Vec::with_capacity(alloc, errors.len())?;
-    let mut moved = Vec::with_capacity(alloc, errors.len())?;
+pub(crate) fn order_by(errors: &Errors, lower: &[u32]) -> Result<Vec<usize>, AllocError> {
+    let mut order = Vec::with_capacity(errors.alloc(), errors.len())?;
+    let mut moved = Vec::with_capacity(errors.alloc(), errors.len())?;
     for r in 0..errors.len() {
         if moves_down(errors, r, lower) {
             moved.push(r)?;
@@ -114,31 +102,29 @@ pub(crate) fn order_by(alloc: Global, errors: &Errors, lower: &[u32]) -> Result<
             order.push(r)?;
         }
     }
-    let firsts = order.len();
     order.extend_from_slice(moved.as_slice())?;
-    Ok(Order {
-        errors: order,
-        firsts,
-    })
+    Ok(order)
 }
 
-/// Whether a step moves down each error from this number on.
-pub fn all_move_down(errors: &Errors, from: usize, lower: &[u32]) -> bool
-    ensures lower { result ≡ true → AreLower errors.now.table.detectors lower.now }
-    ensures yes { result ≡ true → MoveDown errors.now.table from lower.now }
+/// The number from which on a step moves down each error.
+pub fn moved_from(errors: &Errors, lower: &[u32]) -> usize
+    ensures lower { result < length errors.now.table.rows → AreLower errors.now.table.detectors lower.now }
+    ensures moved { MoveDown errors.now.table result lower.now }
 {
+    let mut from = errors.len();
     if !are_lower(errors.detectors(), lower) {
-        return false;
+        return from;
     }
-    'later: for r in from..errors.len() {
-        if !moves_down(errors, r, lower) {
-            return false;
+    'later: while from > 0 {
+        if !moves_down(errors, from - 1, lower) {
+            return from;
         }
+        from -= 1;
     }
-    true
+    from
 }
 
-/// Whether each place is one of a detector, and has a detector.
+/// Whether each number of a list is a detector, and has a detector in the list.
 fn are_lower(detectors: usize, lower: &[u32]) -> bool
     ensures yes { result ≡ true → AreLower detectors lower.now }
 {
@@ -173,7 +159,7 @@ fn key_below(errors: &Errors, numbers: &[u32], lower: &[u32]) -> u64
 {
     let mut key = 0;
     for d in errors.detectors_of(numbers) {
-        key ^= errors.number(lowered(lower, *d) as usize);
+        key ^= errors.number(lowered(lower, *d));
     }
     key
 }

@@ -82,7 +82,7 @@ fn add_error(built: &mut Parities, variable: usize, flipped: &[u32]) -> Result<(
     Ok(())
 }
 
-/// The parities of a table's errors, whose variables are 1 and so on. The variable after theirs is left free.
+/// The parities of a table's errors, whose variables are 1 and so on. The variable after theirs is left over.
 pub fn parities_of(alloc: Global, table: &Table) -> Result<Parities, AllocError>
     requires countable { length table.now.rows < 2 ^ 60 }
     ensures first { IfOk result (λ p. p.first ≡ length table.now.rows + 2) }

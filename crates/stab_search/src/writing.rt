@@ -2,7 +2,7 @@
 ghost use Rattle.std.specs.Prelude.{◌≡◌, ◌++◌, ◌+◌, ◌<◌, ◌^◌, codes, decimal, map, length};
 ghost use Rattle.std.specs.List.{flat_map, range_with_len};
 ghost use Rattle.stab_io.specs.Devices.{WritesAll};
-ghost use Rattle.stab_search.specs.Problems.{clause_text, head_text, literal_text, problem_text};
+ghost use Rattle.stab_search.specs.Problems.{clause_text, problem_head, literal_text, problem_text};
 ghost use Rattle.stab_search.specs.Questions.{without};
 ghost use Rattle.stab_search.specs.Made.{IsCountable, clauses_of, is_false, sum_clauses};
 
@@ -127,7 +127,7 @@ fn write_head<O: Output>(
     clauses: usize,
     top: usize,
 ) -> Result<(), Refusal>
-    ensures writes { WritesAll (O.seen out.old) (O.seen out.new) (head_text variables clauses top) result }
+    ensures writes { WritesAll (O.seen out.old) (O.seen out.new) (problem_head variables clauses top) result }
 {
     write_with(out, b"p wcnf ", variables)?;
     write_with(out, b" ", clauses)?;

@@ -1,5 +1,5 @@
 -- Conjugating: what a frame needs that is propagated over the steps after a span, and what is made of a recording then.
-use Rattle.stab_session.proofs.Names.{◌≡◌, ℕ, ◌+◌, ◌-◌, ◌^◌, ◌<◌, ◌≤◌, sym, ◌∙◌, ap, subst, Bool, List, [], ◌∷◌, length, take, drop, All, Some, get_or, arith, IfSome, length-append, length-drop, length-take, drop-take, All-drop, get_or_from_slice_get, take-add, Letter, TableauState, Step, Span, Lengths, Point, RunOutput, joined, origin, point_after, outputs, lengths_of, HasAtMost, outputs-short, cut, Checkpoint, IsCheckpoint, outputs-append, longer, AreBelow, PropagationState, AreInOrder, ArePropagatedCheckpoints, IsRestFrame, Recording, IsRecording, IsSpan, IsCount}
+use Rattle.stab_session.proofs.Names.{◌≡◌, ℕ, ◌+◌, ◌-◌, ◌^◌, ◌<◌, ◌≤◌, sym, ◌∙◌, ap, subst, Bool, List, [], ◌∷◌, length, take, drop, All, Some, get_or, arith, IfSome, length-append, length-drop, length-take, drop-take, All-drop, get_or_from_slice_get, take-add, Letter, TableauState, Step, Span, Lengths, Point, RunOutput, joined, origin, point_after, outputs, lengths_of, HasAtMost, outputs-short, cut, Checkpoint, IsCheckpoint, outputs-append, longer, AreBelow, PropagationState, AreInOrder, ArePropagatedCheckpoints, IsRestFrame, Recording, IsRecording, IsSpan, IsCheckpointCount}
 use Rattle.std.specs.Prelude.{slice_get}
 use Rattle.stab_session.proofs.SpacingLemmas.{IsBefore}
 use Rattle.stab_session.proofs.FollowLemmas.{at-get, before-first, same-rest, all-qubits}
@@ -29,7 +29,7 @@ module _ {n : ℕ} {coins : ℕ → Bool} {K : ℕ} {xs ys : List Step} {s : Spa
   following-qubits j k e = All-drop (λ c. c.tableau.qubits ≡ k) j old.checkpoints.items (all-qubits n coins K xs count old kept ys s span k e)
 
 module _ {n : ℕ} {coins : ℕ → Bool} {K : ℕ} {xs ys : List Step} {s : Span} {old : Recording} {m : ℕ} (count : ℕ) (kept : IsRecording n coins K xs count old) (span : IsSpan xs ys s)
-    (few : length ys ≤ 1048576) (counted : IsCount (s.first + 1) old.checkpoints.items m) where
+    (few : length ys ≤ 1048576) (counted : IsCheckpointCount (s.first + 1) old.checkpoints.items m) where
   abbrev pub before : IsBefore K (length xs) s.first m old.checkpoints.items
   before = before-first n coins K xs count old kept ys s span m counted.within counted.before counted.following
 

@@ -1,5 +1,5 @@
 -- The course of an edit that is followed: from what each call ensures to what is kept at the end.
-use Rattle.stab_session.proofs.Names.{◌≡◌, ℕ, ◌+◌, ◌-◌, ◌*◌, ◌^◌, ◌<◌, ◌≤◌, inl, Some, max, sym, ◌∙◌, ap, subst, Bool, false, List, [], length, take, drop, All, None, replicate, arith, IfSome, length-drop, slice_get_within, same_Some, IfSome_then, Step, HasDistinctQubits, Checkpoint, Replay, Plan, End, Last, Joined, Recording, Span, coins-steps, Prepared, Rest, ones, RunOutput, all_coins_of, with_additions, EndsAt, IsCounted, StepFits, output_of, PivotsState, checkpoint_steps, moved, IsOldRun, IsRecording, IsSameRecording, Follows, AgreeAfterSpan, AgreeBackAfterSpan, IsReplay, Ascending, IsEnd, MeetsAt, EndsSoon, IsCount, Begins, HasCheckpoint, IsRest, IsOldRest, IsPrepared, IsCommitted, checkpoints_after, conjugated_end}
+use Rattle.stab_session.proofs.Names.{◌≡◌, ℕ, ◌+◌, ◌-◌, ◌*◌, ◌^◌, ◌<◌, ◌≤◌, inl, Some, max, sym, ◌∙◌, ap, subst, Bool, false, List, [], length, take, drop, All, None, replicate, arith, IfSome, length-drop, slice_get_within, same_Some, IfSome_then, Step, HasDistinctQubits, Checkpoint, Replay, Plan, End, Last, Joined, Recording, Span, coins-steps, Prepared, Rest, ones, RunOutput, all_coins_of, with_additions, EndsAt, IsCounted, StepFits, output_of, PivotsState, checkpoint_steps, moved, IsOldRun, IsRecording, IsSameRecording, Follows, AgreeAfterSpan, AgreeBackAfterSpan, IsReplay, Ascending, IsEnd, MeetsAt, EndsSoon, IsCheckpointCount, Begins, HasCheckpoint, IsRest, IsOldRest, IsPrepared, IsCommitted, checkpoints_after, conjugated_end}
 use Rattle.std.specs.Prelude.{slice_get}
 use Rattle.stab_session.proofs.SpacingLemmas.{IsBefore}
 use Rattle.stab_session.proofs.StateLemmas.{checkpoints-long}
@@ -8,8 +8,8 @@ use Rattle.stab_session.proofs.SpliceLemmas.{kept-end, end-flags}
 use Rattle.stab_session.proofs.CountLemmas.{applied-within, few-steps, stop-ends, next-beyond, met-agrees, none-before, is-counted}
 
 pub count-of : (step : ℕ) (seen checkpoints : List Checkpoint) (m : ℕ) → seen ≡ checkpoints → m ≤ length seen → All (λ c. c.step < step) (take m seen)
-    → IfSome (slice_get seen m) (λ c. step ≤ c.step) → IsCount step checkpoints m
-count-of step seen checkpoints m is within before following = subst (λ cs. IsCount step cs m) is (record { within = within; before = before; following = following })
+    → IfSome (slice_get seen m) (λ c. step ≤ c.step) → IsCheckpointCount step checkpoints m
+count-of step seen checkpoints m is within before following = subst (λ cs. IsCheckpointCount step cs m) is (record { within = within; before = before; following = following })
 
 same-trans : (a b c : Recording) → IsSameRecording a b → IsSameRecording b c → IsSameRecording a c
 same-trans a b c f g = record {
@@ -93,7 +93,7 @@ pub record HasEnded (n : ℕ) (coins : ℕ → Bool) (K : ℕ) (ys : List Step) 
   pub ready : (mid : Recording) → IsSameRecording mid old → (observables : ℕ) (q : Prepared) → IsPrepared mid r observables end q → IsReady n coins K ys m r mid observables q
 
 module _ {n : ℕ} {coins : ℕ → Bool} {K : ℕ} {ys : List Step} {s : Span} {old : Recording} (f : Follows n coins K ys s None old) (few : length ys ≤ 1048576)
-    {m : ℕ} (count : IsCount (s.first + 1) old.checkpoints.items m) where
+    {m : ℕ} (count : IsCheckpointCount (s.first + 1) old.checkpoints.items m) where
   near : IsBefore K (length f.old) s.first m old.checkpoints.items
   near = before-first n coins K f.old f.count old f.kept ys s f.span m count.within count.before count.following
 
@@ -133,7 +133,7 @@ module _ {n : ℕ} {coins : ℕ → Bool} {K : ℕ} {ys : List Step} {s : Span} 
       let from = near.near in
       omega (arith, asked, step, from, coins-steps (drop r.step r.cursor.all), length-drop r.step r.cursor.all, ap length begins.all)
 
-  module _ {r0 : Replay} (begins : HasBegun n coins K ys old m r0) {e : ℕ} (following : IsCount s.old_end old.checkpoints.items e) (p : Plan)
+  module _ {r0 : Replay} (begins : HasBegun n coins K ys old m r0) {e : ℕ} (following : IsCheckpointCount s.old_end old.checkpoints.items e) (p : Plan)
       (old_end : p.old_end ≡ s.old_end) (new_end : p.new_end ≡ s.new_end) (total : p.total ≡ length ys) (next : p.next ≡ max e m) (window : p.window ≡ old.window) where
     step_is : r0.step ≡ near.checkpoint.step
     step_is = some-at (λ c. r0.step ≡ c.step) old.checkpoints.items (m - 1) near.checkpoint near.here begins.at

@@ -1,5 +1,5 @@
 -- What a propagated frame says: from what was made of a recording to the run of the new steps.
-use Rattle.stab_session.proofs.Names.{◌≡◌, ℕ, ◌+◌, ◌-◌, ◌^◌, ◌<◌, ◌≤◌, refl, sym, ◌∙◌, ap, subst, Bool, List, [], ◌∷◌, ◌++◌, length, take, drop, All, Option, Some, None, arith, IfSome, All-append, All-drop, All-take, Letter, Step, Span, Lengths, ones, RunOutput, origin, joined, point_after, outputs, lengths_of, front_of, rest_of, StepFits, output_of, flipped_output, unflipped, pivot_at, Checkpoint, IsCheckpoint, checkpoint_steps, Near, last_of, moved, moved_lengths, HasAtMost, outputs-short, length-take, KeepsPivots, DifferByPaulis, DifferAtPlaces, IsFrameBetween, IsBeforePlaces, PauliChange, Recording, PastPlaces, Conjugating, Followed, IsRecording, IsSpan, Follows, IsCount, conjugated_end, StaysNear, IsPastPlaces, IsConjugating, IsPut, HasConjugated, span_meeting, checkpoints_conjugated, no_lengths}
+use Rattle.stab_session.proofs.Names.{◌≡◌, ℕ, ◌+◌, ◌-◌, ◌^◌, ◌<◌, ◌≤◌, refl, sym, ◌∙◌, ap, subst, Bool, List, [], ◌∷◌, ◌++◌, length, take, drop, All, Option, Some, None, arith, IfSome, All-append, All-drop, All-take, Letter, Step, Span, Lengths, ones, RunOutput, origin, joined, point_after, outputs, lengths_of, front_of, rest_of, StepFits, output_of, flipped_output, unflipped, pivot_at, Checkpoint, IsCheckpoint, checkpoint_steps, Near, last_of, moved, moved_lengths, HasAtMost, outputs-short, length-take, KeepsPivotList, DifferByPaulis, DifferAtSites, IsFrameBetween, IsBeforeSites, PauliChange, Recording, PastSites, Conjugating, Followed, IsRecording, IsSpan, Follows, IsCheckpointCount, conjugated_end, StaysNear, IsPastSites, IsConjugating, IsPutInPlace, HasConjugated, span_meeting, checkpoints_conjugated, no_lengths}
 use Rattle.std.specs.Prelude.{slice_get}
 use Rattle.stab_session.proofs.FrameBetweenLemmas.{between-first}
 use Rattle.stab_session.proofs.PauliSpanLemmas.{span-near, span-true, span-true-all, span-flags}
@@ -24,9 +24,9 @@ stay-long k o few short = λ i. record {
     stay x lt = omega (arith, lt)
 
 module _ {coins : ℕ → Bool} {K : ℕ} {xs ys : List Step} {s : Span} {change : PauliChange} {old : Recording} {m j : ℕ} (count : ℕ) (kept : IsRecording old.tableau.qubits coins K xs count old)
-    (span : IsSpan xs ys s) (few : length ys ≤ 1048576) (counted : IsCount (s.first + 1) old.checkpoints.items m)
+    (span : IsSpan xs ys s) (few : length ys ≤ 1048576) (counted : IsCheckpointCount (s.first + 1) old.checkpoints.items m)
     (differ : DifferByPaulis old.tableau.qubits xs ys s change.string.letters change.old change.new change.gaps.items) (fits : All (StepFits old.tableau.qubits) ys)
-    (following : IfSome (slice_get old.checkpoints.items j) (λ c. s.old_end ≤ c.step)) (p : PastPlaces) (passed : IsPastPlaces ys s m j change old p.from p.propagation p.checkpoints.items)
+    (following : IfSome (slice_get old.checkpoints.items j) (λ c. s.old_end ≤ c.step)) (p : PastSites) (passed : IsPastSites ys s m j change old p.from p.propagation p.checkpoints.items)
     (t : Conjugating) (conjugating : IsConjugating ys s j p old t) where
   abbrev n : ℕ
   n = old.tableau.qubits
@@ -48,8 +48,8 @@ module _ {coins : ℕ → Bool} {K : ℕ} {xs ys : List Step} {s : Span} {change
       from-is count kept span few counted (before count kept span few counted).checkpoint (before count kept span few counted).here p.from
       (some-at _ old.checkpoints.items (m - 1) (before count kept span few counted).checkpoint (before count kept span few counted).here passed.from_is)
 
-  at_places : DifferAtPlaces n xs ys s change
-  at_places = record {
+  at_sites : DifferAtSites n xs ys s change
+  at_sites = record {
     old_order = span.old_order;
     new_order = span.new_order;
     old_within = span.old_within;
@@ -60,10 +60,10 @@ module _ {coins : ℕ → Bool} {K : ℕ} {xs ys : List Step} {s : Span} {change
     differ = differ;
   }
 
-  begins : IsBeforePlaces n coins xs ys pivots free base (unflipped front) s change (drop s.first ys) passed.start
+  begins : IsBeforeSites n coins xs ys pivots free base (unflipped front) s change (drop s.first ys) passed.start
   begins = record {
     left_is = refl;
-    differ = at_places;
+    differ = at_sites;
     between =
         between-first n coins xs ys pivots free s.first (ones (take p.from.free free)) p.from passed.start kept.fits fits (let o = span.old_order in let w = span.old_within in omega arith)
         (let o = span.new_order in let w = span.new_within in omega arith) span.before from_is passed.begins
@@ -141,7 +141,7 @@ module _ {coins : ℕ → Bool} {K : ℕ} {xs ys : List Step} {s : Span} {change
     moved_checkpoints =
         subst (λ cs. All (IsCheckpoint n coins ys) (cs ++ checkpoints_conjugated s t.rest.conjugated.items (drop j old.checkpoints.items))) (sym conjugating.passed) checkpoints;
     has_pivots =
-        subst (λ (o : RunOutput). KeepsPivots n coins ys old.strings o.free old.window) (sym output_is)
+        subst (λ (o : RunOutput). KeepsPivotList n coins ys old.strings o.free old.window) (sym output_is)
         (run-has_pivots n coins xs ys (drop s.new_end ys) s.old_end s.new_end old.strings free old.window (drop j old.checkpoints.items) t.rest.conjugated.items
         (output_of old.outputs) p.from p.propagation t.rest.propagation run);
     distinct = rest-differs advanced;
@@ -155,10 +155,10 @@ end-following s total (Some c) within few = omega (arith, within, few)
 
 -- so the run was conjugated
 pub has-conjugated-here : {coins : ℕ → Bool} {K : ℕ} {ys : List Step} {s : Span} {change : PauliChange} {old : Recording} {m j : ℕ} (f : Follows old.tableau.qubits coins K ys s (Some change) old)
-    → length ys ≤ 1048576 → IsCount (s.first + 1) old.checkpoints.items m → AreInside s old.checkpoints.items m j → (c : Checkpoint) → slice_get old.checkpoints.items (m - 1) ≡ Some c
-    → (p : PastPlaces) → IsPastPlaces ys s m j change old p.from p.propagation p.checkpoints.items → (last : ℕ) → Near K (c.step ∷ checkpoint_steps p.checkpoints.items)
+    → length ys ≤ 1048576 → IsCheckpointCount (s.first + 1) old.checkpoints.items m → AreInside s old.checkpoints.items m j → (c : Checkpoint) → slice_get old.checkpoints.items (m - 1) ≡ Some c
+    → (p : PastSites) → IsPastSites ys s m j change old p.from p.propagation p.checkpoints.items → (last : ℕ) → Near K (c.step ∷ checkpoint_steps p.checkpoints.items)
     → last_of c.step (checkpoint_steps p.checkpoints.items) ≡ last → StaysNear K s (length ys) last (slice_get old.checkpoints.items j)
-    → (t : Conjugating) → IsConjugating ys s j p old t → (new : Recording) → IsPut old m K t new → All (StepFits old.tableau.qubits) ys → (g : Followed)
+    → (t : Conjugating) → IsConjugating ys s j p old t → (new : Recording) → IsPutInPlace old m K t new → All (StepFits old.tableau.qubits) ys → (g : Followed)
     → (g.applied + g.by_frame) + c.step ≡ conjugated_end s (length ys) (slice_get old.checkpoints.items (j + length t.rest.conjugated.items))
     → HasConjugated old.tableau.qubits coins K ys (length old.observables.items) s old g new
 has-conjugated-here {coins} {K} {ys} {s} {change} {old} {m} {j} f few counted inside c here p passed last close last_is stays t conjugating new put fits g took =

@@ -1,5 +1,5 @@
 -- Edited sessions: from an edit that was begun and run to the statement of the session, and to what the edit cost.
-use Rattle.stab_session.proofs.Names.{◌≡◌, ◌≤◌, ℕ, ◌+◌, ◌-◌, ◌*◌, sym, ◌∙◌, ap, subst, arith, Bool, List, [], ◌∷◌, length, take, drop, All, None, Result, Ok, slice_get, Refusal, OutOfMemory, Fault, whole, IsCallFault, OneItem, listed, entries, Step, unroll, observables_of, check_within, HasDistinctQubits, edit_path, edited, verdict, put_item, first_changed, old_end, new_end, entries-listed, Recording, Span, Edit, Pending, run, start, origin, point_after, point_of, AgreeAt, SessionState, IsEditedBy, steps_of_item, steps_from_change, steps_after, unless_refused, most_refused_asks, steps_put, steps_near_change, most_tried, check-steps, check-whole, IsCountOf, AgreeAfter, AgreeBackAfter, IsCounted, AgreeAsFarAsLooked, session_of, IsRecorded, finished, IsBegun, IsRecording, AgreeAfterSpan, AgreeBackAfterSpan, run-state, Repeat, AreRepeats}
+use Rattle.stab_session.proofs.Names.{◌≡◌, ◌≤◌, ℕ, ◌+◌, ◌-◌, ◌*◌, sym, ◌∙◌, ap, subst, arith, Bool, List, [], ◌∷◌, length, take, drop, All, None, Result, Ok, slice_get, Refusal, OutOfMemory, Fault, whole, IsCallFault, OneItem, listed, entries, Step, unroll, observables_of, check_within, HasDistinctQubits, edit_path, edited, verdict, put_item, first_changed, old_end, new_end, entries-listed, Recording, Span, Edit, Pending, run, start, origin, point_after, point_of, AgreeAt, SessionState, IsEditedBy, steps_of_item, steps_from_change, steps_after, unless_refused, most_refused_asks, steps_put, steps_near_change, most_tried, check-steps, check-whole, IsCountOf, AgreeAfter, AgreeBackAfter, IsCounted, AgreeAsFarAsLooked, session_of, IsRecorded, finished_items, IsBegun, IsRecording, AgreeAfterSpan, AgreeBackAfterSpan, run-state, Repeat, AreRepeats}
 use Rattle.stab_session.proofs.SessionLemmas.{session-recorded}
 use Rattle.stab_session.proofs.PendingLemmas.{verdict-checked}
 use Rattle.stab_session.proofs.SpanLemmas.{put-within}
@@ -73,7 +73,7 @@ module _ {C : Type 0} (sequence : C → ℕ → Bool) (e : Edit) (s : SessionSta
       ∙ ap (steps_after (first_changed e old) s.stride) b.edited in
       omega (arith, asked, most, stride, b.span.first, ap length b.same_runs.steps)
 
-  module _ (new : List OneItem) (ahead : finished pending mid ≡ Ok new) (stride : ℕ) (coins : C) (run : Recording) (same_stride : stride ≡ s.stride) (same_coins : sequence coins ≡ sequence s.coins)
+  module _ (new : List OneItem) (ahead : finished_items pending mid ≡ Ok new) (stride : ℕ) (coins : C) (run : Recording) (same_stride : stride ≡ s.stride) (same_coins : sequence coins ≡ sequence s.coins)
       (is : IsRecording n (sequence s.coins) stride (unroll (listed mid)) (observables_of (listed mid)) run) where
     new-is : b.new ≡ new
     new-is = ok_same b.new new (sym b.ahead ∙ ahead)

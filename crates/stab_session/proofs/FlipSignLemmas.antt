@@ -1,5 +1,5 @@
 -- Conjugated runs: what is kept once a frame conjugated a run where it lies is the run of the new steps, and this many steps were followed for it.
-use Rattle.stab_session.proofs.Names.{◌≡◌, ℕ, zero, suc, ◌+◌, ◌-◌, ◌*◌, ◌<◌, ◌≤◌, inl, inr, refl, sym, ◌∙◌, ap, subst, Bool, false, List, [], ◌∷◌, ◌++◌, length, max, take, drop, map, All, Option, Some, None, arith, IfSome, MatchOption, cases_lt, drop-drop, All-append, All-drop, All-head, All-nil, All-weaker, take-add, with_sign, strings_anticommute, member, TableauState, stabilises, IsConjugated, Step, looks_too_far, Span, Lengths, Point, RunOutput, origin, joined, point_after, outputs, looked_up, ones, AgreeAt, StepFits, output_of, front_of, rest_of, AgreeBack, with_coin, flags-are-coins, front-output, records-are-records, flipped_output, PivotsState, LooksWithin, PropagationState, Checkpoint, IsCheckpoint, checkpoint_steps, moved, moved_checkpoint, all_saved, IsSpaced, Near, last_of, Plan, KeepsPivots, Misses, EndsSoon, step_among_new, Recording, Followed, Conjugating, EndsAt, IsCounted, IsRecording, IsSpan, AgreeAfterSpan, AgreeBackAfterSpan, IsCount, conjugated_end, StaysNear, IsPut, HasConjugated, span_meeting, checkpoints_conjugated, same-future, MayHaveCoin, with_states}
+use Rattle.stab_session.proofs.Names.{◌≡◌, ℕ, zero, suc, ◌+◌, ◌-◌, ◌*◌, ◌<◌, ◌≤◌, inl, inr, refl, sym, ◌∙◌, ap, subst, Bool, false, List, [], ◌∷◌, ◌++◌, length, max, take, drop, map, All, Option, Some, None, arith, IfSome, MatchOption, cases_lt, drop-drop, All-append, All-drop, All-head, All-nil, All-weaker, take-add, with_sign, strings_anticommute, member, TableauState, stabilises, IsConjugated, Step, looks_too_far, Span, Lengths, Point, RunOutput, origin, joined, point_after, outputs, looked_up, ones, AgreeAt, StepFits, output_of, front_of, rest_of, AgreeBack, with_coin, flags-are-coins, front-output, records-are-records, flipped_output, PivotsState, LooksWithin, PropagationState, Checkpoint, IsCheckpoint, checkpoint_steps, moved, moved_checkpoint, all_saved, IsSpaced, Near, last_of, Plan, KeepsPivotList, Misses, EndsSoon, step_among_new, Recording, Followed, Conjugating, EndsAt, IsCounted, IsRecording, IsSpan, AgreeAfterSpan, AgreeBackAfterSpan, IsCheckpointCount, conjugated_end, StaysNear, IsPutInPlace, HasConjugated, span_meeting, checkpoints_conjugated, same-future, MayHaveCoin, with_states}
 use Rattle.std.specs.Prelude.{slice_get}
 use Rattle.stab_recording.proofs.RecordedReplayLemmas.{near-enough}
 use Rattle.stab_recording.proofs.CutLemmas.{get-drop}
@@ -15,7 +15,7 @@ pub record DeterminesRun (n : ℕ) (coins : ℕ → Bool) (xs ys : List Step) (s
   pub output : outputs n coins ys origin ≡ joined (front_of from o) (flipped_output (rest_of from o) (record w.flips { free = [] }))
   pub group : IsConjugated n w.letters (member (point_after n coins xs origin).trace) (member (point_after n coins ys origin).trace)
   pub moved_checkpoints : All (IsCheckpoint n coins ys) (passed ++ checkpoints_conjugated s conjugated checkpoints)
-  pub has_pivots : KeepsPivots n coins ys strings (outputs n coins ys origin).free window
+  pub has_pivots : KeepsPivotList n coins ys strings (outputs n coins ys origin).free window
   pub distinct : (k : ℕ) (c : Checkpoint) → k < length conjugated → slice_get checkpoints k ≡ Some c
       → AgreeAt n (point_after n coins (take c.step xs) origin) (point_after n coins (take (s.new_end + (c.step - s.old_end)) ys) origin) → ⊥
   pub agree : (c : Checkpoint) → slice_get checkpoints (length conjugated) ≡ Some c
@@ -76,7 +76,7 @@ first-among (suc m) k place end [] some within among following = absurd (omega (
 first-among (suc m) k place end (c ∷ cs) some within among following = first-among m k place end cs some (omega (arith, within)) among following
 
 -- so none of them is at the end, or there are none
-before-end : (s : Span) (checkpoints : List Checkpoint) (m k : ℕ) → AreInside s checkpoints m k → IsCount (s.first + 1) checkpoints m
+before-end : (s : Span) (checkpoints : List Checkpoint) (m k : ℕ) → AreInside s checkpoints m k → IsCheckpointCount (s.first + 1) checkpoints m
     → (e : ℕ) × All (λ c. c.step < s.old_end) (take e checkpoints) × (k ≡ max e m)
 before-end s checkpoints m k inside counted =
     elim (cases_lt m k) [
@@ -96,7 +96,7 @@ before-end s checkpoints m k inside counted =
         inside.among)
 
 module _ {n : ℕ} {coins : ℕ → Bool} {K : ℕ} {xs ys : List Step} {s : Span} {old : Recording} (count : ℕ) (kept : IsRecording n coins K xs count old) (span : IsSpan xs ys s)
-    (few : length ys ≤ 1048576) (m j : ℕ) (counted : IsCount (s.first + 1) old.checkpoints.items m) (inside : AreInside s old.checkpoints.items m j) (t : Conjugating)
+    (few : length ys ≤ 1048576) (m j : ℕ) (counted : IsCheckpointCount (s.first + 1) old.checkpoints.items m) (inside : AreInside s old.checkpoints.items m j) (t : Conjugating)
     (determines : DeterminesRun n coins xs ys s (drop j old.checkpoints.items) (output_of old.outputs) old.strings old.window t.from t.rest.propagation t.passed.items t.rest.conjugated.items)
     (number : t.rest.number ≡ j) (meeting : t.rest.meeting ≡ span_meeting s) where
   abbrev pub near : IsBefore K (length xs) s.first m old.checkpoints.items
@@ -109,7 +109,7 @@ module _ {n : ℕ} {coins : ℕ → Bool} {K : ℕ} {xs ys : List Step} {s : Spa
   is-checkpoint k c here = at-get (IsCheckpoint n coins xs) old.checkpoints.items k c kept.checkpoints here
 
   -- what is kept is the run of the new steps
-  pub conjugated-kept : (new : Recording) (last : ℕ) → IsPut old m K t new → Near K (near.checkpoint.step ∷ checkpoint_steps t.passed.items)
+  pub conjugated-kept : (new : Recording) (last : ℕ) → IsPutInPlace old m K t new → Near K (near.checkpoint.step ∷ checkpoint_steps t.passed.items)
       → last_of near.checkpoint.step (checkpoint_steps t.passed.items) ≡ last → StaysNear K s (length ys) last (slice_get old.checkpoints.items j) → All (StepFits n) ys
       → IsRecording n coins K ys (length old.observables.items) new
   conjugated-kept new last put close last_is stays fits = record {
@@ -125,7 +125,7 @@ module _ {n : ℕ} {coins : ℕ → Bool} {K : ℕ} {xs ys : List Step} {s : Spa
     fits = fits;
     few = few;
     has_pivots =
-        subst (λ x. x) (λ i. KeepsPivots n coins ys (sym put.strings i) (sym (put.output ∙ sym determines.output) i).free (sym put.window i)) determines.has_pivots;
+        subst (λ x. x) (λ i. KeepsPivotList n coins ys (sym put.strings i) (sym (put.output ∙ sym determines.output) i).free (sym put.window i)) determines.has_pivots;
     few_strings = omega (arith, ap (λ (s : PivotsState). s.most) put.strings, kept.few_strings);
     checkpoints =
         subst (All (IsCheckpoint n coins ys)) (sym put_checkpoints)
@@ -276,7 +276,7 @@ module _ {n : ℕ} {coins : ℕ → Bool} {K : ℕ} {xs ys : List Step} {s : Spa
           ends = before-end s old.checkpoints.items m j inside counted
 
     -- so the run was conjugated
-    pub has-conjugated : (new : Recording) → IsPut old m K t new → Near K (near.checkpoint.step ∷ checkpoint_steps t.passed.items)
+    pub has-conjugated : (new : Recording) → IsPutInPlace old m K t new → Near K (near.checkpoint.step ∷ checkpoint_steps t.passed.items)
         → last_of near.checkpoint.step (checkpoint_steps t.passed.items) ≡ last → All (StepFits n) ys → (f : Followed)
         → IfSome (slice_get old.checkpoints.items (m - 1)) (λ c. (f.applied + f.by_frame) + c.step ≡ conjugated_end s (length ys) stop)
         → HasConjugated n coins K ys (length old.observables.items) s old f new

@@ -1,5 +1,5 @@
 -- Following an edit: where a replay of the new steps begins, which old checkpoints it may meet, and what is kept of its end.
-use Rattle.stab_session.proofs.Names.{◌≡◌, ℕ, ◌+◌, ◌-◌, ◌^◌, ◌<◌, ◌≤◌, reverse, refl, sym, ◌∙◌, ap, subst, Bool, List, [], ◌∷◌, ◌++◌, length, take, drop, get_or, All, Option, Some, None, arith, IfSome, take-map, length-drop, get_or-drop, All-weaker, All-take, All-nil, get_or_from_slice_get, slice_get_within, slice_get-map, IfSome_then, TableauState, Step, Checkpoint, Replay, Plan, End, Last, Joined, Recording, Span, Prepared, Rest, ones, RunOutput, origin, joined, outputs, replicate, I, program_state, output_of, Near, IsSpaced, last_of, front_of, rest_of, IsRunFromStart, IsCheckpoint, checkpoint_steps, all_saved, PivotsState, IsRecording, IsSameRecording, IsSpan, KeepsPivots, IsSpliced, IsReplay, Ascending, Begins, IsRest, IsOldRest, IsPrepared, IsCommitted, IsTableauAfter, checkpoints_after, front-output}
+use Rattle.stab_session.proofs.Names.{◌≡◌, ℕ, ◌+◌, ◌-◌, ◌^◌, ◌<◌, ◌≤◌, reverse, refl, sym, ◌∙◌, ap, subst, Bool, List, [], ◌∷◌, ◌++◌, length, take, drop, get_or, All, Option, Some, None, arith, IfSome, take-map, length-drop, get_or-drop, All-weaker, All-take, All-nil, get_or_from_slice_get, slice_get_within, slice_get-map, IfSome_then, TableauState, Step, Checkpoint, Replay, Plan, End, Last, Joined, Recording, Span, Prepared, Rest, ones, RunOutput, origin, joined, outputs, replicate, I, program_state, output_of, Near, IsSpaced, last_of, front_of, rest_of, IsRunFromStart, IsCheckpoint, checkpoint_steps, all_saved, PivotsState, IsRecording, IsSameRecording, IsSpan, KeepsPivotList, IsSpliced, IsReplay, Ascending, Begins, IsRest, IsOldRest, IsPrepared, IsCommitted, IsTableauAfter, checkpoints_after, front-output}
 use Rattle.std.specs.Prelude.{IsSomeAnd, option_map, slice_get}
 use Rattle.stab_recording.proofs.RecordedReplayLemmas.{has_pivots-front}
 use Rattle.stab_recording.proofs.PointLemmas.{take-same, checkpoint-before, begun-from-start}
@@ -102,9 +102,9 @@ module _ (n : ℕ) (coins : ℕ → Bool) (K : ℕ) (xs : List Step) (count : �
           (begins.output ∙ ap (front_of c.lengths) kept.run.output));
       scratch = begins.scratch ∙ kept.qubits;
       has_pivots =
-          subst (λ zs. KeepsPivots n coins zs r.pivots.strings r.outputs.free.items r.pivots.window)
+          subst (λ zs. KeepsPivotList n coins zs r.pivots.strings r.outputs.free.items r.pivots.window)
           (take-same c.step s.first xs ys le span.before ∙ ap (λ k. take k ys) (sym begins.step))
-          (subst (KeepsPivots n coins (take c.step xs) r.pivots.strings r.outputs.free.items) (sym begins.window)
+          (subst (KeepsPivotList n coins (take c.step xs) r.pivots.strings r.outputs.free.items) (sym begins.window)
           (has_pivots-front n coins xs old.strings old.outputs.free.items old.window kept.has_pivots (ap (λ (o : RunOutput). o.free) kept.run.output) c.step r.pivots.strings
           r.outputs.free.items flags begins.strings));
     };

@@ -1,8 +1,8 @@
 -- A frame between two runs: it passes steps that both have, past Pauli gates that are in the one or the other, and conjugates checkpoints.
 use Rattle.stab_session.proofs.Names.{◌≡◌, ℕ, ◌+◌, ◌≤◌, refl, sym, ◌∙◌, ap, subst, Bool, false, List, ◌++◌, append-nil, All, length, map, take, drop, replicate, Option, arith, drop-drop, drop_at, take_at, take-append-drop, length-append, length-drop, replicate-append-replicate, All-take, All-drop, take-add, Letter, I, with_sign, strings_anticommute, string_product, TableauState, stabilises, member, IsConjugated, Step, one, Lengths, gate_of, Point, RunOutput, nothing, origin, joined, point_after, outputs, all_coins_of, StepFits, lengths_of, after-append, outputs-append, joined-assoc, joined-nothing, flags-are-coins, coins-are, flipped_output, unflipped, Matches, PointsDifferBy, frame_of, identity_frame, AreFronts, frame_over, flips_over, AreTrue, same_coins, letters_on, AreEnough, PropagationState, frame_at, PropagatesOver, fronts-go-on, fronts-take-paulis, same-lengths, gates-fit, unflipped-output, unflipped-matches, by_frame-same, by_frame-paulis, by_frame-exchanged, true-rest, Checkpoint, IsCheckpoint, AreEnoughBy, ArePaulis, IsFrameBetween}
-use Rattle.stab_recording.proofs.FlippedLemmas.{flips-free}
+use Rattle.stab_recording.proofs.FlippedLemmas.{flips-random}
 use Rattle.stab_recording.proofs.RestPropagatedLemmas.{flags-counted, rest-flags}
-use Rattle.stab_session.proofs.SamePivotsLemmas.{IsReached, reached-on, pivots-distinct, flags-distinct, gates-free}
+use Rattle.stab_session.proofs.SamePivotsLemmas.{IsReached, reached-on, pivots-distinct, flags-distinct, gates-random}
 
 -- the steps of a run up to a step are some, if this many of those after another step are
 
@@ -77,7 +77,7 @@ module _ {n : ℕ} {coins : ℕ → Bool} {xs ys : List Step} {strings : ℕ →
       flagged = b.flagged + all_coins_of piece;
       unflagged =
           ap (λ (o : RunOutput). o.free) (propagated.flips base)
-          ∙ (λ i. b.unflagged i ++ flips-free n (same_coins strings) piece w.coin (frame_at base w) i)
+          ∙ (λ i. b.unflagged i ++ flips-random n (same_coins strings) piece w.coin (frame_at base w) i)
           ∙ replicate-append-replicate b.flagged (all_coins_of piece) false;
     }
 
@@ -132,7 +132,7 @@ module _ {n : ℕ} {coins : ℕ → Bool} {xs ys : List Step} {strings : ℕ →
       flags =
           (λ i. (outputs n coins (rest_is i) (there i)).free)
           ∙ flags-distinct n coins (point_after n coins (map (one (gate_of m)) rs) here) (point_after n coins (map (one (gate_of l)) qs) here) _ new_rest rest_fits following distinct
-          ∙ sym (gates-free n coins m rs new_rest here)
+          ∙ sym (gates-random n coins m rs new_rest here)
           ∙ ap (λ zs. (outputs n coins zs here).free) (sym new_there)
           ∙ b.flags;
       flagged = b.flagged;

@@ -9,7 +9,7 @@ mod LengthLemmas
 pub mod SamePivotsLemmas
 pub mod PauliSpanLemmas
 pub mod FrameBetweenLemmas
-mod PlaceLemmas
+mod PastSiteLemmas
 pub mod PropagatedRunLemmas
 mod RecordedLemmas
 mod FollowLemmas

@@ -9,28 +9,28 @@ pub use Rattle.std.proofs.lemmas.List.{take-append-drop, drop-drop, length-take-
 pub use Rattle.std.proofs.lemmas.List.Elements.{All-drop, All-head, All-tail, All-weaker, All-get_or, All-take, All-append, All-nil, All-cons, All-map}
 pub use Rattle.std.proofs.lemmas.Option.{get_or_from_slice_get, slice_get-map, slice_get_within, same_Some, IfSome_then, slice_get-get_or, slice_get_read}
 pub use Rattle.std.specs.Prelude.{IfSome, if◌then◌else◌, nat_le, MatchOption, Result, IfOk, Ok, Err, OnErr}
-pub use Rattle.stab_items.specs.Cursors.{HasDistinctQubits, steps_shown, lookbacks_of}
+pub use Rattle.stab_items.specs.Steps.{HasDistinctQubits, Step, looks_too_far, one, two, controlled, collapse, product, detector, observable, controlled_step, measured, unroll, check_within, observables_of, LooksWithin, past, qubits_of, named_qubits, named_observables, most_steps}
+pub use Rattle.stab_items.specs.StepValues.{steps_shown, lookbacks_of}
 pub use Rattle.stab_items.specs.Repeats.{AreRepeats}
 pub use Rattle.stab_items.specs.Rounds.{interleaved, pieces, HaveRounds, AreGaps, item_steps, steps_between, ChangesEachRound}
-pub use Rattle.stab_items.specs.Steps.{Step, looks_too_far, one, two, controlled, collapse, product, detector, observable, controlled_step, measured, unroll, check_within, observables_of, LooksWithin}
 pub use Rattle.stab_items.specs.Views.{circuit_items}
 pub use Rattle.stab_items.specs.declared.edit.Span.{Span}
-pub use Rattle.stab_frames.proofs.AgainLemmas.{looks-front, true-conjugated}
+pub use Rattle.stab_frames.proofs.RepeatedStepLemmas.{looks-front, true-conjugated}
 pub use Rattle.stab_frames.proofs.EditLemmas.{fronts-go-on, fronts-take-paulis, same-lengths, gates-fit}
 pub use Rattle.stab_frames.proofs.FlipLemmas.{flipped-empty, flipped-joined, flipped-nothing, additions-empty, unflipped-output, unflipped-matches, looked_up-flipped}
 pub use Rattle.stab_frames.proofs.PropagatedPointLemmas.{conjugated-blank, conjugated-stabiliser}
-pub use Rattle.stab_frames.proofs.FrontLemmas.{group-origin, gates-give-nothing}
+pub use Rattle.stab_frames.proofs.TwoCircuitLemmas.{group-origin, gates-give-nothing}
 pub use Rattle.stab_frames.proofs.PivotLemmas.{enough-before, right-enough}
 pub use Rattle.stab_frames.proofs.RunPivotLemmas.{run-pivots}
 pub use Rattle.stab_frames.proofs.StartLemmas.{by_frame-same, by_frame-paulis, by_frame-exchanged}
 pub use Rattle.stab_frames.proofs.StepLemmas.{over-by_frame, outputs-matches}
 pub use Rattle.stab_frames.proofs.TrueLemmas.{true-front, true-rest, true-append}
-pub use Rattle.stab_frames.specs.AgainLaws.{ArePropagatedOver}
+pub use Rattle.stab_frames.specs.RepeatedStepLaws.{ArePropagatedOver}
 pub use Rattle.stab_frames.specs.Ends.{MayHaveCoin}
 pub use Rattle.stab_frames.specs.Flips.{flipped_output, flipped, flipped_additions, Matches, unflipped}
 pub use Rattle.stab_frames.specs.FrameSteps.{frame_over, flips_over}
 pub use Rattle.stab_frames.specs.Frames.{Frame, PointsDifferBy, frame_of, identity_frame}
-pub use Rattle.stab_frames.specs.Fronts.{AreFronts}
+pub use Rattle.stab_frames.specs.FirstSteps.{AreFronts}
 pub use Rattle.stab_frames.specs.Limits.{most_strings}
 pub use Rattle.stab_frames.specs.Pivots.{AreTrue, PivotsState, pivot_at, front_kept, cut_to}
 pub use Rattle.stab_frames.specs.PivotsOfSteps.{AreEnough, AreRight}
@@ -74,9 +74,9 @@ pub use Rattle.stab_recording.specs.OldRuns.{IsOldRun, HaveSameFuture}
 pub use Rattle.stab_recording.specs.SavedCheckpoints.{saved, all_saved, moved, moved_checkpoint, moved_lengths}
 pub use Rattle.stab_session.specs.LongerLists.{longer, AreBelow}
 pub use Rattle.stab_recording.specs.Meets.{Meets}
-pub use Rattle.stab_session.specs.PassedPlaces.{IsFrameBetween, IsBeforePiece, IsBeforePlaces}
-pub use Rattle.stab_session.specs.PauliSpans.{ArePaulis, DifferByPaulis, DifferAtPlaces}
-pub use Rattle.stab_recording.specs.PivotLists.{KeepsPivots, IsSpliced}
+pub use Rattle.stab_session.specs.PassedSites.{IsFrameBetween, IsBeforePiece, IsBeforeSites}
+pub use Rattle.stab_session.specs.PauliSpans.{ArePaulis, DifferByPaulis, DifferAtSites}
+pub use Rattle.stab_recording.specs.PivotLists.{KeepsPivotList, IsSpliced}
 pub use Rattle.stab_rounds.specs.Spans.{IsSpan}
 pub use Rattle.stab_session.specs.Recordings.{IsRecording, AgreeAfterSpan, AgreeBackAfterSpan, IsSameRecording, Follows}
 pub use Rattle.stab_recording.specs.Replays.{MeetsAt, Misses, EndsSoon, step_among_new, IsReplay, Ascending, IsEnd}
@@ -86,8 +86,8 @@ pub use Rattle.stab_recording.specs.Spacing.{Near, last_of, IsSpaced, Sparse}
 pub use Rattle.stab_recording.specs.declared.checkpoint.Checkpoint.{Checkpoint}
 pub use Rattle.stab_recording.specs.declared.checkpoint.Meeting.{Meeting}
 pub use Rattle.stab_session.specs.declared.conjugating.Conjugating.{Conjugating}
-pub use Rattle.stab_session.specs.declared.conjugating.PastPlaces.{PastPlaces}
-pub use Rattle.stab_session.specs.declared.past_places.PauliChange.{PauliChange}
+pub use Rattle.stab_session.specs.declared.conjugating.PastSites.{PastSites}
+pub use Rattle.stab_session.specs.declared.past_sites.PauliChange.{PauliChange}
 pub use Rattle.stab_session.specs.declared.recording.Followed.{Followed}
 pub use Rattle.stab_session.specs.declared.recording.Prepared.{Prepared}
 pub use Rattle.stab_session.specs.declared.recording.Recording.{Recording}
@@ -97,9 +97,9 @@ pub use Rattle.stab_recording.specs.declared.replay.End.TheVariants.{Last, Joine
 pub use Rattle.stab_recording.specs.declared.replay.Plan.{Plan}
 pub use Rattle.stab_recording.specs.declared.replay.Replay.{Replay}
 pub use Rattle.stab_session.specs.declared.rest.OldRest.{OldRest}
-pub use Rattle.stab_session.specs.inner.PropagatedRecordings.{StaysNear, span_meeting, IsPut, HasConjugated, checkpoints_conjugated, IsPastPlaces, IsConjugating, no_lengths}
+pub use Rattle.stab_session.specs.inner.PropagatedRecordings.{StaysNear, span_meeting, IsPutInPlace, HasConjugated, checkpoints_conjugated, IsPastSites, IsConjugating, no_lengths}
 pub use Rattle.stab_session.specs.inner.OldRests.{conjugated_end, checkpoints_moved, HasRoomFor}
-pub use Rattle.stab_session.specs.inner.Prepared.{IsCount, Begins, HasCheckpoint, IsRest, IsOldRest, IsPrepared, IsCommitted, checkpoints_after, IsTableauAfter, meeting_of, HasRoom}
+pub use Rattle.stab_session.specs.inner.Prepared.{IsCheckpointCount, Begins, HasCheckpoint, IsRest, IsOldRest, IsPrepared, IsCommitted, checkpoints_after, IsTableauAfter, meeting_of, HasRoom}
 pub use Rattle.std.proofs.lemmas.Result.{IfOk-weaker, on_ok_weaker}
 pub use Rattle.stab_circuit.proofs.ClearLemmas.{steps-cleared, observables-cleared, delete-instead, deleted-ok, verdict-instead}
 pub use Rattle.stab_circuit.proofs.EachRoundLemmas.{changes_each_round, same_lead}
@@ -109,14 +109,13 @@ pub use Rattle.stab_items.proofs.PlaceLemmas.{found_taken, taken_named}
 pub use Rattle.stab_items.proofs.UndoLemmas.{replace-retaken, insert-undone, insert-retaken, replace-undone, new_parts, front_size}
 pub use Rattle.stab_items.specs.Editings.{IsSpanOf}
 pub use Rattle.stab_items.specs.Edits.{edit_path, edited, verdict, put_item, first_changed, old_end, new_end, taken_at, taken, steps_before, after_taken, after_put, outermost, list_refusal, list_verdict, edited_in, inner, steps_in}
-pub use Rattle.stab_circuit.specs.Items.{OneItem, listed, entries, depth, Items, repeat}
-pub use Rattle.stab_circuit.specs.Laws.{AreAlike, SplitsLeaveTheSteps}
-pub use Rattle.stab_circuit.specs.Nothings.{IsNothing}
+pub use Rattle.stab_items.specs.Items.{OneItem, listed, entries, depth, Items, repeat}
+pub use Rattle.stab_circuit.specs.Laws.{SplitsLeaveTheSteps}
+pub use Rattle.stab_items.specs.Splits.{AreAlike, split, split_refusal}
+pub use Rattle.stab_items.specs.Nothings.{IsNothing}
 pub use Rattle.stab_items.specs.Paths.{Path}
 pub use Rattle.stab_items.specs.Places.{item_at}
-pub use Rattle.stab_items.specs.Splits.{split, split_refusal}
-pub use Rattle.stab_circuit.specs.Steps.{past, qubits_of, named_qubits, named_observables, most_steps}
-unfoldable pub use Rattle.stab_circuit.specs.Steps.{check_of}
+unfoldable pub use Rattle.stab_items.specs.Steps.{check_of}
 pub use Rattle.stab_items.specs.declared.edit.Edit.{Edit}
 pub use Rattle.stab_items.specs.declared.edit.Edit.TheVariants.{Insert, Replace, Delete}
 pub use Rattle.stab_io.specs.Refusals.{whole, IsCallFault}
@@ -127,8 +126,8 @@ pub use Rattle.stab_pauli.proofs.StringLemmas.{string_product-blank, string_prod
 pub use Rattle.stab_run.proofs.SoundLemmas.{sound-run}
 pub use Rattle.stab_run.proofs.StateLemmas.{run-state, run_of-same}
 unfoldable pub use Rattle.stab_run.specs.Runs.{run_of}
-pub use Rattle.stab_tableau.proofs.MemberLemmas.{same-free}
-pub use Rattle.stab_tableau.proofs.PlaceLemmas.{string_product-set}
+pub use Rattle.stab_tableau.proofs.MemberLemmas.{same-random}
+pub use Rattle.stab_tableau.proofs.OtherLetterLemmas.{string_product-set}
 pub use Rattle.stab_tableau.proofs.ReducedLemmas.{same-rows}
 pub use Rattle.stab_tableau.specs.Reduced.{AreReduced}
 pub use Rattle.stab_session.specs.Bounds.{steps_of_item, steps_from_change, steps_after, unless_refused, most_refused_asks, steps_put, steps_near_change, most_tried, IsCountOf, AgreeAfter, AgreeBackAfter, most_checkpoints}
@@ -139,5 +138,5 @@ pub use Rattle.stab_session.specs.declared.pending.Pending.{Pending}
 pub use Rattle.stab_session.specs.declared.pending.Pending.TheVariants.{Inserted, Replaced, Deleted}
 pub use Rattle.stab_session.specs.inner.SessionRecordings.{session_of, IsRecorded}
 pub use Rattle.stab_session.specs.inner.PauliItems.{ArePauliItems, taken_items, AreAccepted}
-pub use Rattle.stab_session.specs.inner.Pendings.{finished, IsBegun, pending_path, IsPendingOf, taken_back, IsSpanNow}
+pub use Rattle.stab_session.specs.inner.Pendings.{finished_items, IsBegun, pending_path, IsPendingOf, taken_back, IsSpanNow}
 pub use Rattle.stab_items.specs.declared.circuit.repeats.Repeat.{Repeat}

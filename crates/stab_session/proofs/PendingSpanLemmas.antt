@@ -1,5 +1,5 @@
 -- Pauli spans: what is in the span of a pending edit, in the old steps and in those that there are now.
-use Rattle.stab_session.proofs.Names.{◌≡◌, ℕ, ◌+◌, ◌≤◌, ◌<◌, refl, sym, ◌∙◌, ap, subst, List, [], ◌∷◌, map, length, take, All, arith, Some, Ok, length-drop, length-map, slice_get, Letter, string_product, OneItem, listed, Step, one, unroll, named_qubits, qubits_of, Path, item_at, edit_path, edited, taken_at, taken, put_item, steps_before, after_taken, after_put, outermost, first_changed, old_end, new_end, interleaved, pieces, HaveRounds, AreGaps, item_steps, steps_between, ChangesEachRound, Edit, Insert, Replace, Delete, Span, edits_leave, changes_each_round, same_lead, found_taken, taken_named, replace-retaken, gate_of, letters_on, DifferByPaulis, Pending, Inserted, Replaced, Deleted, pending_path, IsPendingOf, taken_back, finished, IsBegun, ArePauliItems, taken_items, AreAccepted}
+use Rattle.stab_session.proofs.Names.{◌≡◌, ℕ, ◌+◌, ◌≤◌, ◌<◌, refl, sym, ◌∙◌, ap, subst, List, [], ◌∷◌, map, length, take, All, arith, Some, Ok, length-drop, length-map, slice_get, Letter, string_product, OneItem, listed, Step, one, unroll, named_qubits, qubits_of, Path, item_at, edit_path, edited, taken_at, taken, put_item, steps_before, after_taken, after_put, outermost, first_changed, old_end, new_end, interleaved, pieces, HaveRounds, AreGaps, item_steps, steps_between, ChangesEachRound, Edit, Insert, Replace, Delete, Span, edits_leave, changes_each_round, same_lead, found_taken, taken_named, replace-retaken, gate_of, letters_on, DifferByPaulis, Pending, Inserted, Replaced, Deleted, pending_path, IsPendingOf, taken_back, finished_items, IsBegun, ArePauliItems, taken_items, AreAccepted}
 use Rattle.stab_session.proofs.EditedLemmas.{ok_same}
 use Rattle.stab_session.proofs.SpanLemmas.{ends-within}
 use Rattle.stab_session.proofs.PauliItemLemmas.{gates-fit}
@@ -52,13 +52,13 @@ back-edited (Replaced at y) now = refl
 back-edited (Deleted at y) now = refl
 
 -- the end of what was put in is that of what there is now, which has no steps if nothing was put in
-new-end-at : (edit : Edit) (p : Pending) (now new : List OneItem) → IsPendingOf edit p → finished p now ≡ Ok new → steps now ≡ steps new → new_end edit new ≡ old_end (back_edit p) now
+new-end-at : (edit : Edit) (p : Pending) (now new : List OneItem) → IsPendingOf edit p → finished_items p now ≡ Ok new → steps now ≡ steps new → new_end edit new ≡ old_end (back_edit p) now
 new-end-at (Insert at x) p now new is ahead same =
-    ap (new_end (Insert at x)) (ok_same new now (sym ahead ∙ ap (λ q. finished q now) is)) ∙ sym (ap (λ q. old_end (back_edit q) now) is)
+    ap (new_end (Insert at x)) (ok_same new now (sym ahead ∙ ap (λ q. finished_items q now) is)) ∙ sym (ap (λ q. old_end (back_edit q) now) is)
 new-end-at (Replace at x) p now new is ahead same =
-    ap (new_end (Replace at x)) (ok_same new now (sym ahead ∙ ap (λ q. finished q now) is.1)) ∙ sym (ap (λ q. old_end (back_edit q) now) is.1)
+    ap (new_end (Replace at x)) (ok_same new now (sym ahead ∙ ap (λ q. finished_items q now) is.1)) ∙ sym (ap (λ q. old_end (back_edit q) now) is.1)
 new-end-at (Delete at) p now new is ahead same =
-    let rest = edits_leave (Delete at) now new (sym (ap (λ q. finished q now) is.1) ∙ ahead) in
+    let rest = edits_leave (Delete at) now new (sym (ap (λ q. finished_items q now) is.1) ∙ ahead) in
     let was = old_end (Delete at) now in
     let end = new_end (Delete at) new in
     let left = sym (length-drop was (steps now)) ∙ ap length rest.following ∙ length-drop end (steps new) in

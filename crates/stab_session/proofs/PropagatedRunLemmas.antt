@@ -1,5 +1,5 @@
 -- Propagated runs: a run that differs from another by Pauli gates is the other one, flipped and conjugated by a frame that was propagated over it.
-use Rattle.stab_session.proofs.Names.{◌≡◌, ℕ, ◌-◌, arith, ◌+◌, ◌≤◌, sym, ◌∙◌, ap, subst, Bool, List, [], ◌++◌, All, length, take, drop, take-append-drop, All-drop, TableauState, Step, Lengths, Point, RunOutput, origin, joined, point_after, outputs, all_coins_of, lengths_of, front_of, rest_of, joined-assoc, cut, front-output, rest-output, flipped, flipped_additions, flipped_output, unflipped, PivotsState, AreTrue, pivot_at, LooksWithin, PropagationState, flipped-joined, unflipped-output, unflipped-matches, flipped-empty, Checkpoint, IsCheckpoint, KeepsPivots, AreInOrder, IsRestFrame, IsFrameBetween, same-lengths}
+use Rattle.stab_session.proofs.Names.{◌≡◌, ℕ, ◌-◌, arith, ◌+◌, ◌≤◌, sym, ◌∙◌, ap, subst, Bool, List, [], ◌++◌, All, length, take, drop, take-append-drop, All-drop, TableauState, Step, Lengths, Point, RunOutput, origin, joined, point_after, outputs, all_coins_of, lengths_of, front_of, rest_of, joined-assoc, cut, front-output, rest-output, flipped, flipped_additions, flipped_output, unflipped, PivotsState, AreTrue, pivot_at, LooksWithin, PropagationState, flipped-joined, unflipped-output, unflipped-matches, flipped-empty, Checkpoint, IsCheckpoint, KeepsPivotList, AreInOrder, IsRestFrame, IsFrameBetween, same-lengths}
 use Rattle.stab_recording.proofs.FlippedLemmas.{flipped-zeros}
 use Rattle.stab_session.proofs.RestFrameLemmas.{advanced-lengths, advanced-given, advanced-flips, advanced-unflagged}
 use Rattle.stab_session.proofs.RestLemmas.{IsPropagatedRest, rest-after, later}
@@ -20,7 +20,7 @@ pub record IsPropagatedRun (n : ℕ) (coins : ℕ → Bool) (xs ys back : List S
   pub near : All (LooksWithin window) ys
   pub output : o ≡ outputs n coins xs origin
   pub flags : free ≡ o.free
-  pub has_pivots : KeepsPivots n coins xs strings free window
+  pub has_pivots : KeepsPivotList n coins xs strings free window
   pub are_checkpoints : All (IsCheckpoint n coins xs) checkpoints
   pub order : AreInOrder i (length xs) checkpoints
   pub advanced : IsRestFrame n strings.strings free window back i checkpoints conjugated old new
@@ -125,7 +125,7 @@ module _ (n : ℕ) (coins : ℕ → Bool) (xs ys back : List Step) (i k : ℕ) (
       ∙ take-append-drop from.free o.free
       ∙ sym r.flags
 
-  pub run-has_pivots : KeepsPivots n coins ys strings (joined (front_of from o) (flipped_output (rest_of from o) new.flips)).free window
+  pub run-has_pivots : KeepsPivotList n coins ys strings (joined (front_of from o) (flipped_output (rest_of from o) new.flips)).free window
   run-has_pivots =
-      subst (λ bits. KeepsPivots n coins ys strings bits window) (sym run-flags)
+      subst (λ bits. KeepsPivotList n coins ys strings bits window) (sym run-flags)
       (record { size = r.has_pivots.size; numbered = r.has_pivots.numbered; are_true = r.are_true; near = r.near })

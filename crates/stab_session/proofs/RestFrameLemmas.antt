@@ -1,6 +1,6 @@
 -- Frames over the rest: what is so at each point after, if a frame was propagated over all steps, or some of them and then ended.
 use Rattle.stab_session.proofs.Names.{◌≡◌, ℕ, ◌+◌, ◌-◌, ◌≤◌, sym, ◌∙◌, ap, subst, Bool, false, ◌⊎◌, inl, inr, List, ◌++◌, All, Option, length, take, drop, replicate, arith, cases_lt, take_all, take-take, replicate-append-replicate, All-take, All-drop, take-add, Letter, ◌⊕◌, member, IsStabiliserGroup, IsConjugated, Step, looked_up, ones, Point, RunOutput, joined, point_after, outputs, all_coins_of, StepFits, lengths_of, AgreeAt, AgreeBack, same-future, same-future-back, after-append, outputs-append, flipped_output, Frame, PointsDifferBy, frame_over, flips_over, LooksWithin, same_coins, AreEnough, PropagationState, frame_at, PropagatesOver, looked_up-flipped, enough-before, over-by_frame, outputs-matches, conjugated-blank, same-lengths}
-use Rattle.stab_recording.proofs.FlippedLemmas.{flips-free}
+use Rattle.stab_recording.proofs.FlippedLemmas.{flips-random}
 use Rattle.stab_recording.proofs.RecordedReplayLemmas.{near-enough}
 use Rattle.stab_session.proofs.EndingLemmas.{IsEnded}
 use Rattle.stab_session.proofs.FlippedReplayLemmas.{flipped-front, flips-differ}
@@ -194,5 +194,5 @@ module _ {n : ℕ} {coins : ℕ → Bool} {strings : ℕ → Option (List Letter
   pub advanced-unflagged : (flagged : ℕ) → old.flips.free ≡ replicate flagged false → new.flips.free ≡ replicate (flagged + all_coins_of (take steps back)) false
   advanced-unflagged flagged none =
       sym (ap (λ (q : RunOutput). q.free) advanced-flips)
-      ∙ (λ i. none i ++ flips-free n (same_coins strings) (take steps back) a.coin (frame_at base old) i)
+      ∙ (λ i. none i ++ flips-random n (same_coins strings) (take steps back) a.coin (frame_at base old) i)
       ∙ replicate-append-replicate flagged (all_coins_of (take steps back)) false

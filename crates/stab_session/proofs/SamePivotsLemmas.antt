@@ -1,6 +1,6 @@
 -- Same pivots: what was recorded of a run is true of it with steps that differ from its own by Pauli gates, and its flags are the same.
 use Rattle.stab_session.proofs.Names.{◌≡◌, ℕ, ◌<◌, refl, sym, ◌∙◌, ap, subst, Bool, List, [], ◌∷◌, ◌++◌, append_assoc, All, map, take, Option, All-nil, All-cons, All-head, All-tail, All-append, All-take, Letter, member, IsStabiliserGroup, Step, one, gate_of, Point, RunOutput, origin, next_point, point_after, outputs, all_coins_of, StepFits, after-append, outputs-append, flipped, Frame, PointsDifferBy, same_coins, AreRight, AreEnough, AreTrue, gates-fit, group-origin, gates-give-nothing, right-enough, enough-before, run-pivots, by_frame-exchanged, over-by_frame, true-append, true-front, true-rest, true-conjugated, interleaved}
-use Rattle.stab_recording.proofs.FlippedLemmas.{flips-free, flipped-zeros}
+use Rattle.stab_recording.proofs.FlippedLemmas.{flips-random, flipped-zeros}
 
 -- what all of some steps have, those after the first have
 
@@ -53,7 +53,7 @@ module _ (n : ℕ) (coins : ℕ → Bool) (a b : Point) (f : Frame) (zs : List S
   pub flags-distinct : (outputs n coins zs b).free ≡ (outputs n coins zs a).free
   flags-distinct =
       ap (λ (o : RunOutput). o.free) (over-by_frame n coins (same_coins has_pivots.0) zs f a b fits group enough distinct).0
-      ∙ ap (flipped (outputs n coins zs a).free) (flips-free n (same_coins has_pivots.0) zs a.coin f)
+      ∙ ap (flipped (outputs n coins zs a).free) (flips-random n (same_coins has_pivots.0) zs a.coin f)
       ∙ flipped-zeros (outputs n coins zs a).free (all_coins_of zs)
 
 -- Pauli gates measure nothing, and give nothing
@@ -62,9 +62,9 @@ pub gates-are-true : (n : ℕ) (coins : ℕ → Bool) (strings : ℕ → Option 
 gates-are-true n coins strings l [] a = tt
 gates-are-true n coins strings l (q ∷ qs) a = (tt, gates-are-true n coins strings l qs (next_point n coins (one (gate_of l) q) a))
 
-pub gates-free : (n : ℕ) (coins : ℕ → Bool) (l : Letter) (qs : List ℕ) (zs : List Step) (a : Point)
+pub gates-random : (n : ℕ) (coins : ℕ → Bool) (l : Letter) (qs : List ℕ) (zs : List Step) (a : Point)
     → (outputs n coins (map (one (gate_of l)) qs ++ zs) a).free ≡ (outputs n coins zs (point_after n coins (map (one (gate_of l)) qs) a)).free
-gates-free n coins l qs zs a =
+gates-random n coins l qs zs a =
     ap (λ (o : RunOutput). o.free) (outputs-append n coins (map (one (gate_of l)) qs) zs a)
     ∙ ap (λ (o : RunOutput). o.free ++ (outputs n coins zs (point_after n coins (map (one (gate_of l)) qs) a)).free) (gates-give-nothing n coins l qs a)
 
@@ -94,11 +94,11 @@ module _ (n : ℕ) (coins : ℕ → Bool) (strings : ℕ → Option (List Letter
         (by_frame-exchanged n coins l m qs rs left right a) strings
         (same.are_true (true-rest n coins strings (map (one (gate_of l)) qs) zs a are)));
     flags =
-        gates-free n coins m rs ws a
+        gates-random n coins m rs ws a
         ∙ flags-distinct n coins (point_after n coins (map (one (gate_of l)) qs) a) (point_after n coins (map (one (gate_of m)) rs) a) _ ws fits there
         (by_frame-exchanged n coins l m qs rs left right a)
         ∙ same.flags
-        ∙ sym (gates-free n coins l qs zs a);
+        ∙ sym (gates-random n coins l qs zs a);
   }
     where
       there : IsReached n coins (point_after n coins (map (one (gate_of l)) qs) a)

@@ -1,12 +1,12 @@
 -- Sessions: the statement of a session, from the run of its items that is recording.
-use Rattle.stab_session.proofs.Names.{◌≡◌, ◌∙◌, ◌≤◌, ap, ℕ, sym, subst, Bool, false, Option, All, None, arith, length, replicate, Signed, with_sign, member, SameGroup, stabilises, same-free, Items, unroll, observables_of, check_within, HasDistinctQubits, Recording, State, start, run_of, RunOutput, origin, point_after, outputs, with_additions, state_at, DependsOnCoinsAt, IsRunOfItems, IsSignIn, most_checkpoints, checkpoint_steps, IsRecording, session_of, IsRecorded, run-state, run_of-same, records-are-records}
+use Rattle.stab_session.proofs.Names.{◌≡◌, ◌∙◌, ◌≤◌, ap, ℕ, sym, subst, Bool, false, Option, All, None, arith, length, replicate, Signed, with_sign, member, SameGroup, stabilises, same-random, Items, unroll, observables_of, check_within, HasDistinctQubits, Recording, State, start, run_of, RunOutput, origin, point_after, outputs, with_additions, state_at, DependsOnCoinsAt, IsRunOfItems, IsSignIn, most_checkpoints, checkpoint_steps, IsRecording, session_of, IsRecorded, run-state, run_of-same, records-are-records}
 use Rattle.stab_session.proofs.SpacingLemmas.{count-spaced}
 
 -- in the same group a string has the same sign
 pub same-sign : (n : ℕ) (u v : Signed → Bool) (p : Signed) (sign : Option Bool) → length p.letters ≡ n → SameGroup n u v → IsSignIn u p sign → IsSignIn v p sign
 same-sign n u v p sign size same h = (
   (λ b. ((λ e. sym (same (with_sign b p) size) ∙ (h.0 b).0 e), (λ e. (h.0 b).1 (same (with_sign b p) size ∙ e)))),
-  ((λ e. sym (same-free n u v p size same) ∙ h.1.0 e), (λ e. h.1.1 (same-free n u v p size same ∙ e))),
+  ((λ e. sym (same-random n u v p size same) ∙ h.1.0 e), (λ e. h.1.1 (same-random n u v p size same ∙ e))),
 )
 
 -- the state after the run of items

@@ -1,5 +1,5 @@
 -- Splices: a replay with the rest of an old run after it is the run of the new steps, if it meets that run there.
-use Rattle.stab_session.proofs.Names.{◌≡◌, ℕ, ◌+◌, ◌-◌, ◌^◌, ◌<◌, ◌≤◌, reverse, append_assoc, refl, sym, ◌∙◌, ap, subst, Bool, false, List, [], ◌∷◌, ◌++◌, length, take, drop, map, get_or, All, Some, replicate, arith, IfSome, take_all, drop-map, drop_more, map-append, All-map, All-append, All-drop, get_or_from_slice_get, slice_get_within, slice_get-map, I, member, SameGroup, TableauState, stabilises, IsConjugated, Step, Span, Lengths, ones-append, ones, RunOutput, origin, joined, point_after, outputs, with_additions, StepFits, program_state, output_of, lengths_of, rest_of, AgreeBack, with_coin, flags-are-coins, MayHaveCoin, PivotsState, cut_to, most_strings, LooksWithin, conjugated-blank, Checkpoint, IsRunFromStart, IsCheckpoint, checkpoint_steps, all_saved, moved, moved_checkpoint, Meets, Near, IsSpaced, Replay, Plan, End, Last, Joined, KeepsPivots, IsSpliced, with_states, HaveSameFuture, IsReplay, IsEnd, MeetsAt, Recording, Prepared, Rest, IsRecording, IsSpan, IsRest, IsOldRest, IsCommitted, IsTableauAfter, checkpoints_after, meeting_of, drop-drop}
+use Rattle.stab_session.proofs.Names.{◌≡◌, ℕ, ◌+◌, ◌-◌, ◌^◌, ◌<◌, ◌≤◌, reverse, append_assoc, refl, sym, ◌∙◌, ap, subst, Bool, false, List, [], ◌∷◌, ◌++◌, length, take, drop, map, get_or, All, Some, replicate, arith, IfSome, take_all, drop-map, drop_more, map-append, All-map, All-append, All-drop, get_or_from_slice_get, slice_get_within, slice_get-map, I, member, SameGroup, TableauState, stabilises, IsConjugated, Step, Span, Lengths, ones-append, ones, RunOutput, origin, joined, point_after, outputs, with_additions, StepFits, program_state, output_of, lengths_of, rest_of, AgreeBack, with_coin, flags-are-coins, MayHaveCoin, PivotsState, cut_to, most_strings, LooksWithin, conjugated-blank, Checkpoint, IsRunFromStart, IsCheckpoint, checkpoint_steps, all_saved, moved, moved_checkpoint, Meets, Near, IsSpaced, Replay, Plan, End, Last, Joined, KeepsPivotList, IsSpliced, with_states, HaveSameFuture, IsReplay, IsEnd, MeetsAt, Recording, Prepared, Rest, IsRecording, IsSpan, IsRest, IsOldRest, IsCommitted, IsTableauAfter, checkpoints_after, meeting_of, drop-drop}
 use Rattle.std.specs.Prelude.{option_map, slice_get}
 use Rattle.stab_recording.proofs.RecordedReplayLemmas.{near-enough, has_pivots-spliced, has_pivots-cut, cut-few}
 use Rattle.stab_session.proofs.PropagatedPointLemmas.{future-moved, future-conjugated}
@@ -30,7 +30,7 @@ module _ (n : ℕ) (coins : ℕ → Bool) (K : ℕ) (xs : List Step) (count : �
       few = small;
       has_pivots =
           has_pivots-cut n coins ys all new.strings new.outputs.free.items new.window
-          (subst (λ x. x) (λ i. KeepsPivots n coins (take_all r.step ys (omega (arith, end)) i) (sym strings i) (sym output i).free (sym window i)) replay.at_step.has_pivots)
+          (subst (λ x. x) (λ i. KeepsPivotList n coins (take_all r.step ys (omega (arith, end)) i) (sym strings i) (sym output i).free (sym window i)) replay.at_step.has_pivots)
           (ap (λ (o : RunOutput). o.free) (output ∙ whole.output)) few_kept;
       few_strings = cut-few n all new.strings (ap (λ (s : PivotsState). s.qubits) strings ∙ replay.at_step.has_pivots.size) few_kept;
       checkpoints =
@@ -110,7 +110,7 @@ module _ (n : ℕ) (coins : ℕ → Bool) (K : ℕ) (xs : List Step) (count : �
         few = small;
         has_pivots =
             has_pivots-cut n coins ys all new.strings new.outputs.free.items new.window
-            (subst (KeepsPivots n coins ys all new.outputs.free.items) (sym new_window)
+            (subst (KeepsPivotList n coins ys all new.outputs.free.items) (sym new_window)
             (has_pivots-spliced n coins xs ys d.step r.step same agree.0
             (future-conjugated n coins (drop d.step xs) (point_after n coins (take d.step xs) origin) (point_after n coins (take r.step ys) origin) future)
             old.strings r.pivots.strings all old.outputs.free.items r.outputs.free.items new.outputs.free.items d.lengths.free old.window r.pivots.window

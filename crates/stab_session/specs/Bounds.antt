@@ -2,8 +2,8 @@
 -- Source: this project's own.
 use Rattle.std.specs.Prelude.{ℕ, ◌+◌, ◌-◌, ◌*◌, ◌/◌, Bool, List, [], ◌∷◌, Option, Some, None, Result, Ok, Err, length, take, drop, slice_get}
 use Rattle.stab_io.specs.declared.refusal.Refusal.{Refusal}
-use Rattle.stab_circuit.specs.Items.{OneItem, entries, listed}
-use Rattle.stab_circuit.specs.Steps.{unroll, observables_of}
+use Rattle.stab_items.specs.Items.{OneItem, entries, listed}
+use Rattle.stab_items.specs.Steps.{unroll, observables_of}
 use Rattle.stab_items.specs.Edits.{edit_path, edited, verdict, first_changed, old_end, new_end, put_item}
 use Rattle.stab_items.specs.declared.edit.Edit.{Edit}
 use Rattle.stab_run.specs.Runs.{run, start}

@@ -1,9 +1,8 @@
 -- Followed edits: what a recording is once an edit was followed, and what that took.
 -- Source: this project's own.
 use Rattle.std.specs.Prelude.{ℕ, ◌+◌, ◌-◌, ◌*◌, ◌≤◌, Bool, List, All, length}
-use Rattle.stab_items.specs.Steps.{Step}
+use Rattle.stab_items.specs.Steps.{Step, HasDistinctQubits}
 use Rattle.stab_items.specs.declared.edit.Span.{Span}
-use Rattle.stab_items.specs.Cursors.{HasDistinctQubits}
 use Rattle.stab_rounds.specs.Spans.{IsSpan}
 use Rattle.stab_run.specs.Records.{ones}
 use Rattle.stab_run.specs.Points.{all_coins_of}
@@ -30,7 +29,7 @@ pub record HasFollowed (n : ℕ) (coins : ℕ → Bool) (K : ℕ) (ys : List Ste
   pub way : IsWay n coins K ys s old (f.applied + f.by_frame)
   pub tried : f.tried ≤ 3 * (length ys - s.first)
   pub asks : after ≤ before + f.applied
-  pub asks_free : after ≤ before + ones new.outputs.free.items
+  pub asks_random : after ≤ before + ones new.outputs.free.items
 
 -- even if memory was refused, no more coins were asked for than the new steps use up, nor than there are steps from the first changed one on,
 -- and K more

@@ -1,6 +1,6 @@
 pub mod LongerLists
 pub mod PauliSpans
-pub mod PassedPlaces
+pub mod PassedSites
 pub mod Counts
 pub mod Recordings
 pub mod FollowedEdits

@@ -8,7 +8,7 @@ use Rattle.stab_items.specs.Rounds.{interleaved}
 use Rattle.stab_items.specs.declared.edit.Span.{Span}
 use Rattle.stab_run.specs.Runs.{gate_of}
 use Rattle.stab_frames.specs.Starts.{letters_on}
-use Rattle.stab_session.specs.declared.past_places.PauliChange.{PauliChange}
+use Rattle.stab_session.specs.declared.past_sites.PauliChange.{PauliChange}
 
 -- the steps are one Pauli gate each, of the same letter, on some of n qubits
 pub record ArePaulis (n : ℕ) (letter : Letter) (qubits : List ℕ) (xs : List Step) : Type 0 where
@@ -35,7 +35,7 @@ pub record DifferByPaulis (n : ℕ) (xs ys : List Step) (s : Span) (letters : Li
   pub product : letters ≡ string_product (letters_on n old_letter old_qubits) (letters_on n new_letter new_qubits)
 
 -- so two lists of steps differ within a span, as a change of Pauli gates says, and after it not at all
-pub record DifferAtPlaces (n : ℕ) (xs ys : List Step) (s : Span) (change : PauliChange) : Type 0 where
+pub record DifferAtSites (n : ℕ) (xs ys : List Step) (s : Span) (change : PauliChange) : Type 0 where
   pub old_order : s.first ≤ s.old_end
   pub new_order : s.first ≤ s.new_end
   pub old_within : s.old_end ≤ length xs

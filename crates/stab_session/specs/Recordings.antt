@@ -12,9 +12,9 @@ use Rattle.stab_run.specs.ProgramStates.{StepFits, program_state, output_of}
 use Rattle.stab_frames.specs.Limits.{most_strings}
 use Rattle.stab_recording.specs.Spacing.{IsSpaced}
 use Rattle.stab_recording.specs.Checkpoints.{IsRunFromStart, IsCheckpoint, checkpoint_steps}
-use Rattle.stab_recording.specs.PivotLists.{KeepsPivots}
+use Rattle.stab_recording.specs.PivotLists.{KeepsPivotList}
 use Rattle.stab_session.specs.PauliSpans.{DifferByPaulis}
-use Rattle.stab_session.specs.declared.past_places.PauliChange.{PauliChange}
+use Rattle.stab_session.specs.declared.past_sites.PauliChange.{PauliChange}
 
 -- what is kept is the run of these steps, which fit on the qubits, with this many observables, strings up to the limit, and checkpoints at most
 -- K steps from each other
@@ -24,7 +24,7 @@ pub record IsRecording (n : ℕ) (coins : ℕ → Bool) (K : ℕ) (xs : List Ste
   pub observables : r.observables.items ≡ with_additions r.outputs.additions.items (replicate count false)
   pub fits : All (StepFits n) xs
   pub few : length xs ≤ most_steps
-  pub has_pivots : KeepsPivots n coins xs r.strings r.outputs.free.items r.window
+  pub has_pivots : KeepsPivotList n coins xs r.strings r.outputs.free.items r.window
   pub few_strings : r.strings.most ≤ most_strings n
   pub checkpoints : All (IsCheckpoint n coins xs) r.checkpoints.items
   pub spaced : IsSpaced K (length xs) (checkpoint_steps r.checkpoints.items)

@@ -1,7 +1,7 @@
 -- Edits of sessions: what an edit leaves of a session.
 -- Source: this project's own.
 use Rattle.std.specs.Prelude.{◌≡◌, ℕ, Bool, None, Ok}
-use Rattle.stab_circuit.specs.Items.{entries}
+use Rattle.stab_items.specs.Items.{entries}
 use Rattle.stab_items.specs.Edits.{edited, verdict}
 use Rattle.stab_items.specs.declared.edit.Edit.{Edit}
 use Rattle.stab_items.specs.Paths.{Path}

@@ -1,9 +1,8 @@
 //! What an edit changes in the run of a circuit.
 ghost use Rattle.std.specs.Prelude.{◌≡◌, None, List, length, IfOk, IfErr, IfSome};
 ghost use Rattle.stab_io.specs.declared.refusal.Refusal.TheVariants.{OutOfMemory};
-ghost use Rattle.stab_circuit.specs.Items.{OneItem, listed};
-ghost use Rattle.stab_circuit.specs.Steps.{unroll, check_within};
-ghost use Rattle.stab_items.specs.Steps.{Step};
+ghost use Rattle.stab_items.specs.Items.{OneItem, listed};
+ghost use Rattle.stab_items.specs.Steps.{unroll, check_within, Step};
 ghost use Rattle.stab_items.specs.Views.{circuit_items};
 ghost use Rattle.stab_items.specs.Repeats.{AreRepeats};
 ghost use Rattle.stab_items.specs.declared.edit.Edit.{Edit};
@@ -13,12 +12,12 @@ ghost use Rattle.stab_session.specs.PauliSpans.{DifferByPaulis};
 ghost use Rattle.stab_session.specs.inner.Pendings.{IsBegun};
 ghost use Rattle.stab_session.specs.inner.PauliItems.{AreAccepted};
 
-use crate::past_places::PauliChange;
+use crate::past_sites::PauliChange;
 use crate::paulis::difference;
 use crate::pending::Pending;
-use stab_circuit::{Circuit, Span};
+use stab_circuit::Circuit;
 use stab_io::Refusal;
-use stab_items::Repeat;
+use stab_items::{Repeat, Span};
 use stab_rounds::edited_rounds;
 use std::alloc::Global;
 

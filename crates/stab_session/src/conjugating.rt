@@ -1,22 +1,21 @@
 ghost use Rattle.std.specs.Prelude.{◌≡◌, ℕ, ◌+◌, ◌-◌, ◌*◌, ◌<◌, ◌≤◌, ◌∷◌, None, Some, true, Bool, All, length, take, drop, slice_get, IfSome, IfOk, IfErr, OnOk, OnErr};
 ghost use Rattle.stab_io.specs.declared.refusal.Refusal.TheVariants.{OutOfMemory};
-ghost use Rattle.stab_items.specs.Steps.{unroll, observables_of, check_within};
+ghost use Rattle.stab_items.specs.Steps.{unroll, observables_of, check_within, HasDistinctQubits};
 ghost use Rattle.stab_items.specs.Views.{circuit_items};
-ghost use Rattle.stab_items.specs.Cursors.{HasDistinctQubits};
 ghost use Rattle.stab_items.specs.Repeats.{AreRepeats};
 ghost use Rattle.stab_run.specs.Records.{ones};
 ghost use Rattle.stab_recording.specs.Checkpoints.{checkpoint_steps};
 ghost use Rattle.stab_recording.specs.PassedSteps.{MayPropagate};
 ghost use Rattle.stab_recording.specs.Spacing.{Near, last_of};
-ghost use Rattle.stab_session.specs.declared.past_places.PauliChange.{PauliChange};
+ghost use Rattle.stab_session.specs.declared.past_sites.PauliChange.{PauliChange};
 ghost use Rattle.stab_session.specs.FollowedEdits.{AsksWithin, HasFollowed};
 ghost use Rattle.stab_session.specs.Recordings.{IsSameRecording, Follows};
 ghost use Rattle.stab_session.specs.inner.OldRests.{HasRoomFor};
-ghost use Rattle.stab_session.specs.inner.PropagatedRecordings.{AreCounted, StaysNear, IsPastPlaces, IsConjugating, IsPut, HasConjugated, span_meeting};
+ghost use Rattle.stab_session.specs.inner.PropagatedRecordings.{AreCounted, StaysNear, IsPastSites, IsConjugating, IsPutInPlace, HasConjugated, span_meeting};
 
 use crate::counting::lengths_after;
 use crate::flips::{flip_outputs, sum_additions};
-use crate::past_places::{PauliChange, propagate_places};
+use crate::past_sites::{PauliChange, propagate_sites};
 use crate::recording::{Followed, Recording};
 use crate::rest::{OldRest, end_place};
 use stab_frames::Propagation;
@@ -37,7 +36,7 @@ const NO_LENGTHS: Lengths = Lengths {
 
 /// A frame that went past the places of a change, in memory of its own.
 #[derive(Drop)]
-struct PastPlaces {
+struct PastSites {
     /// How long the lists are where the frame begins.
     from: Lengths,
     /// The frame, with what it flipped from there on.
@@ -142,7 +141,7 @@ impl Recording {
     /// the span. `None` if it can't give the run there. The steps that it passes are counted either way.
     ///
     /// Refusal `OutOfMemory` alone.
-    fn past_places(
+    fn past_sites(
         &self,
         alloc: Global,
         circuit: &Circuit,
@@ -151,14 +150,14 @@ impl Recording {
         inside: usize,
         change: &PauliChange,
         by_frame: &mut u64,
-    ) -> Result<Option<PastPlaces>, Refusal>
+    ) -> Result<Option<PastSites>, Refusal>
         requires checked { check_within self.now.tableau.qubits (circuit_items circuit.now) ≡ None }
         requires same_length { length change.now.string.letters ≡ self.now.tableau.qubits }
         requires follows { (coins : ℕ → Bool) × (K : ℕ) × Follows self.now.tableau.qubits coins K (unroll (circuit_items circuit.now)) span (Some change.now) self.now }
         requires counted { AreCounted span self.now.checkpoints.items before inside }
         requires none_propagated { by_frame.old ≡ 0 }
         ensures most { by_frame.new ≤ length (unroll (circuit_items circuit.now)) - span.first }
-        ensures passed { IfOk result (λ found. IfSome found (λ p. IsPastPlaces (unroll (circuit_items circuit.now)) span before inside change.now self.now p.from p.propagation p.checkpoints.items)) }
+        ensures passed { IfOk result (λ found. IfSome found (λ p. IsPastSites (unroll (circuit_items circuit.now)) span before inside change.now self.now p.from p.propagation p.checkpoints.items)) }
         ensures distinct { OnOk result (All HasDistinctQubits (unroll (circuit_items circuit.now))) }
         ensures err { IfErr result (λ r. r ≡ OutOfMemory) }
     {
@@ -174,7 +173,7 @@ impl Recording {
         let (_, following) = self.checkpoints.as_slice().split_at(before);
         let (within, _) = following.split_at(inside - before);
         let mut passed = Vec::new(alloc);
-        let went = propagate_places(
+        let went = propagate_sites(
             alloc,
             within,
             span.first,
@@ -189,7 +188,7 @@ impl Recording {
         if !went {
             return Ok(None);
         }
-        Ok(Some(PastPlaces {
+        Ok(Some(PastSites {
             from,
             propagation,
             checkpoints: passed,
@@ -207,7 +206,7 @@ impl Recording {
         circuit: &Circuit,
         span: Span,
         inside: usize,
-        passed: PastPlaces,
+        passed: PastSites,
         spare: &mut Option<Tableau>,
         by_frame: &mut u64,
     ) -> Result<Option<Conjugating>, Refusal>
@@ -221,7 +220,7 @@ impl Recording {
         ensures conjugating { IfOk result (λ found. IfSome found (IsConjugating (unroll (circuit_items circuit.now)) span inside passed self.now)) }
         ensures err { IfErr result (λ r. r ≡ OutOfMemory) }
     {
-        let PastPlaces {
+        let PastSites {
             from,
             mut propagation,
             checkpoints,
@@ -262,7 +261,7 @@ impl Recording {
     fn put(&mut self, conjugating: Conjugating, before: usize, stride: usize)
         requires room { HasRoomFor self.old.tableau.qubits conjugating.rest self.old.checkpoints.items }
         requires count { length conjugating.passed.items + before ≡ conjugating.rest.number }
-        ensures put { IsPut self.old before stride conjugating self.new }
+        ensures put { IsPutInPlace self.old before stride conjugating self.new }
     {
         let Conjugating {
             from,
@@ -311,7 +310,7 @@ impl Recording {
         let before = count_before(checkpoints, span.first + 1);
         let inside = count_within(checkpoints, before, span.old_end);
         let begin = checkpoints[before - 1].step;
-        let Some(passed) = self.past_places(alloc, circuit, span, before, inside, change, tried)?
+        let Some(passed) = self.past_sites(alloc, circuit, span, before, inside, change, tried)?
         else {
             return Ok(None);
         };

@@ -1,5 +1,5 @@
 ghost use Rattle.std.specs.Prelude.{◌≡◌, ℕ, ◌+◌, ◌<◌, ◌^◌, Bool, length, take, drop};
-ghost use Rattle.stab_items.specs.Cursors.{step_shown, steps_shown};
+ghost use Rattle.stab_items.specs.StepValues.{step_shown, steps_shown};
 ghost use Rattle.stab_run.specs.Points.{Point, given, outputs};
 ghost use Rattle.stab_run.specs.Cuts.{lengths_of};
 ghost use Rattle.stab_session.specs.LongerLists.{longer, AreBelow};

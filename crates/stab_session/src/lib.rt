@@ -4,7 +4,7 @@
 //!
 //! In the order in which data flows; each module uses only those before it:
 //!
-//! - `counting`, `past_places`, `flips`: for edits by Pauli gates, how long a run's lists are after some steps, a frame
+//! - `counting`, `past_sites`, `flips`: for edits by Pauli gates, how long a run's lists are after some steps, a frame
 //!   past the changed places, and lists changed in place.
 //! - `recording`, `rest`, `conjugating`: the recording of a circuit, and how it follows an edit: by a replay of the steps that
 //!   changed and what comes after it of the old run, or by a frame alone.
@@ -35,7 +35,7 @@ mod conjugating;
 mod counting;
 mod flips;
 mod opening;
-mod past_places;
+mod past_sites;
 mod paulis;
 mod pending;
 mod recording;
@@ -43,9 +43,9 @@ mod rest;
 mod session;
 
 pub use opening::{Recorded, record_run};
-pub use past_places::PauliChange;
+pub use past_sites::PauliChange;
 pub use recording::{Followed, Recording};
 pub use session::{OpenRefused, Report, Session};
 pub use stab_circuit::Edit;
-pub use stab_recording::{Sampler, Shot, run_once};
-pub use stab_run::{Coins, ListCoins, SeedCoins, laws};
+pub use stab_recording::{Shot, run_once};
+pub use stab_run::{Coins, ListCoins, SeedCoins};

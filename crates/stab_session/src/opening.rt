@@ -2,9 +2,8 @@ ghost use Rattle.std.specs.Prelude.{◌≡◌, ◌+◌, ◌≤◌, None, All, On
 ghost use Rattle.stab_io.specs.declared.refusal.Refusal.TheVariants.{OutOfMemory};
 ghost use Rattle.stab_io.specs.Refusals.{Refuses};
 ghost use Rattle.stab_gates.specs.Limits.{most_qubits};
-ghost use Rattle.stab_items.specs.Steps.{unroll, observables_of, check_within};
+ghost use Rattle.stab_items.specs.Steps.{unroll, observables_of, check_within, HasDistinctQubits};
 ghost use Rattle.stab_items.specs.Views.{circuit_items};
-ghost use Rattle.stab_items.specs.Cursors.{HasDistinctQubits};
 ghost use Rattle.stab_items.specs.Repeats.{AreRepeats};
 ghost use Rattle.stab_run.specs.Records.{ones};
 ghost use Rattle.stab_run.specs.Points.{all_coins_of};
@@ -42,7 +41,7 @@ pub fn record_run<C: Coins>(
     ensures refused { Refuses result (check_within n (circuit_items circuit.now)) }
     ensures same_coins { C.sequence coins.new ≡ C.sequence coins.old }
     ensures asks { C.asks coins.new ≤ C.asks coins.old + all_coins_of (unroll (circuit_items circuit.now)) }
-    ensures asks_free { IfOk result (λ r. C.asks coins.new ≤ C.asks coins.old + ones r.recording.outputs.free.items) }
+    ensures asks_random { IfOk result (λ r. C.asks coins.new ≤ C.asks coins.old + ones r.recording.outputs.free.items) }
 {
     circuit.check(n)?;
     run_checked(alloc, circuit, n, stride, coins).map_err(Fault::whole)
@@ -64,7 +63,7 @@ fn run_checked<C: Coins>(
     ensures distinct { OnOk result (All HasDistinctQubits (unroll (circuit_items circuit.now))) }
     ensures same_coins { C.sequence coins.new ≡ C.sequence coins.old }
     ensures asks { C.asks coins.new ≤ C.asks coins.old + all_coins_of (unroll (circuit_items circuit.now)) }
-    ensures asks_free { IfOk result (λ r. C.asks coins.new ≤ C.asks coins.old + ones r.recording.outputs.free.items) }
+    ensures asks_random { IfOk result (λ r. C.asks coins.new ≤ C.asks coins.old + ones r.recording.outputs.free.items) }
     ensures err { IfErr result (λ r. r ≡ OutOfMemory) }
 {
     let span = Span {

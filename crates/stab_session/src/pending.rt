@@ -1,13 +1,14 @@
 ghost use Rattle.std.specs.Prelude.{◌≡◌, Ok, None, OnErr, IfOk, IfErr};
 ghost use Rattle.stab_io.specs.Refusals.{IsCallFault, whole};
 ghost use Rattle.stab_items.specs.declared.edit.Edit.TheVariants.{Insert as inserting, Replace as replacing, Delete as deleting};
-ghost use Rattle.stab_circuit.specs.Steps.{check_within};
+ghost use Rattle.stab_items.specs.Steps.{check_within};
 ghost use Rattle.stab_items.specs.Views.{circuit_items};
 ghost use Rattle.stab_items.specs.Edits.{list_refusal, verdict, put_item};
-ghost use Rattle.stab_session.specs.inner.Pendings.{taken_back, item_back, finished, IsBegun};
+ghost use Rattle.stab_session.specs.inner.Pendings.{taken_back, item_back, finished_items, IsBegun};
 
-use stab_circuit::{Circuit, Edit, Item, Path, Refused, Span};
+use stab_circuit::{Circuit, Edit, Item, Path, Refused};
 use stab_io::{Fault, Refusal};
+use stab_items::Span;
 use std::alloc::Global;
 
 /// An edit that a circuit has, and that can be taken back without memory.
@@ -109,8 +110,8 @@ fn delete(
 
 /// Finishes an edit. It takes no memory.
 pub fn finish(circuit: &mut Circuit, pending: Pending)
-    requires allowed { list_refusal (finished pending circuit.old) ≡ None }
-    ensures value { finished pending circuit.old ≡ Ok circuit.new }
+    requires allowed { list_refusal (finished_items pending circuit.old) ≡ None }
+    ensures value { finished_items pending circuit.old ≡ Ok circuit.new }
 {
     match pending {
         Pending::Inserted(_) => {}

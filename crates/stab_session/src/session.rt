@@ -56,7 +56,7 @@ pub struct OpenRefused<C: Coins> {
 }
 
 impl<C: Coins> Model for Session<C> {
-    ghost use Rattle.stab_circuit.specs.Steps.{unroll};
+    ghost use Rattle.stab_items.specs.Steps.{unroll};
     ghost use Rattle.stab_items.specs.Views.{circuit_items};
     ghost use Rattle.stab_items.specs.Repeats.{AreRepeats};
     ghost use Rattle.stab_session.specs.Sessions.{SessionState};
@@ -78,7 +78,7 @@ impl<C: Coins> Session<C> {
     ghost use Rattle.stab_gates.specs.Limits.{most_qubits};
     ghost use Rattle.stab_tableau.specs.Traces.{member};
     ghost use Rattle.stab_tableau.specs.Reduced.{AreReduced};
-    ghost use Rattle.stab_circuit.specs.Steps.{unroll, check_within};
+    ghost use Rattle.stab_items.specs.Steps.{unroll, check_within};
     ghost use Rattle.stab_items.specs.Views.{circuit_items};
     ghost use Rattle.stab_circuit.specs.Limits.{most_stride};
     ghost use Rattle.stab_run.specs.Records.{ones};
@@ -110,7 +110,7 @@ impl<C: Coins> Session<C> {
         ensures stride { IfOk result (λ s. s.stride ≡ stride) }
         ensures coins { IfOk result (λ s. C.sequence s.coins ≡ C.sequence coins) }
         ensures asks { IfOk result (λ s. C.asks s.coins ≤ C.asks coins + all_coins_of (unroll (circuit_items circuit))) }
-        ensures asks_free { IfOk result (λ s. C.asks s.coins ≤ C.asks coins + ones s.free) }
+        ensures asks_random { IfOk result (λ s. C.asks s.coins ≤ C.asks coins + ones s.free) }
         ensures checkpoints { IfOk result (λ s. length s.checkpoints ≤ most_checkpoints s) }
         ensures accepted { OnOk result (check_within n (circuit_items circuit) ≡ None) }
         ensures refused { IfErr result (λ r. IsCallFault (check_within n (circuit_items circuit)) r.fault) }

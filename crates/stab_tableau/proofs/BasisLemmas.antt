@@ -1,5 +1,5 @@
 -- The stabilisers of a state generate its group and are independent.
-use Rattle.stab_tableau.proofs.Names.{if◌then◌else◌, eq-eqb, eqb_tells, ◌≡◌, ◌≢◌, ℕ, zero, suc, eqb, ◌<◌, ◌≤◌, Bool, true, false, not, ◌&&◌, inl, inr, refl, sym, ◌∙◌, ap, List, length, arith, length-replicate, Letter, I, ◌⊕◌, Signed, anticommute, strings_anticommute, product, string_product, Rows, row_at, parity-self, parity-false, parity-mid, strings_anticommute-comm, strings_anticommute-product, string_product-self, blank, IsTable, IsOnto, TableauState, stabilises, stabiliser_of, destabiliser_of, chosen_product, IsGenerated, IsLinear, IsBasis}
+use Rattle.stab_tableau.proofs.Names.{if◌then◌else◌, eq-eqb, eqb_tells, ◌≡◌, ◌≢◌, ℕ, zero, suc, eqb, ◌<◌, ◌≤◌, Bool, true, false, not, ◌&&◌, inl, inr, refl, sym, ◌∙◌, ap, List, length, arith, length-replicate, Letter, I, ◌⊕◌, Signed, anticommute, strings_anticommute, product, string_product, Rows, row_at, parity-self, parity-false, parity-mid, strings_anticommute-comm, strings_anticommute-product, string_product-self, blank, IsInverseTable, IsOnto, TableauState, stabilises, stabiliser_of, destabiliser_of, chosen_product, IsGenerated, IsLinear, IsBasis}
 use Rattle.stab_tableau.proofs.GeneratedLemmas.{stabiliser-length, stabiliser-member, are-dual, is-generated}
 use Rattle.stab_tableau.proofs.GroupTestLemmas.{group-stabilises}
 use Rattle.stab_tableau.proofs.EliminationStepLemmas.{and-true, and-false, and-parity}
@@ -42,7 +42,7 @@ module _ (t : TableauState) where
           strings_anticommute-comm (destabiliser_of t k).letters (string_product p q) ∙ strings_anticommute-product p q (destabiliser_of t k).letters
           ∙ (λ i. strings_anticommute-comm p (destabiliser_of t k).letters i ⊕ strings_anticommute-comm q (destabiliser_of t k).letters i)
 
-  module _ (is : IsTable t.qubits t.rows) (onto : IsOnto t.qubits t.rows) where
+  module _ (is : IsInverseTable t.qubits t.rows) (onto : IsOnto t.qubits t.rows) where
     dual : (j k : ℕ) → j < t.qubits → k < t.qubits → strings_anticommute (destabiliser_of t k).letters (stabiliser_of t j).letters ≡ eqb j k
     dual j k lj lk = strings_anticommute-comm (destabiliser_of t k).letters (stabiliser_of t j).letters ∙ (are-dual t is onto j k lj lk).both
 

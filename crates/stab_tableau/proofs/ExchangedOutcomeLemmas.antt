@@ -1,5 +1,5 @@
 -- Exchanged outcomes: the stabiliser at a position where the preimage of what is measured has X or Y.
-use Rattle.stab_tableau.proofs.Names.{◌≡◌, ℕ, ◌<◌, true, false, sym, ◌∙◌, ap, subst, List, length, Letter, Z, letters_anticommute, has_x, Signed, single, strings_anticommute, Phased, phased, letter_at, stabiliser_of, IsPivot, TableauState, stabilises, column, InverseRows, string_preimage, extend, IsTable, IsOnto, IsTableau}
+use Rattle.stab_tableau.proofs.Names.{◌≡◌, ℕ, ◌<◌, true, false, sym, ◌∙◌, ap, subst, List, length, Letter, Z, letters_anticommute, has_x, Signed, single, strings_anticommute, Phased, phased, letter_at, stabiliser_of, IsPivot, TableauState, stabilises, column, InverseRows, string_preimage, extend, IsInverseTable, IsOnto, IsTableau}
 use Rattle.stab_tableau.proofs.HomomorphismLemmas.{kept-anticommute}
 use Rattle.stab_tableau.proofs.OneLetterLemmas.{one_letter-anticommute}
 use Rattle.stab_tableau.proofs.ColumnLemmas.{column-preimage}
@@ -8,7 +8,7 @@ use Rattle.stab_tableau.proofs.DiagonalLemmas.{x-with_Z}
 use Rattle.stab_tableau.proofs.MeasureLemmas.{position-in}
 
 -- a tableau's stabiliser number k exchanges the outcomes of a string whose preimage has X or Y at position k
-pub column-exchanges : (t : TableauState) → IsTable t.qubits t.rows → IsOnto t.qubits t.rows
+pub column-exchanges : (t : TableauState) → IsInverseTable t.qubits t.rows → IsOnto t.qubits t.rows
     → (measured : Signed) → length measured.letters ≡ t.qubits → (k : ℕ) → k < t.qubits
     → letters_anticommute Z (letter_at (string_preimage t.qubits t.rows measured.letters).letters k) ≡ true
     → IsPivot t.qubits (stabilises t) measured (column Z k t.rows)

@@ -1,5 +1,5 @@
 -- From what the program compares and writes to the frame of two tables.
-use Rattle.stab_tableau.proofs.Names.{beq, list_any, ◌≡◌, ℕ, zero, suc, ◌<◌, ◌≤◌, ◌+◌, ◌*◌, Bool, true, false, not, refl, sym, ◌∙◌, ap, List, [], ◌∷◌, length, map, get_or, set, drop, arith, below_more, get_or-set_other, get_or-set_same, ext_get_or, Letter, I, Z, ◌⊕◌, letters_anticommute, has_x, Signed, Phased, phased, Rows, unsigned_rows, clash, letter_at, diagonal, SameGroup, stabilises, InverseRows, rows_at, string_preimage, extend, paired, IsPaired, IsTableau, SameLetters, frame_letter, sign_frame}
+use Rattle.stab_tableau.proofs.Names.{beq, list_any, ◌≡◌, ℕ, zero, suc, ◌<◌, ◌≤◌, ◌+◌, ◌*◌, Bool, true, false, not, refl, sym, ◌∙◌, ap, List, [], ◌∷◌, length, map, get_or, set, drop, arith, below_more, get_or-set_other, get_or-set_same, ext_get_or, Letter, I, Z, ◌⊕◌, letters_anticommute, has_x, Signed, Phased, phased, Rows, unsigned_rows, clash, letter_at, diagonal, SameGroup, stabilises, InverseRows, rows_at, string_preimage, extend, paired_strings, IsPaired, IsTableau, SameLetters, frame_letter, sign_frame}
 use Rattle.stab_tableau.proofs.StabiliseLemmas.{diagonal-at}
 use Rattle.stab_tableau.proofs.MeasureLemmas.{diagonal-none}
 use Rattle.stab_tableau.proofs.DiagonalLemmas.{x-with_Z}
@@ -8,7 +8,7 @@ use Rattle.stab_tableau.proofs.SignFrameLemmas.{length-frame, frame-same, same-f
 
 -- strings two by two: what is the same for the strings is the same for the pairs
 
-letters-paired : (xs ys : List Signed) → map (λ (p : Signed). p.letters) xs ≡ map (λ (p : Signed). p.letters) ys → SameLetters (paired xs) (paired ys)
+letters-paired : (xs ys : List Signed) → map (λ (p : Signed). p.letters) xs ≡ map (λ (p : Signed). p.letters) ys → SameLetters (paired_strings xs) (paired_strings ys)
 letters-paired [] [] e = tt
 letters-paired [] (y ∷ ys) e = let l = ap length e in absurd (omega (arith, l))
 letters-paired (x ∷ xs) [] e = let l = ap length e in absurd (omega (arith, l))
@@ -17,7 +17,7 @@ letters-paired (x ∷ []) (y ∷ w ∷ ys) e = let l = ap length e in absurd (om
 letters-paired (x ∷ z ∷ xs) (y ∷ []) e = let l = ap length e in absurd (omega (arith, l))
 letters-paired (x ∷ z ∷ xs) (y ∷ w ∷ ys) e = (ap (λ l. get_or l 0 []) e, ap (λ l. get_or l 1 []) e, letters-paired xs ys (ap (drop 2) e))
 
-letters-unpaired : (xs ys : List Signed) (n m : ℕ) → length xs ≡ 2 * n → length ys ≡ 2 * m → SameLetters (paired xs) (paired ys)
+letters-unpaired : (xs ys : List Signed) (n m : ℕ) → length xs ≡ 2 * n → length ys ≡ 2 * m → SameLetters (paired_strings xs) (paired_strings ys)
     → map (λ (p : Signed). p.letters) xs ≡ map (λ (p : Signed). p.letters) ys
 letters-unpaired [] [] n m ex ey s = refl
 letters-unpaired (x ∷ []) ys n m ex ey s = absurd (omega arith)
@@ -35,7 +35,7 @@ unpaired : List InverseRows → List Signed
 unpaired [] = []
 unpaired (r ∷ rows) = r.x ∷ r.z ∷ unpaired rows
 
-unpaired-paired : (xs : List Signed) (n : ℕ) → length xs ≡ 2 * n → unpaired (paired xs) ≡ xs
+unpaired-paired : (xs : List Signed) (n : ℕ) → length xs ≡ 2 * n → unpaired (paired_strings xs) ≡ xs
 unfolding unpaired
 unpaired-paired [] n e = refl
 unpaired-paired (x ∷ []) n e = absurd (omega arith)
@@ -49,10 +49,10 @@ length-same (r ∷ rows) [] s = absurd s
 length-same (r ∷ rows) (t ∷ others) s = ap suc (length-same rows others s.2)
 
 module _ (r s : Rows) (ir : IsPaired r) (is : IsPaired s) where
-  pub pairs-same : r ≡ s → paired r.rows ≡ paired s.rows
-  pairs-same e = ap (λ (r : Rows). paired r.rows) e
+  pub pairs-same : r ≡ s → paired_strings r.rows ≡ paired_strings s.rows
+  pairs-same e = ap (λ (r : Rows). paired_strings r.rows) e
 
-  pub same-pairs : paired r.rows ≡ paired s.rows → r ≡ s
+  pub same-pairs : paired_strings r.rows ≡ paired_strings s.rows → r ≡ s
   same-pairs e = λ i. record { qubits = qubits i; rows = rows i }
     where
       rows : r.rows ≡ s.rows
@@ -61,12 +61,12 @@ module _ (r s : Rows) (ir : IsPaired r) (is : IsPaired s) where
       qubits : r.qubits ≡ s.qubits
       qubits = let l = ap length rows in let a = ir.size in let b = is.size in omega (arith, l)
 
-  pub pairs-letters : unsigned_rows r ≡ unsigned_rows s → SameLetters (paired r.rows) (paired s.rows)
+  pub pairs-letters : unsigned_rows r ≡ unsigned_rows s → SameLetters (paired_strings r.rows) (paired_strings s.rows)
   pairs-letters e = letters-paired r.rows s.rows e
 
-  pub letters-pairs : SameLetters (paired r.rows) (paired s.rows) → (r.qubits ≡ s.qubits) × (unsigned_rows r ≡ unsigned_rows s)
+  pub letters-pairs : SameLetters (paired_strings r.rows) (paired_strings s.rows) → (r.qubits ≡ s.qubits) × (unsigned_rows r ≡ unsigned_rows s)
   letters-pairs s_is = (
-    sym (length-paired r.rows r.qubits ir.size) ∙ length-same (paired r.rows) (paired s.rows) s_is ∙ length-paired s.rows s.qubits is.size,
+    sym (length-paired r.rows r.qubits ir.size) ∙ length-same (paired_strings r.rows) (paired_strings s.rows) s_is ∙ length-paired s.rows s.qubits is.size,
     letters-unpaired r.rows s.rows r.qubits s.qubits ir.size is.size s_is,
   )
 

@@ -1,5 +1,5 @@
 -- Rows after a gate on one qubit: i times Z times X is the preimage of -Y.
-use Rattle.stab_tableau.proofs.Names.{◌≡◌, ℕ, ◌<◌, Bool, true, sym, ◌∙◌, ap, List, length, set, arith, set-get_or, Letter, X, Y, Z, letters_anticommute, Quarter, Half, phase_of_sign, Signed, anticommute, with_sign, product_times_i, Phased, phased, times_phase, phased_product, times_phase-times_phase, times_phase-comm, phased_product-swap, phased-with_sign, anticommute-comm, phased_product-times_phase, Gate, InverseRow, OfX, OfZ, SignedLetter, letter_image, inverse, negated, InverseRows, rows_at, letter_preimage, IsRow, signed_preimage, row_string, with_string, put, rows_exchanged, TakesLetters, IsGated}
+use Rattle.stab_tableau.proofs.Names.{◌≡◌, ℕ, ◌<◌, Bool, true, sym, ◌∙◌, ap, List, length, set, arith, set-get_or, Letter, X, Y, Z, letters_anticommute, Quarter, Half, phase_of_sign, Signed, anticommute, with_sign, product_times_i, Phased, phased, times_phase, phased_product, times_phase-times_phase, times_phase-comm, phased_product-swap, phased-with_sign, anticommute-comm, phased_product-times_phase, Gate, InverseRow, OfX, OfZ, SignedLetter, letter_image, inverse, negated, InverseRows, rows_at, letter_preimage, IsInverseRow, signed_preimage, row_string, with_string, put, rows_exchanged, TakesLetters, IsGated}
 use Rattle.stab_tableau.proofs.PairedRowsLemmas.{row-put, put-again}
 
 -- the images of X and Z anticommute
@@ -7,7 +7,7 @@ use Rattle.stab_tableau.proofs.PairedRowsLemmas.{row-put, put-again}
 pub opposed-images : (g : Gate) → letters_anticommute (letter_image (inverse g) X).letter (letter_image (inverse g) Z).letter ≡ true
 opposed-images g = grind arith
 
-module _ (n : ℕ) (r : InverseRows) (is : IsRow n r) where
+module _ (n : ℕ) (r : InverseRows) (is : IsInverseRow n r) where
   pub opposed_back : anticommute r.z r.x ≡ true
   opposed_back = anticommute-comm r.z r.x ∙ is.opposed
 

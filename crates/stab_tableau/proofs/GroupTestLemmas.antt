@@ -1,5 +1,5 @@
 -- The strings that stabilise a state are a stabiliser group.
-use Rattle.stab_tableau.proofs.Names.{◌≡◌, true, false, sym, ◌∙◌, ap, length, phase_add, Phase, Zero, Quarter, Half, ThreeQuarters, Signed, minus, anticommute, Phased, phased, phased-product, phased-minus, TableauState, stabilises_zeros, stabilises, IsStabiliserGroup, string_preimage, extend, IsTable}
+use Rattle.stab_tableau.proofs.Names.{◌≡◌, true, false, sym, ◌∙◌, ap, length, phase_add, Phase, Zero, Quarter, Half, ThreeQuarters, Signed, minus, anticommute, Phased, phased, phased-product, phased-minus, TableauState, stabilises_zeros, stabilises, IsStabiliserGroup, string_preimage, extend, IsInverseTable}
 use Rattle.stab_tableau.proofs.TestLemmas.{not-true}
 use Rattle.stab_tableau.proofs.DiagonalLemmas.{diagonal-blank, diagonal-commute}
 use Rattle.stab_tableau.proofs.HomomorphismLemmas.{extend-product, extend-times_phase, kept-anticommute}
@@ -12,7 +12,7 @@ half-not Quarter e f = cc
 half-not Half e f = cc
 half-not ThreeQuarters e f = cc
 
-module _ (t : TableauState) (is : IsTable t.qubits t.rows) where
+module _ (t : TableauState) (is : IsInverseTable t.qubits t.rows) where
   stabilises-commuting : (p q : Signed) → length p.letters ≡ t.qubits → length q.letters ≡ t.qubits → stabilises t p ≡ true → stabilises t q ≡ true
       → anticommute p q ≡ false
   stabilises-commuting p q lp lq mp mq =

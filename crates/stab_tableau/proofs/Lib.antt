@@ -1,14 +1,14 @@
 mod Names
 pub mod PairedRowsLemmas
 pub mod GateTables
-pub mod PlaceLemmas
+pub mod OtherLetterLemmas
 pub mod SymmetryLemmas
 pub mod TestLemmas
 pub mod DiagonalLemmas
-pub mod FrontLemmas
+pub mod FirstLetterLemmas
 pub mod GroupLemmas
 pub mod TraceLemmas
-pub mod FreeLemmas
+pub mod RandomLemmas
 pub mod MemberLemmas
 pub mod HomomorphismLemmas
 pub mod OneLetterLemmas

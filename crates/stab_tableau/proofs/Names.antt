@@ -41,17 +41,17 @@ pub use Rattle.stab_tableau.specs.Groups.{IsStabiliserGroup, SameGroup}
 pub use Rattle.stab_tableau.specs.Laws.{AnticommutesWithMember}
 pub use Rattle.stab_tableau.specs.Pivots.{IsPivot}
 pub use Rattle.stab_tableau.specs.Reduced.{bit_at, IsFirst, IsLead, IsRowAt, AreRowsFrom, AreReduced}
-pub use Rattle.stab_tableau.specs.Rules.{outcome_by, is_free_by, projected_by}
+pub use Rattle.stab_tableau.specs.Rules.{outcome_by, is_random_by, projected_by}
 pub use Rattle.stab_tableau.specs.Tableaus.{TableauState, stabilises, stabilises_zeros, is_one}
-pub use Rattle.stab_tableau.specs.Traces.{diagonal, Event, applied, applied_pair, projected, member, is_free, Fits, IsSound, outcome}
+pub use Rattle.stab_tableau.specs.Traces.{diagonal, Event, applied, applied_pair, projected, member, is_random, Fits, IsSound, outcome}
 pub use Rattle.stab_tableau.specs.declared.table.InverseRow.{InverseRow}
 pub use Rattle.stab_tableau.specs.declared.table.InverseRow.TheVariants.{OfX, OfZ}
 pub use Rattle.stab_tableau.specs.inner.Collapses.{collapsed_row, CollapsedRow, IsDetermined}
 pub use Rattle.stab_tableau.specs.inner.ColumnLetters.{letter_anticommuting, column}
 pub use Rattle.stab_tableau.specs.inner.Eliminations.{IsLinear, IsBasis, HasCome, ComesTo, exchanged, AreExchanged, cleared_with, AreCleared, HasStepped}
 pub use Rattle.stab_tableau.specs.inner.Frames.{SameLetters, conjugated_row, frame_letter, sign_frame}
-pub use Rattle.stab_tableau.specs.inner.InverseRows.{blank, IsTable, IsOnto, extend, IsHomomorphism, InverseRows, rows_at, one_letter, letter_preimage, string_preimage, IsOver, IsRow, GateRow, signed_preimage, AreRows, PairRows, pair_preimage, zeros_row}
+pub use Rattle.stab_tableau.specs.inner.InverseRows.{blank, IsInverseTable, IsOnto, extend, IsHomomorphism, InverseRows, rows_at, one_letter, letter_preimage, string_preimage, IsOver, IsInverseRow, GateRow, signed_preimage, AreRows, PairRows, pair_preimage, zeros_row}
 pub use Rattle.stab_tableau.specs.inner.Observables.{observed}
-pub use Rattle.stab_tableau.specs.inner.Pairs.{row_position, row_letter, row_string, ArePairsChosen, put, paired, IsPaired, with_string, rows_exchanged, TakesLetters, IsGated, IsPairGated}
+pub use Rattle.stab_tableau.specs.inner.Pairs.{row_position, row_letter, row_string, ArePairsChosen, put, paired_strings, IsPaired, with_string, rows_exchanged, TakesLetters, IsGated, IsPairGated}
 pub use Rattle.stab_tableau.specs.inner.Supports.{Supports, Covers, OthersStay, is_known, has_position}
-pub use Rattle.stab_tableau.specs.inner.Tables.{IsTableau, IsMeasured}
+pub use Rattle.stab_tableau.specs.inner.Tables.{IsTableau, AreRowsMeasured}

@@ -1,11 +1,11 @@
 -- A group that has the stabilisers of a state is the group of all strings that stabilise it.
-use Rattle.stab_tableau.proofs.Names.{◌≡◌, ℕ, zero, suc, ◌<◌, ◌≤◌, Bool, true, false, not, sym, ◌∙◌, ap, length, arith, if◌then◌else◌, length-replicate, I, Signed, anticommute, product, length-product, IsTable, IsOnto, TableauState, stabilises, stabiliser_of, destabiliser_of, chosen_product, IsGenerated, IsStabiliserGroup, SameGroup}
+use Rattle.stab_tableau.proofs.Names.{◌≡◌, ℕ, zero, suc, ◌<◌, ◌≤◌, Bool, true, false, not, sym, ◌∙◌, ap, length, arith, if◌then◌else◌, length-replicate, I, Signed, anticommute, product, length-product, IsInverseTable, IsOnto, TableauState, stabilises, stabiliser_of, destabiliser_of, chosen_product, IsGenerated, IsStabiliserGroup, SameGroup}
 use Rattle.stab_tableau.proofs.TestLemmas.{same_test}
 use Rattle.stab_tableau.proofs.GeneratedLemmas.{stabiliser-length, is-generated}
 use Rattle.stab_tableau.proofs.GroupTestLemmas.{group-stabilises}
 use Rattle.stab_tableau.proofs.ReducedLemmas.{same-letters}
 
-module _ (t : TableauState) (is : IsTable t.qubits t.rows) (onto : IsOnto t.qubits t.rows)
+module _ (t : TableauState) (is : IsInverseTable t.qubits t.rows) (onto : IsOnto t.qubits t.rows)
     (member : Signed → Bool) (g : IsStabiliserGroup t.qubits member)
     (has : (k : ℕ) → k < t.qubits → member (stabiliser_of t k) ≡ true) where
   record IsMember (p : Signed) : Type 0 where

@@ -1,5 +1,5 @@
 -- Tables whose rows differ in their signs alone: which strings stabilise, and when both have one group.
-use Rattle.stab_tableau.proofs.Names.{◌≡◌, ℕ, suc, ◌<◌, Bool, true, false, refl, sym, ◌∙◌, ap, List, [], ◌∷◌, length, get_or, arith, Letter, I, X, Y, Z, Quarter, phase_of_sign, ◌⊕◌, letters_anticommute, Signed, minus, with_sign, strings_anticommute, Phased, plain, phased, times_phase, phased_product, phase_of_sign-parity, strings_anticommute-comm, times_phase-times_phase, times_phase-comm, phased_product-times_phase_left, phased_product-times_phase_right, signed_path, phased-with_sign, clash, diagonal, InverseRows, blank, letter_preimage, string_preimage, extend, IsTable, IsOnto, stabilises_zeros, stabilises, letter_anticommuting, column, stabiliser_of, SameGroup, SameLetters, sign_frame}
+use Rattle.stab_tableau.proofs.Names.{◌≡◌, ℕ, suc, ◌<◌, Bool, true, false, refl, sym, ◌∙◌, ap, List, [], ◌∷◌, length, get_or, arith, Letter, I, X, Y, Z, Quarter, phase_of_sign, ◌⊕◌, letters_anticommute, Signed, minus, with_sign, strings_anticommute, Phased, plain, phased, times_phase, phased_product, phase_of_sign-parity, strings_anticommute-comm, times_phase-times_phase, times_phase-comm, phased_product-times_phase_left, phased_product-times_phase_right, signed_path, phased-with_sign, clash, diagonal, InverseRows, blank, letter_preimage, string_preimage, extend, IsInverseTable, IsOnto, stabilises_zeros, stabilises, letter_anticommuting, column, stabiliser_of, SameGroup, SameLetters, sign_frame}
 use Rattle.stab_tableau.proofs.HomomorphismLemmas.{extend-times_phase, kept-anticommute}
 use Rattle.stab_tableau.proofs.OneLetterLemmas.{one_letter-anticommute}
 use Rattle.stab_tableau.proofs.DiagonalLemmas.{diagonal-commute}
@@ -81,7 +81,7 @@ frame-stabilises n rows others s p = ap stabilises_zeros whole
 
 -- the groups are the same if the frame's preimage has letters I and Z alone
 
-module _ (n : ℕ) (rows others : List InverseRows) (is : IsTable n rows) (onto : IsOnto n rows) (s : SameLetters rows others) where
+module _ (n : ℕ) (rows others : List InverseRows) (is : IsInverseTable n rows) (onto : IsOnto n rows) (s : SameLetters rows others) where
   length-frame_n : length (sign_frame rows others) ≡ n
   length-frame_n = length-frame rows others s ∙ is.count
 

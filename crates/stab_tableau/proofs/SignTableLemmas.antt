@@ -1,5 +1,5 @@
 -- Rows that differ in their signs alone from those of a table are a table too.
-use Rattle.stab_tableau.proofs.Names.{◌≡◌, ℕ, zero, suc, Bool, refl, sym, ◌∙◌, ap, List, [], ◌∷◌, length, Letter, phase_of_sign, strings_anticommute, string_product, Phased, plain, times_phase, phased_product, parity-self, phase_of_sign-parity, strings_anticommute-blank_right, strings_anticommute-product_right, times_phase-times_phase, times_phase-comm, times_phase-plain, InverseRows, IsOver, IsHomomorphism, IsTable, IsOnto, blank, rows_at, string_preimage, extend, SameLetters, sign_frame}
+use Rattle.stab_tableau.proofs.Names.{◌≡◌, ℕ, zero, suc, Bool, refl, sym, ◌∙◌, ap, List, [], ◌∷◌, length, Letter, phase_of_sign, strings_anticommute, string_product, Phased, plain, times_phase, phased_product, parity-self, phase_of_sign-parity, strings_anticommute-blank_right, strings_anticommute-product_right, times_phase-times_phase, times_phase-comm, times_phase-plain, InverseRows, IsOver, IsHomomorphism, IsInverseTable, IsOnto, blank, rows_at, string_preimage, extend, SameLetters, sign_frame}
 use Rattle.stab_tableau.proofs.HomomorphismLemmas.{extend-times_phase, after-homomorphism, same-homomorphism}
 use Rattle.stab_tableau.proofs.SignFrameLemmas.{frame-preimage, times_phase_both}
 
@@ -38,7 +38,7 @@ module _ (n : ℕ) (rows others : List InverseRows) (s : SameLetters rows others
       extend-times_phase (string_preimage n rows) (phase_of_sign (strings_anticommute (sign_frame rows others) p)) (plain p)
       ∙ sym (frame-preimage n rows others s p)
 
-  pub same-table : IsTable n rows → IsTable n others
+  pub same-table : IsInverseTable n rows → IsInverseTable n others
   same-table is = record {
     count = same-count rows others s ∙ is.count;
     sizes = λ q lt. same-over n rows others s q (is.sizes q lt);

@@ -9,8 +9,8 @@ abbrev pub outcome_by : (Signed → Bool) → Signed → Bool → Bool
 outcome_by stabilised p coin = if stabilised p then false else (if stabilised (minus p) then true else coin)
 
 -- whether neither sign of p stabilises, so that the coin decides
-abbrev pub is_free_by : (Signed → Bool) → Signed → Bool
-is_free_by stabilised p = not (stabilised p) && not (stabilised (minus p))
+abbrev pub is_random_by : (Signed → Bool) → Signed → Bool
+is_random_by stabilised p = not (stabilised p) && not (stabilised (minus p))
 
 -- whether p stabilises after a projection of q on an outcome: it commutes with q, and it stabilised before, by itself or
 -- after a product with q, whose sign is that of the outcome

@@ -4,7 +4,7 @@ ghost use Rattle.stab_gates.specs.Letters.{letters_anticommute};
 ghost use Rattle.stab_pauli.specs.Paulis.{Signed, anticommute};
 ghost use Rattle.stab_pauli.specs.Phaseds.{phased, phased_product};
 ghost use Rattle.stab_tableau.specs.Gates.{letter_at};
-ghost use Rattle.stab_tableau.specs.inner.InverseRows.{rows_at, letter_preimage, IsRow, AreRows};
+ghost use Rattle.stab_tableau.specs.inner.InverseRows.{rows_at, letter_preimage, IsInverseRow, AreRows};
 ghost use Rattle.stab_tableau.specs.inner.ColumnLetters.{letter_anticommuting};
 ghost use Rattle.stab_tableau.specs.inner.Pairs.{put, TakesLetters, IsGated, IsPairGated};
 
@@ -17,7 +17,7 @@ use stab_pauli::{Letter, Pauli};
 #[inline(always)]
 fn take_y(table: &mut Table, row: InverseRow, qubit: usize)
     requires in_range { qubit < length table.old }
-    requires row { IsRow (length table.old) (rows_at table.old qubit) }
+    requires row { IsInverseRow (length table.old) (rows_at table.old qubit) }
     ensures taken { (y : Signed) × (table.new ≡ put row qubit y table.old) × (phased y ≡ letter_preimage (length table.old) (rows_at table.old qubit) Y) }
 {
     match row {
@@ -35,7 +35,7 @@ fn take_y(table: &mut Table, row: InverseRow, qubit: usize)
 #[inline(always)]
 fn take_letters(table: &mut Table, qubit: usize, x: Letter, z: Letter)
     requires in_range { qubit < length table.old }
-    requires row { IsRow (length table.old) (rows_at table.old qubit) }
+    requires row { IsInverseRow (length table.old) (rows_at table.old qubit) }
     requires opposed { letters_anticommute x z ≡ true }
     ensures taken { TakesLetters x z qubit table.old table.new }
 {
@@ -68,7 +68,7 @@ fn take_letters(table: &mut Table, qubit: usize, x: Letter, z: Letter)
 /// Makes the rows of the inverse those after a gate on a qubit.
 pub fn apply(table: &mut Table, gate: Gate, qubit: usize)
     requires in_range { qubit < length table.old }
-    requires row { IsRow (length table.old) (rows_at table.old qubit) }
+    requires row { IsInverseRow (length table.old) (rows_at table.old qubit) }
     ensures gated { IsGated gate qubit table.old table.new }
 {
     let images = GateImages::of(gate);
@@ -113,7 +113,7 @@ pub fn apply_pair(table: &mut Table, gate: PairGate, first: usize, second: usize
 pub fn multiply_into(table: &Table, qubit: usize, letter: Letter, out: &mut Pauli)
     requires in_range { qubit < length table.now }
     requires same_length { length out.old.letters ≡ length table.now }
-    requires row { IsRow (length table.now) (rows_at table.now qubit) }
+    requires row { IsInverseRow (length table.now) (rows_at table.now qubit) }
     requires commutes_x { anticommute out.old (rows_at table.now qubit).x ≡ false }
     requires commutes_z { anticommute out.old (rows_at table.now qubit).z ≡ false }
     ensures value { phased out.new ≡ phased_product (phased out.old) (letter_preimage (length table.now) (rows_at table.now qubit) letter) }
@@ -133,7 +133,7 @@ pub fn multiply_into(table: &Table, qubit: usize, letter: Letter, out: &mut Paul
 pub fn copy_into(table: &Table, qubit: usize, letter: Letter, out: &mut Pauli)
     requires in_range { qubit < length table.now }
     requires same_length { length out.old.letters ≡ length table.now }
-    requires row { IsRow (length table.now) (rows_at table.now qubit) }
+    requires row { IsInverseRow (length table.now) (rows_at table.now qubit) }
     ensures value { phased out.new ≡ letter_preimage (length table.now) (rows_at table.now qubit) letter }
 {
     match letter {

@@ -48,12 +48,12 @@ pub struct Table {
 impl Model for Table {
     ghost use Rattle.std.specs.Prelude.{List};
     ghost use Rattle.stab_tableau.specs.inner.InverseRows.{InverseRows};
-    ghost use Rattle.stab_tableau.specs.inner.Pairs.{paired, IsPaired};
+    ghost use Rattle.stab_tableau.specs.inner.Pairs.{paired_strings, IsPaired};
     ghost use Rattle.stab_tableau.specs.inner.Supports.{Covers};
 
     ghost Value = { List InverseRows };
 
-    ghost view = { λ t. paired t.rows.rows };
+    ghost view = { λ t. paired_strings t.rows.rows };
 
     ghost invariant = { λ t. IsPaired t.rows × Covers t.supports t.rows };
 }

@@ -61,7 +61,7 @@ impl Tableau {
     ghost use Rattle.stab_tableau.specs.Gates.{back, back_pair};
     ghost use Rattle.stab_tableau.specs.Traces.{member};
     ghost use Rattle.stab_tableau.specs.Tableaus.{stabilises};
-    ghost use Rattle.stab_tableau.specs.Rules.{outcome_by, is_free_by, projected_by};
+    ghost use Rattle.stab_tableau.specs.Rules.{outcome_by, is_random_by, projected_by};
     ghost use Rattle.stab_tableau.specs.Groups.{IsStabiliserGroup, SameGroup};
     ghost use Rattle.stab_tableau.specs.Reduced.{AreReduced};
     ghost use Rattle.stab_tableau.specs.inner.Tables.{IsTableau};
@@ -150,7 +150,7 @@ impl Tableau {
         requires same_length { length pauli.now.letters ≡ self.old.qubits }
         ensures unchanged { self.new ≡ self.old }
         ensures some { (b : Bool) → (result ≡ Some b) ↔ (stabilises self.old (with_sign b pauli.now) ≡ true) }
-        ensures none { (result ≡ None) ↔ (is_free_by (stabilises self.old) pauli.now ≡ true) }
+        ensures none { (result ≡ None) ↔ (is_random_by (stabilises self.old) pauli.now ≡ true) }
     {
         rows::write_preimage(&self.table, pauli, &mut self.preimage);
         match self.preimage.first_x() {
@@ -166,7 +166,7 @@ impl Tableau {
         requires same_length { length pauli.now.letters ≡ self.old.qubits }
         ensures qubits { self.new.qubits ≡ self.old.qubits }
         ensures outcome { result.outcome ≡ outcome_by (stabilises self.old) pauli.now coin }
-        ensures free { result.free ≡ is_free_by (stabilises self.old) pauli.now }
+        ensures free { result.free ≡ is_random_by (stabilises self.old) pauli.now }
         ensures members { (p : Signed) → length p.letters ≡ self.old.qubits → stabilises self.new p ≡ projected_by (stabilises self.old) pauli.now result.outcome p }
         ensures unchanged { result.free ≡ false → self.new ≡ self.old }
     {
@@ -186,7 +186,7 @@ impl Tableau {
         requires in_range { qubit < self.old.qubits }
         ensures qubits { self.new.qubits ≡ self.old.qubits }
         ensures outcome { result.outcome ≡ outcome_by (stabilises self.old) (single self.old.qubits qubit letter) coin }
-        ensures free { result.free ≡ is_free_by (stabilises self.old) (single self.old.qubits qubit letter) }
+        ensures free { result.free ≡ is_random_by (stabilises self.old) (single self.old.qubits qubit letter) }
         ensures members { (p : Signed) → length p.letters ≡ self.old.qubits → stabilises self.new p ≡ projected_by (stabilises self.old) (single self.old.qubits qubit letter) result.outcome p }
         ensures unchanged { result.free ≡ false → self.new ≡ self.old }
     {
@@ -207,7 +207,7 @@ impl Tableau {
     pub fn fixed_letter(&mut self, letter: Letter, qubit: usize) -> Option<bool>
         requires in_range { qubit < self.old.qubits }
         ensures unchanged { self.new ≡ self.old }
-        ensures none { (result ≡ None) ↔ (is_free_by (stabilises self.old) (single self.old.qubits qubit letter) ≡ true) }
+        ensures none { (result ≡ None) ↔ (is_random_by (stabilises self.old) (single self.old.qubits qubit letter) ≡ true) }
         ensures outcome { IfSome result (λ b. (coin : Bool) → outcome_by (stabilises self.old) (single self.old.qubits qubit letter) coin ≡ b) }
         ensures members { IfSome result (λ b. (p : Signed) → length p.letters ≡ self.old.qubits → stabilises self.old p ≡ projected_by (stabilises self.old) (single self.old.qubits qubit letter) b p) }
     {

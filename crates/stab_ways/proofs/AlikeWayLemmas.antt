@@ -6,10 +6,10 @@ use Rattle.stab_run.specs.Cuts.{rest_of}
 use Rattle.stab_run.proofs.CoinLemmas.{coins-steps}
 use Rattle.stab_run.proofs.LookbackLemmas.{looked_up-more}
 use Rattle.stab_run.proofs.PointLemmas.{rest-joined}
-use Rattle.stab_frames.proofs.AgainLemmas.{looks-front}
+use Rattle.stab_frames.proofs.RepeatedStepLemmas.{looks-front}
 use Rattle.stab_frames.proofs.AlikeLemmas.{AreAlike, letters-seen, given-seen, given-makes}
 use Rattle.stab_ways.specs.declared.folds.Checkpoint.{Checkpoint}
-use Rattle.stab_ways.specs.inner.Folds.{IsKept, IsSince, WaitsLonger, IsAgain, later, waits_after, again}
+use Rattle.stab_ways.specs.inner.Folds.{IsWalkKept, IsSince, WaitsLonger, IsWalkAgain, later, waits_after, again}
 use Rattle.stab_ways.proofs.WalkedLemmas.{steps_in, walked-reported, walked-past}
 use Rattle.stab_ways.proofs.ItemLemmas.{walked-steps}
 
@@ -128,8 +128,8 @@ module _ (n : ℕ) (string : List Letter) (parts : List Part) where
   listed-soon (Some k) every t f = All-nil (λ (x : Turn). x.after ≤ t + length steps)
 
   -- since a checkpoint, to which it has come again
-  module _ (window : ℕ) (c : Checkpoint) (first w : WalkState) (near : looks_too_far window steps ≡ false) (kept : IsKept c first) (over : w ≡ walked n string parts first)
-      (is : IsAgain window c w) where
+  module _ (window : ℕ) (c : Checkpoint) (first w : WalkState) (near : looks_too_far window steps ≡ false) (kept : IsWalkKept c first) (over : w ≡ walked n string parts first)
+      (is : IsWalkAgain window c w) where
     since : w.steps - c.steps ≡ length steps
     since = omega (arith, ap (λ (v : WalkState). v.steps) over ∙ walked-steps n string parts first, kept.steps)
 

@@ -1,8 +1,8 @@
--- Enough: a frame that takes each outcome as a fixed one needs no pivot, if exactly the coins of those free outcomes differ that it flips.
-use Rattle.stab_ways.proofs.Names.{◌≡◌, ℕ, zero, suc, ◌+◌, ◌<◌, refl, sym, ◌∙◌, ap, subst, Bool, true, false, ◌&&◌, List, [], ◌∷◌, ◌++◌, length, get_or, arith, length-append, ◌⊕◌, single, strings_anticommute, is_free, Step, one, two, controlled, collapse, product, detector, observable, string_of, Point, RunOutput, coins_of, all_coins_of, next_point, point_after, outputs, outputs-append, flags-counted, coins-are, coins-append, Frame, no_strings, flips_given, IsEnoughAt, by_letters, way_after, way_over, way_flips}
+-- Enough: a frame that takes each outcome as a fixed one needs no pivot, if exactly the coins of those random outcomes differ that it flips.
+use Rattle.stab_ways.proofs.Names.{◌≡◌, ℕ, zero, suc, ◌+◌, ◌<◌, refl, sym, ◌∙◌, ap, subst, Bool, true, false, ◌&&◌, List, [], ◌∷◌, ◌++◌, length, get_or, arith, length-append, ◌⊕◌, single, strings_anticommute, is_random, Step, one, two, controlled, collapse, product, detector, observable, string_of, Point, RunOutput, coins_of, all_coins_of, next_point, point_after, outputs, outputs-append, flags-counted, coins-are, coins-append, Frame, no_strings, flips_given, IsEnoughAt, by_letters, way_after, way_over, way_flips}
 use Rattle.stab_ways.proofs.FixedLemmas.{flips-more}
 
--- a free outcome whose coin differs exactly if the frame anticommutes
+-- a random outcome whose coin differs exactly if the frame anticommutes
 one-enough : (change free distinct : Bool) → change ≡ (free && distinct) → change ⊕ distinct ≡ true → free ≡ false
 one-enough change false distinct e h = refl
 one-enough true true true e h = cc
@@ -25,10 +25,10 @@ module _ (n : ℕ) (coins changes : ℕ → Bool) where
   here-enough (two g p q) xs f a e = tt
   here-enough (controlled l k q) xs f a e = tt
   here-enough (collapse l q recorded inverted resets) xs f a e =
-      one-enough (changes a.coin) (is_free a.trace (single n q l)) (strings_anticommute f.letters (single n q l).letters)
+      one-enough (changes a.coin) (is_random a.trace (single n q l)) (strings_anticommute f.letters (single n q l).letters)
       (ap changes (sym (none-more a.coin)) ∙ e 0 (omega arith))
   here-enough (product factors inverted) xs f a e =
-      one-enough (changes a.coin) (is_free a.trace (string_of n factors)) (strings_anticommute f.letters (string_of n factors).letters)
+      one-enough (changes a.coin) (is_random a.trace (string_of n factors)) (strings_anticommute f.letters (string_of n factors).letters)
       (ap changes (sym (none-more a.coin)) ∙ e 0 (omega arith))
   here-enough (detector ks) xs f a e = tt
   here-enough (observable j ks) xs f a e = tt
@@ -82,13 +82,13 @@ long-flips n (x ∷ xs) f =
 -- and so they are at the first of steps
 
 module _ (n : ℕ) (coins changes : ℕ → Bool) where
-  long-free : (xs : List Step) (a : Point) → length (outputs n coins xs a).free ≡ all_coins_of xs
-  long-free xs a = omega (arith, flags-counted n coins xs a, coins-are n coins xs a)
+  long-random : (xs : List Step) (a : Point) → length (outputs n coins xs a).free ≡ all_coins_of xs
+  long-random xs a = omega (arith, flags-counted n coins xs a, coins-are n coins xs a)
 
   pub differ-front : (xs ys : List Step) (f : Frame) (a : Point) → Differ n coins changes (xs ++ ys) f a → Differ n coins changes xs f a
   differ-front xs ys f a e t lt =
       e t (omega (arith, lt, coins-append xs ys))
       ∙ (λ i. (ap (λ (o : RunOutput). get_or o.free t false) (outputs-append n coins xs ys a)
-      ∙ get_or-front (outputs n coins xs a).free (outputs n coins ys (point_after n coins xs a)).free t (subst (λ m. t < m) (sym (long-free xs a)) lt)) i
+      ∙ get_or-front (outputs n coins xs a).free (outputs n coins ys (point_after n coins xs a)).free t (subst (λ m. t < m) (sym (long-random xs a)) lt)) i
       && (ap (λ (o : RunOutput). get_or o.outcomes t false) (flips-more n xs ys f)
       ∙ get_or-front (way_flips n xs f).outcomes (way_flips n ys (way_over n xs f)).outcomes t (subst (λ m. t < m) (sym (long-flips n xs f)) lt)) i)

@@ -3,11 +3,11 @@ pub mod FixedLemmas
 pub mod EnoughLemmas
 pub mod BlankLemmas
 pub mod GateLemmas
-pub mod FrontLemmas
+pub mod FirstStepLemmas
 pub mod RunLemmas
 pub mod WalkedLemmas
 pub mod StringLemmas
-pub mod TogetherLemmas
+pub mod ResetLemmas
 pub mod PassLemmas
 pub mod ItemLemmas
 pub mod TurnLemmas

@@ -13,12 +13,12 @@ pub use Rattle.stab_pauli.specs.Paulis.{Signed, single, with_sign, anticommute, 
 pub use Rattle.stab_gates.proofs.LetterLemmas.{letter_product-I}
 pub use Rattle.stab_tableau.proofs.OneLetterLemmas.{length-one_letter, one_letter-anticommute}
 pub use Rattle.stab_pauli.proofs.StringLemmas.{length-string_product, string_product-blank, string_product-blank_right, string_product-assoc, string_product-self, strings_anticommute-blank, strings_anticommute-self, strings_anticommute-comm}
-pub use Rattle.stab_tableau.specs.Traces.{Event, projected, member, is_free}
+pub use Rattle.stab_tableau.specs.Traces.{Event, projected, member, is_random}
 pub use Rattle.stab_tableau.specs.Groups.{IsStabiliserGroup}
 pub use Rattle.stab_pauli.proofs.SignedLemmas.{product-self}
 pub use Rattle.stab_gates.specs.declared.gate.Gate.{Gate}
 pub use Rattle.stab_gates.specs.declared.gate.PairGate.{PairGate}
-pub use Rattle.stab_tableau.proofs.PlaceLemmas.{get_or-blank, set-blank}
+pub use Rattle.stab_tableau.proofs.OtherLetterLemmas.{get_or-blank, set-blank}
 pub use Rattle.stab_tableau.specs.Gates.{image, image_pair, letter_image, pair_letters, letter_at}
 pub use Rattle.stab_tableau.specs.Conjugations.{IsConjugated}
 pub use Rattle.stab_instructions.specs.declared.axis.Axis.{Axis}
@@ -36,28 +36,28 @@ pub use Rattle.stab_run.proofs.RunLemmas.{after-append, outputs-append, joined-a
 pub use Rattle.stab_run.proofs.StateLemmas.{run-state}
 pub use Rattle.stab_run.proofs.LookbackLemmas.{looked_up-zeros, or-left, or-right}
 pub use Rattle.stab_frames.specs.Frames.{Frame, frame_of, identity_frame, plus, times_where}
-pub use Rattle.stab_frames.specs.RunPivots.{RunPivots, no_strings, changed}
+pub use Rattle.stab_frames.specs.RunPivots.{RunPivots, no_strings, coins_changed}
 pub use Rattle.stab_frames.specs.FrameSteps.{flipped_by, letters_by, letters_after, frame_after, flips_given, frame_over, flips_over}
 pub use Rattle.stab_frames.specs.PivotsOfSteps.{IsEnoughAt, AreEnough}
-pub use Rattle.stab_frames.specs.Fronts.{AreFronts, IsFlippedRun}
+pub use Rattle.stab_frames.specs.FirstSteps.{AreFronts, IsFlippedRun}
 pub use Rattle.stab_frames.specs.Pivots.{pivot_at}
 pub use Rattle.stab_frames.specs.Propagations.{PropagationState, frame_at, IsPlaced, PropagatesOver}
 pub use Rattle.stab_frames.specs.inner.Draws.{never}
 pub use Rattle.stab_frames.specs.inner.Propagates.{GoesOver, IsMissing}
 pub use Rattle.stab_frames.specs.inner.Touches.{acts}
-pub use Rattle.stab_frames.proofs.FreeLemmas.{pivot-none}
+pub use Rattle.stab_frames.proofs.RandomLemmas.{pivot-none}
 pub use Rattle.stab_frames.proofs.StepsPropagatedLemmas.{propagation-same, fits-over}
 pub use Rattle.stab_frames.proofs.OverLemmas.{frame-append, flips-append}
 pub use Rattle.stab_frames.proofs.StartLemmas.{by_frame-same}
 pub use Rattle.stab_frames.proofs.EditLemmas.{flipped-run, fronts-go-on, fronts-take-paulis}
 pub use Rattle.stab_frames.proofs.GoesOverLemmas.{fits-mapped}
-pub use Rattle.stab_frames.proofs.FrontLemmas.{group-origin}
+pub use Rattle.stab_frames.proofs.TwoCircuitLemmas.{group-origin}
 pub use Rattle.stab_frames.proofs.PropagatedPointLemmas.{conjugated-over, conjugated-comm, conjugated-stabiliser}
 pub use Rattle.stab_frames.proofs.SignLemmas.{sign-twice, back-letter}
-pub use Rattle.stab_ways.specs.PutIn.{letter_gates, with_string, by_letters, reset_leaves, step_leaves, way_after, way_over, way_flips, frame_begun, string_after, string_flips}
+pub use Rattle.stab_ways.specs.PutIn.{letter_gates, with_string_in, by_letters, reset_leaves, step_leaves, way_after, way_over, way_flips, frame_begun, string_after, string_flips}
 pub use Rattle.stab_ways.specs.Laws.{coins_with, StringsFlipRuns, LettersFlipRuns, FixedOutcomesKeepCoins}
-pub use Rattle.stab_ways.specs.Ways.{Part, is_tick, rest_of, rounds_counted, Turn, placed, differ, changed_string, tick_string, listed_string, turns, part_rounds, parts_of, parts_after, string_turns, turn_shown}
-pub use Rattle.stab_ways.specs.inner.Walks.{EndsTogether, IsFront, has_letter_at, steps_leave, passed, WalkState, put_in, ended, past_steps, reported, over_part, walked, walk_shown, IsWalk}
+pub use Rattle.stab_ways.specs.Ways.{Part, is_tick, rest_of_instruction, rounds_counted, Turn, placed, differ, changed_string, tick_string, listed_string, turns, part_rounds, carried_parts, parts_after, string_turns, turn_shown}
+pub use Rattle.stab_ways.specs.inner.Walks.{EndsTogether, IsFront, has_letter_at, steps_leave, passed, WalkState, put_in, ended, past_steps, reported, over_part, walked, walk_shown, IsWalkOn}
 pub use Rattle.stab_ways.specs.declared.way.PlacedLetter.{PlacedLetter}
 pub use Rattle.stab_run.specs.Records.{ones}
 pub use Rattle.stab_items.specs.StepValues.{lookbacks_of, step_shown, steps_shown}

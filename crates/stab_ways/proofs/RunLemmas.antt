@@ -1,8 +1,8 @@
 -- Runs: what a string that is put in flips in them.
-use Rattle.stab_ways.proofs.Names.{◌≡◌, ℕ, ◌+◌, ◌-◌, ◌<◌, ◌≤◌, refl, sym, ◌∙◌, ap, subst, Bool, false, ◌&&◌, List, [], ◌∷◌, ◌++◌, length, take, drop, All, replicate, get_or, arith, take-take, take-append-drop, All-take, All-nil, All-drop, Letter, I, string_product, string_product-blank, ◌⊕◌, member, IsConjugated, Step, records_of, State, start, run, Point, RunOutput, origin, nothing, all_coins_of, point_after, outputs, StepFits, coins-are, flags-counted, outputs-append, run-state, length-replicate, drop-take, Frame, frame_of, identity_frame, AreFronts, IsFlippedRun, by_frame-same, flipped-run, letter_gates, with_string, way_over, way_flips, frame_begun, string_after, string_flips, coins_with, StringsFlipRuns, LettersFlipRuns, FixedOutcomesKeepCoins, append_assoc, gate_of, one, single, length-one_letter}
+use Rattle.stab_ways.proofs.Names.{◌≡◌, ℕ, ◌+◌, ◌-◌, ◌<◌, ◌≤◌, refl, sym, ◌∙◌, ap, subst, Bool, false, ◌&&◌, List, [], ◌∷◌, ◌++◌, length, take, drop, All, replicate, get_or, arith, take-take, take-append-drop, All-take, All-nil, All-drop, Letter, I, string_product, string_product-blank, ◌⊕◌, member, IsConjugated, Step, records_of, State, start, run, Point, RunOutput, origin, nothing, all_coins_of, point_after, outputs, StepFits, coins-are, flags-counted, outputs-append, run-state, length-replicate, drop-take, Frame, frame_of, identity_frame, AreFronts, IsFlippedRun, by_frame-same, flipped-run, letter_gates, with_string_in, way_over, way_flips, frame_begun, string_after, string_flips, coins_with, StringsFlipRuns, LettersFlipRuns, FixedOutcomesKeepCoins, append_assoc, gate_of, one, single, length-one_letter}
 use Rattle.stab_ways.proofs.EnoughLemmas.{Differ, differ-front, get_or-following, get_or-front, long-flips}
 use Rattle.stab_ways.proofs.BlankLemmas.{blank-over}
-use Rattle.stab_ways.proofs.FrontLemmas.{fronts-way}
+use Rattle.stab_ways.proofs.FirstStepLemmas.{fronts-way}
 use Rattle.stab_ways.proofs.GateLemmas.{product-whole, letter-put, letters-put}
 
 -- a flag for each coin
@@ -109,10 +109,10 @@ module _ (n k : ℕ) (string : List Letter) (xs : List Step) (coins : ℕ → Bo
   front-is m le = sym (take-take k m xs le)
 
   states : (m : ℕ) → k ≤ m → IsConjugated n (string_after n k string xs m) (member (point_after n coins (take m xs) origin).trace)
-      (member (point_after n others (with_string k string (take m xs)) origin).trace)
+      (member (point_after n others (with_string_in k string (take m xs)) origin).trace)
   states m le =
       let shown = (fronts-way n coins changes (part m) front (front ++ letter_gates 0 string) begun front_flips fits-front (fits-part m) put (differ-part m le)).by_frame.group in
-      subst (λ ys. IsConjugated n (string_after n k string xs m) (member (point_after n coins ys origin).trace) (member (point_after n others (with_string k string (take m xs)) origin).trace))
+      subst (λ ys. IsConjugated n (string_after n k string xs m) (member (point_after n coins ys origin).trace) (member (point_after n others (with_string_in k string (take m xs)) origin).trace))
       (ap (λ us. us ++ part m) (front-is m le) ∙ take-append-drop k (take m xs))
       (subst (λ us. IsConjugated n (string_after n k string xs m) (member (point_after n coins (front ++ part m) origin).trace)
       (member (point_after n others ((us ++ letter_gates 0 string) ++ part m) origin).trace)) (front-is m le) shown)

@@ -1,5 +1,5 @@
 -- Turns: what is listed of a string is the string there.
-use Rattle.stab_ways.proofs.Names.{◌≡◌, ℕ, ◌+◌, ◌-◌, ◌<◌, ◌≤◌, refl, sym, ◌∙◌, ap, Bool, true, false, List, [], ◌∷◌, ◌++◌, length, take, drop, All, All-nil, All-cons, All-append, nat_le, arith, take-add, take-append_seam, drop-append_seam, drop-drop, drop-take, drop_all, leb-true, leb-false, if◌then◌else◌, Letter, Items, unroll, Step, Frame, way_over, frame_begun, string_after, Part, rest_of, parts_of, parts_after, placed, listed_string, differ, turns, string_turns}
+use Rattle.stab_ways.proofs.Names.{◌≡◌, ℕ, ◌+◌, ◌-◌, ◌<◌, ◌≤◌, refl, sym, ◌∙◌, ap, Bool, true, false, List, [], ◌∷◌, ◌++◌, length, take, drop, All, All-nil, All-cons, All-append, nat_le, arith, take-add, take-append_seam, drop-append_seam, drop-drop, drop-take, drop_all, leb-true, leb-false, if◌then◌else◌, Letter, Items, unroll, Step, Frame, way_over, frame_begun, string_after, Part, rest_of_instruction, carried_parts, parts_after, placed, listed_string, differ, turns, string_turns}
 use Rattle.stab_ways.specs.Laws.{IsStringThere}
 use Rattle.stab_ways.proofs.FixedLemmas.{way-more}
 use Rattle.stab_ways.proofs.WalkedLemmas.{steps_in, drop-into, drop-past}
@@ -11,17 +11,17 @@ rest-steps k [] = sym (drop_all k [] (omega arith))
 rest-steps k (q ∷ parts) = by_position (nat_le k (length q.steps)) refl (rest-steps (k - length q.steps) parts)
   where
     by_position : (b : Bool) → nat_le k (length q.steps) ≡ b → steps_in (parts_after (k - length q.steps) parts) ≡ drop (k - length q.steps) (steps_in parts)
-        → steps_in (if nat_le k (length q.steps) then rest_of k q ∷ parts else parts_after (k - length q.steps) parts) ≡ drop k (q.steps ++ steps_in parts)
+        → steps_in (if nat_le k (length q.steps) then rest_of_instruction k q ∷ parts else parts_after (k - length q.steps) parts) ≡ drop k (q.steps ++ steps_in parts)
     by_position true e later =
-        ap (λ (b : Bool). steps_in (if b then rest_of k q ∷ parts else parts_after (k - length q.steps) parts)) e
+        ap (λ (b : Bool). steps_in (if b then rest_of_instruction k q ∷ parts else parts_after (k - length q.steps) parts)) e
         ∙ sym (drop-into k q.steps (steps_in parts) (leb-true k (length q.steps) e))
     by_position false e later =
         let less : length q.steps < k = leb-false k (length q.steps) e in
-        ap (λ (b : Bool). steps_in (if b then rest_of k q ∷ parts else parts_after (k - length q.steps) parts)) e
+        ap (λ (b : Bool). steps_in (if b then rest_of_instruction k q ∷ parts else parts_after (k - length q.steps) parts)) e
         ∙ later
         ∙ sym (drop-past k q.steps (steps_in parts) (omega (arith, less)))
 
--- at one place the string is the one there, if it is listed
+-- after some steps the string is the one there, if it is listed
 
 module _ (n k : ℕ) (string : List Letter) (xs : List Step) where
   one-there : (t : ℕ) (letters : List Letter) → k ≤ t → letters ≡ string_after n k string xs t → IsStringThere n k string xs (record { after = t; string = placed 0 letters })
@@ -67,5 +67,5 @@ module _ (n k : ℕ) (string : List Letter) (xs : List Step) where
 pub turns-there : (every : Bool) (n k : ℕ) (string : List Letter) (items : Items) → All (IsStringThere n k string (unroll items)) (string_turns every n k string items)
 turns-there every n k string items =
     let none : k ≡ k + 0 = omega arith in
-    all-there n k string (unroll items) every (parts_after k (parts_of items)) 0 k (frame_begun k string (unroll items)) none
-    (sym (rest-steps k (parts_of items) ∙ ap (drop k) (steps-unrolled items))) refl
+    all-there n k string (unroll items) every (parts_after k (carried_parts items)) 0 k (frame_begun k string (unroll items)) none
+    (sym (rest-steps k (carried_parts items) ∙ ap (drop k) (steps-unrolled items))) refl

@@ -1,13 +1,13 @@
 -- Walks: what the values of the code show of a walk, after steps and after an instruction.
-use Rattle.stab_ways.proofs.Names.{◌≡◌, ℕ, ◌+◌, ◌∙◌, ap, false, List, length, take, arith, coins-few, Step, PropagationState, passed, WalkState, frame_at, way_over, Part, changed_string, listed_string, append-nil, ◌++◌, past_steps, reported, IsWalk}
+use Rattle.stab_ways.proofs.Names.{◌≡◌, ℕ, ◌+◌, ◌∙◌, ap, false, List, length, take, arith, coins-few, Step, PropagationState, passed, WalkState, frame_at, way_over, Part, changed_string, listed_string, append-nil, ◌++◌, past_steps, reported, IsWalkOn}
 use Rattle.stab_ways.specs.declared.walk.Walk.{Walk}
 use Rattle.stab_ways.proofs.PassLemmas.{none-placed}
 use Rattle.stab_ways.proofs.WalkedLemmas.{changed_string-same}
 
 -- steps are passed
 
-pub walk-passed : (n j : ℕ) (zs : List Step) (old new : Walk) → IsWalk n old → new.propagation ≡ passed n (take j zs) old.propagation
-    → length new.propagation.letters ≡ length old.propagation.letters → new.steps ≡ old.steps + j → new.strings ≡ old.strings → IsWalk n new
+pub walk-passed : (n j : ℕ) (zs : List Step) (old new : Walk) → IsWalkOn n old → new.propagation ≡ passed n (take j zs) old.propagation
+    → length new.propagation.letters ≡ length old.propagation.letters → new.steps ≡ old.steps + j → new.strings ≡ old.strings → IsWalkOn n new
 walk-passed n j zs old new walks is size steps strings = record {
   size = size ∙ walks.size;
   placed = none-placed old.propagation new.propagation (ap (λ (p : PropagationState). p.number) is) walks.placed;

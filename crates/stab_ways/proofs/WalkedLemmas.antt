@@ -1,5 +1,5 @@
 -- Walked: instructions one after another on the way of a string, and what the walk comes to.
-use Rattle.stab_ways.proofs.Names.{◌≡◌, ℕ, zero, suc, ◌+◌, ◌-◌, ◌<◌, ◌≤◌, refl, sym, ◌∙◌, ap, Bool, true, false, List, [], ◌∷◌, ◌++◌, length, take, drop, replicate, nat_le, lt-leb, leb-true, leb-false, arith, append_assoc, append-nil, length-append, length-take, length-drop, Some, None, if◌then◌else◌, flat_map, list_any, Letter, I, acts, string_product, string_product-self, Step, joined, joined-assoc, joined-nothing, all_coins_of, coins-append, Frame, flips_given, PropagationState, frame_at, by_letters, way_after, way_over, way_flips, Part, Turn, placed, changed_string, listed_string, turns, rest_of, parts_after, passed, WalkState, put_in, past_steps, reported, over_part, walked}
+use Rattle.stab_ways.proofs.Names.{◌≡◌, ℕ, zero, suc, ◌+◌, ◌-◌, ◌<◌, ◌≤◌, refl, sym, ◌∙◌, ap, Bool, true, false, List, [], ◌∷◌, ◌++◌, length, take, drop, replicate, nat_le, lt-leb, leb-true, leb-false, arith, append_assoc, append-nil, length-append, length-take, length-drop, Some, None, if◌then◌else◌, flat_map, list_any, Letter, I, acts, string_product, string_product-self, Step, joined, joined-assoc, joined-nothing, all_coins_of, coins-append, Frame, flips_given, PropagationState, frame_at, by_letters, way_after, way_over, way_flips, Part, Turn, placed, changed_string, listed_string, turns, rest_of_instruction, parts_after, passed, WalkState, put_in, past_steps, reported, over_part, walked}
 use Rattle.stab_ways.proofs.FixedLemmas.{way-more, flips-more}
 
 -- a frame's flips are the records that it flipped
@@ -152,16 +152,16 @@ module _ (every : Bool) (n : ℕ) (string : List Letter) (ts : List Turn) where
   passed_by k parts t p = waiting every (k - length (steps_in parts)) (t + length (steps_in parts)) (passed n (steps_in parts) p) ts
 
   abbrev pub after : ℕ → Part → ℕ → PropagationState → Bool → WalkState
-  after k q t p b = if b then reported n (rest_of k q) (put_in string (past_steps n (take k q.steps) (waiting every k t p ts)))
+  after k q t p b = if b then reported n (rest_of_instruction k q) (put_in string (past_steps n (take k q.steps) (waiting every k t p ts)))
       else record (past_steps n q.steps (waiting every k t p ts)) { waits = Some (k - length q.steps) }
 
   abbrev pub left : ℕ → Part → List Part → Bool → List Part
-  left k q parts b = if b then rest_of k q ∷ parts else parts_after (k - length q.steps) parts
+  left k q parts b = if b then rest_of_instruction k q ∷ parts else parts_after (k - length q.steps) parts
 
   -- in this instruction
   put-here : (k : ℕ) (q : Part) (parts : List Part) (t : ℕ) (p : PropagationState) → k ≤ length q.steps
-      → walked n string parts (reported n (rest_of k q) (put_in string (past_steps n (take k q.steps) (waiting every k t p ts)))) ≡
-      put_within k (steps_in (q ∷ parts)) t p (rest_of k q ∷ parts)
+      → walked n string parts (reported n (rest_of_instruction k q) (put_in string (past_steps n (take k q.steps) (waiting every k t p ts)))) ≡
+      put_within k (steps_in (q ∷ parts)) t p (rest_of_instruction k q ∷ parts)
   put-here k q parts t p le =
       let ys = q.steps in
       let cut : length (take k ys) ≡ k = omega (arith, length-take k ys, le) in
@@ -169,9 +169,9 @@ module _ (every : Bool) (n : ℕ) (string : List Letter) (ts : List Turn) where
       omega (arith, cut, le, length-append (drop k ys) (steps_in parts), length-append ys (steps_in parts), length-drop k ys) in
       let front : take k ys ≡ take k (ys ++ steps_in parts) = sym (take-into k ys (steps_in parts) le) in
       let back : drop k ys ++ steps_in parts ≡ drop k (ys ++ steps_in parts) = sym (drop-into k ys (steps_in parts) le) in
-      walked-reported every n string (rest_of k q ∷ parts) (t + length (take k ys)) (with_letters string (passed n (take k ys) p)) ts
+      walked-reported every n string (rest_of_instruction k q ∷ parts) (t + length (take k ys)) (with_letters string (passed n (take k ys) p)) ts
       ∙ (λ i. under_way every (sum i) (passed n (back i) (with_letters string (passed n (front i) p)))
-      (ts ++ turns every n (t + cut i) (frame_at 0 (with_letters string (passed n (front i) p))) (rest_of k q ∷ parts)))
+      (ts ++ turns every n (t + cut i) (frame_at 0 (with_letters string (passed n (front i) p))) (rest_of_instruction k q ∷ parts)))
 
   pub walked-put : (k : ℕ) (parts : List Part) (t : ℕ) (p : PropagationState) → 0 < length parts → k ≤ length (steps_in parts)
       → walked n string parts (waiting every k t p ts) ≡ put_within k (steps_in parts) t p (parts_after k parts)
@@ -225,5 +225,5 @@ pub none-after : (k : ℕ) (parts : List Part) → IsPast k parts → parts_afte
 none-after k [] is = refl
 none-after k (q ∷ parts) is =
     let far : nat_le k (length q.steps) ≡ false = lt-leb k (length q.steps) (past-first k q parts is) in
-    ap (λ (b : Bool). if b then rest_of k q ∷ parts else parts_after (k - length q.steps) parts) far
+    ap (λ (b : Bool). if b then rest_of_instruction k q ∷ parts else parts_after (k - length q.steps) parts) far
     ∙ none-after (k - length q.steps) parts (past-others k q parts is)

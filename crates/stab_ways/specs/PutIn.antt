@@ -20,8 +20,8 @@ letter_gates q [] = []
 letter_gates q (l ∷ letters) = one (gate_of l) q ∷ letter_gates (suc q) letters
 
 -- the steps with a string put in after the first k of them
-abbrev pub with_string : ℕ → List Letter → List Step → List Step
-with_string k string xs = (take k xs ++ letter_gates 0 string) ++ drop k xs
+abbrev pub with_string_in : ℕ → List Letter → List Step → List Step
+with_string_in k string xs = (take k xs ++ letter_gates 0 string) ++ drop k xs
 
 -- how measurements take a string: each outcome is flipped exactly if it anticommutes with what is measured, whether or not a coin decides
 -- it, and nothing is multiplied on
@@ -68,6 +68,6 @@ abbrev pub string_flips : ℕ → ℕ → List Letter → List Step → RunOutpu
 string_flips n k string xs =
     joined (way_flips n (take k xs) (identity_frame n 0)) (way_flips n (drop k xs) (frame_begun k string xs))
 
--- coins, of which those of the free outcomes that are flipped are exchanged, and no others
-abbrev pub exchanged : (free flips : List Bool) → (ℕ → Bool) → ℕ → Bool
-exchanged free flips coins t = (slice_index_or free t false && slice_index_or flips t false) ⊕ coins t
+-- coins, of which those of the random outcomes that are flipped are exchanged, and no others
+abbrev pub coins_exchanged : (free flips : List Bool) → (ℕ → Bool) → ℕ → Bool
+coins_exchanged free flips coins t = (slice_index_or free t false && slice_index_or flips t false) ⊕ coins t

@@ -39,24 +39,24 @@ abbrev pub part_rounds : ℕ → List Part → List Part
 part_rounds zero parts = []
 part_rounds (suc n) parts = parts ++ part_rounds n parts
 
--- of how many rounds of a block the instructions count: if it has no step, of the first alone, as all rounds are at one place
+-- of how many rounds of a block the instructions count: if it has no step, of the first alone, as all rounds come after the same steps
 abbrev pub rounds_counted : (count steps : ℕ) → ℕ
 rounds_counted count steps = if steps == 0 then min count 1 else count
 
 -- the instructions as they are carried out, each by its steps, those of a block as often as it counts
-abbrev pub parts_of : Items → List Part
-parts_of done = []
-parts_of (next op rest) = record { tick = is_tick op.kind; steps = steps_of op.kind } ∷ parts_of rest
-parts_of (block count tag body rest) = part_rounds (rounds_counted count (length (unroll body))) (parts_of body) ++ parts_of rest
+abbrev pub carried_parts : Items → List Part
+carried_parts done = []
+carried_parts (next op rest) = record { tick = is_tick op.kind; steps = steps_of op.kind } ∷ carried_parts rest
+carried_parts (block count tag body rest) = part_rounds (rounds_counted count (length (unroll body))) (carried_parts body) ++ carried_parts rest
 
 -- the rest of an instruction, after k of its steps
-abbrev pub rest_of : ℕ → Part → Part
-rest_of k p = record p { steps = drop k p.steps }
+abbrev pub rest_of_instruction : ℕ → Part → Part
+rest_of_instruction k p = record p { steps = drop k p.steps }
 
 -- what of them comes after k steps: the rest of the one that these end in, and those after it
 abbrev pub parts_after : ℕ → List Part → List Part
 parts_after k [] = []
-parts_after k (p ∷ parts) = if nat_le k (length p.steps) then rest_of k p ∷ parts else parts_after (k - length p.steps) parts
+parts_after k (p ∷ parts) = if nat_le k (length p.steps) then rest_of_instruction k p ∷ parts else parts_after (k - length p.steps) parts
 
 -- the letters of a string that are not I, with their qubits, from this one on
 abbrev pub placed : ℕ → List Letter → List PlacedLetter
@@ -66,7 +66,7 @@ placed q (X ∷ letters) = record { letter = X; qubit = q } ∷ placed (q + 1) l
 placed q (Y ∷ letters) = record { letter = Y; qubit = q } ∷ placed (q + 1) letters
 placed q (Z ∷ letters) = record { letter = Z; qubit = q } ∷ placed (q + 1) letters
 
--- a place after this many steps, and the string there
+-- how many steps there are in front, and the string after them
 pub record Turn : Type 0 where
   pub after : ℕ
   pub string : List PlacedLetter
@@ -95,7 +95,7 @@ turns every n t f (p ∷ parts) =
 
 -- the same of a string that is put in after k steps of a circuit
 abbrev pub string_turns : (every : Bool) → ℕ → ℕ → List Letter → Items → List Turn
-string_turns every n k string items = turns every n k (frame_begun k string (unroll items)) (parts_after k (parts_of items))
+string_turns every n k string items = turns every n k (frame_begun k string (unroll items)) (parts_after k (carried_parts items))
 
 -- what a value of the code stands for
 abbrev pub turn_shown : TurnValue → Turn

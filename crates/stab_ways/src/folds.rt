@@ -4,9 +4,9 @@ ghost use Rattle.std.specs.Prelude.{◌≡◌, ◌+◌, ◌-◌, ◌*◌, ◌^�
 ghost use Rattle.stab_items.specs.Items.{listed};
 ghost use Rattle.stab_items.specs.Steps.{looks_too_far, most_steps, unroll};
 ghost use Rattle.stab_run.specs.Records.{looked_up as looked_up_of};
-ghost use Rattle.stab_ways.specs.Ways.{part_rounds, parts_of, turn_shown};
-ghost use Rattle.stab_ways.specs.inner.Folds.{again, later, waits_after as waits_after_of, CameFrom, IsAgain, IsKept, IsSince, WaitsLonger};
-ghost use Rattle.stab_ways.specs.inner.Walks.{walked, walk_shown, IsWalk};
+ghost use Rattle.stab_ways.specs.Ways.{part_rounds, carried_parts, turn_shown};
+ghost use Rattle.stab_ways.specs.inner.Folds.{again, later, waits_after as waits_after_of, CameFrom, IsWalkAgain, IsWalkKept, IsSince, StaysOrIsKept, WaitsLonger};
+ghost use Rattle.stab_ways.specs.inner.Walks.{walked, walk_shown, IsWalkOn};
 
 use crate::walk::Walk;
 use crate::way::Turn;
@@ -21,6 +21,8 @@ use std::alloc::{AllocError, Global};
 pub(crate) struct Checkpoint {
     /// How many rounds were done.
     pub done: u64,
+    /// After how many rounds the walk was not yet compared with any.
+    pub began: u64,
     pub letters: Vec<Letter>,
     /// How much was flipped, or not.
     pub lengths: Lengths,
@@ -32,13 +34,14 @@ pub(crate) struct Checkpoint {
 }
 
 impl Checkpoint {
-    /// That of a walk after this many rounds.
-    pub fn of(alloc: Global, walk: &Walk, done: u64) -> Result<Checkpoint, AllocError>
-        ensures kept { IfOk result (λ c. IsKept c (walk_shown walk.now)) }
+    /// That of a walk after this many rounds, of which those since a number are compared.
+    pub fn of(alloc: Global, walk: &Walk, done: u64, began: u64) -> Result<Checkpoint, AllocError>
+        ensures kept { IfOk result (λ c. IsWalkKept c (walk_shown walk.now)) }
         ensures done { IfOk result (λ c. c.done ≡ done) }
     {
         Ok(Checkpoint {
             done,
+            began,
             letters: Vec::from_slice(alloc, walk.propagation.letters())?,
             lengths: walk.propagation.lengths(),
             coin: walk.propagation.coin(),
@@ -95,7 +98,7 @@ fn waits_longer(waits: Option<usize>, steps: usize) -> bool
 fn comes_again(checkpoint: &Checkpoint, walk: &Walk, window: u32) -> bool
     requires earlier { checkpoint.now.steps ≤ walk.now.steps }
     requires few { walk.now.steps ≤ most_steps }
-    ensures again { IsTrue result → IsAgain window checkpoint.now (walk_shown walk.now) }
+    ensures again { IsTrue result → IsWalkAgain window checkpoint.now (walk_shown walk.now) }
 {
     let steps = (walk.steps - checkpoint.steps) as usize;
     let records = walk.propagation.records();
@@ -135,10 +138,10 @@ fn waits_after(waits: Option<usize>, steps: usize) -> Option<usize>
 
 /// Passes again what was passed since a checkpoint.
 fn pass_again(alloc: Global, walk: &mut Walk, checkpoint: &Checkpoint) -> Result<(), AllocError>
-    requires walks { IsWalk (length walk.old.propagation.letters) walk.old }
+    requires walks { IsWalkOn (length walk.old.propagation.letters) walk.old }
     requires since { IsSince checkpoint.now (walk_shown walk.old) }
     requires few { walk.old.steps + (walk.old.steps - checkpoint.now.steps) ≤ most_steps }
-    ensures walks { OnOk result (IsWalk (length walk.old.propagation.letters) walk.new) }
+    ensures walks { OnOk result (IsWalkOn (length walk.old.propagation.letters) walk.new) }
     ensures again { OnOk result (walk_shown walk.new ≡ again checkpoint.now (walk_shown walk.old)) }
 {
     let steps = walk.steps - checkpoint.steps;
@@ -157,13 +160,52 @@ fn has_repeat(checkpoint: &Checkpoint, walk: &Walk, done: u64, count: u64, windo
     requires earlier { checkpoint.now.done ≤ done }
     requires within { done ≤ count }
     ensures room { IsTrue result → done - checkpoint.now.done ≤ count - done }
-    ensures again { IsTrue result → IsAgain window checkpoint.now (walk_shown walk.now) }
+    ensures again { IsTrue result → IsWalkAgain window checkpoint.now (walk_shown walk.now) }
 {
     done - checkpoint.done <= count - done && comes_again(checkpoint, walk, window)
 }
 
-/// Repeats the rounds since a checkpoint, then twice as many and so on, as long as the walk is as it was there and as many are left. Then a new
-/// checkpoint is kept, as it also is after a first, second, fourth, eighth round and so on. Says how many rounds are done.
+/// Whether the rounds since a checkpoint go an even number of times into those that are left, or into the steps before the string is put in.
+fn goes_evenly(checkpoint: &Checkpoint, walk: &Walk, done: u64, count: u64) -> bool
+    requires later { checkpoint.now.done < done }
+    requires within { done ≤ count }
+{
+    let rounds = (count - done) / (done - checkpoint.done);
+    let steps = walk.steps.saturating_sub(checkpoint.steps);
+    let times = match walk.waits {
+        Some(left) if steps > 0 => rounds.min(left.saturating_sub(1) as u64 / steps),
+        _ => rounds,
+    };
+    times % 2 == 0
+}
+
+/// Passes again what was passed since a checkpoint. If that `moves`, it is then the one of the walk before.
+fn pass_once_more(
+    alloc: Global,
+    walk: &mut Walk,
+    checkpoint: &mut Checkpoint,
+    done: u64,
+    moves: bool,
+) -> Result<(), AllocError>
+    requires walks { IsWalkOn (length walk.old.propagation.letters) walk.old }
+    requires since { IsSince checkpoint.old (walk_shown walk.old) }
+    requires few { walk.old.steps + (walk.old.steps - checkpoint.old.steps) ≤ most_steps }
+    ensures walks { OnOk result (IsWalkOn (length walk.old.propagation.letters) walk.new) }
+    ensures again { OnOk result (walk_shown walk.new ≡ again checkpoint.old (walk_shown walk.old)) }
+    ensures kept { OnOk result (StaysOrIsKept checkpoint.old checkpoint.new done (walk_shown walk.old)) }
+{
+    if !moves {
+        return pass_again(alloc, walk, checkpoint);
+    }
+    let before = Checkpoint::of(alloc, walk, done, checkpoint.began)?;
+    pass_again(alloc, walk, checkpoint)?;
+    *checkpoint = before;
+    Ok(())
+}
+
+/// Repeats the rounds since a checkpoint as often as they fit, as long as the walk is as it was there: twice as many each time, or as many,
+/// if what is left is then a multiple of twice as many. After that a new checkpoint is kept, and from there on another one after a first,
+/// second, fourth, eighth round and so on. Says how many rounds are done.
 pub(crate) fn fold_rounds(
     alloc: Global,
     walk: &mut Walk,
@@ -174,23 +216,27 @@ pub(crate) fn fold_rounds(
     count: u64,
     window: u32,
 ) -> Result<u64, AllocError>
-    requires walks { IsWalk (length string.now.letters) walk.old }
+    requires walks { IsWalkOn (length string.now.letters) walk.old }
     requires near { looks_too_far window (unroll (listed body.now)) ≡ false }
-    requires came { CameFrom (length string.now.letters) string.now.letters (parts_of (listed body.now)) checkpoint.old done (walk_shown walk.old) }
+    requires came { CameFrom (length string.now.letters) string.now.letters (carried_parts (listed body.now)) checkpoint.old done (walk_shown walk.old) }
     requires within { (checkpoint.old.done < done) × (done ≤ count) }
     requires few { walk.old.steps + (count - done) * length (unroll (listed body.now)) ≤ most_steps }
-    ensures walks { OnOk result (IsWalk (length string.now.letters) walk.new) }
+    ensures walks { OnOk result (IsWalkOn (length string.now.letters) walk.new) }
     ensures within { IfOk result (λ now. (done ≤ now) × (now ≤ count)) }
-    ensures over { IfOk result (λ now. walk_shown walk.new ≡ walked (length string.now.letters) string.now.letters (part_rounds (now - done) (parts_of (listed body.now))) (walk_shown walk.old)) }
-    ensures came { IfOk result (λ now. CameFrom (length string.now.letters) string.now.letters (parts_of (listed body.now)) checkpoint.new now (walk_shown walk.new)) }
+    ensures over { IfOk result (λ now. walk_shown walk.new ≡ walked (length string.now.letters) string.now.letters (part_rounds (now - done) (carried_parts (listed body.now))) (walk_shown walk.old)) }
+    ensures came { IfOk result (λ now. CameFrom (length string.now.letters) string.now.letters (carried_parts (listed body.now)) checkpoint.new now (walk_shown walk.new)) }
 {
     let mut now = done;
     'again: while has_repeat(checkpoint, walk, now, count, window) {
-        pass_again(alloc, walk, checkpoint)?;
-        now += now - checkpoint.done;
+        let since = now - checkpoint.done;
+        let moves = goes_evenly(checkpoint, walk, now, count);
+        pass_once_more(alloc, walk, checkpoint, now, moves)?;
+        now += since;
     }
-    if now > done || now.is_power_of_two() {
-        *checkpoint = Checkpoint::of(alloc, walk, now)?;
+    if now > done {
+        *checkpoint = Checkpoint::of(alloc, walk, now, now)?;
+    } else if now.saturating_sub(checkpoint.began).is_power_of_two() {
+        *checkpoint = Checkpoint::of(alloc, walk, now, checkpoint.began)?;
     }
     Ok(now)
 }

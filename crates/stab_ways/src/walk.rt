@@ -7,7 +7,7 @@ ghost use Rattle.stab_frames.specs.Propagations.{IsPlaced};
 ghost use Rattle.stab_frames.specs.Frames.{Frame};
 ghost use Rattle.stab_ways.specs.PutIn.{way_over};
 ghost use Rattle.stab_ways.specs.Ways.{changed_string, is_tick, placed as placed_from, tick_string, turn_shown};
-ghost use Rattle.stab_ways.specs.inner.Walks.{passed, reported, put_in as put_in_of, past_steps as past_of, over_part, ended, walk_shown, IsWalk};
+ghost use Rattle.stab_ways.specs.inner.Walks.{passed, reported, put_in as put_in_of, past_steps as past_of, over_part, ended, walk_shown, IsWalkOn};
 
 use crate::resets::{at_once, leave_out_reset};
 use crate::strings::{differ, placed};
@@ -23,7 +23,7 @@ use std::alloc::{AllocError, Global};
 /// A string on its way from the first step of a circuit on, and what is known of it so far.
 #[derive(Drop)]
 pub(crate) struct Walk {
-    /// Whether it is listed at every tick, in place of where it becomes another one.
+    /// Whether it is listed at every tick, and not where it becomes another one.
     pub every: bool,
     pub propagation: Propagation,
     /// What was listed.
@@ -76,12 +76,12 @@ fn pass(
 
 /// Passes steps of an instruction, from one to another.
 fn past_steps(walk: &mut Walk, kind: &Kind, from: usize, to: usize) -> Result<(), AllocError>
-    requires walks { IsWalk (length walk.old.propagation.letters) walk.old }
+    requires walks { IsWalkOn (length walk.old.propagation.letters) walk.old }
     requires fits { All (StepFits (length walk.old.propagation.letters)) (steps_of kind.now) }
     requires order { from ≤ to }
     requires within { to ≤ length (steps_of kind.now) }
     requires few { walk.old.steps + (to - from) ≤ most_steps }
-    ensures walks { OnOk result (IsWalk (length walk.old.propagation.letters) walk.new) }
+    ensures walks { OnOk result (IsWalkOn (length walk.old.propagation.letters) walk.new) }
     ensures passed { OnOk result (walk_shown walk.new ≡ past_of (length walk.old.propagation.letters) (take (to - from) (drop from (steps_of kind.now))) (walk_shown walk.old)) }
 {
     pass(
@@ -95,7 +95,7 @@ fn past_steps(walk: &mut Walk, kind: &Kind, from: usize, to: usize) -> Result<()
     Ok(())
 }
 
-/// Puts a string with its place after others.
+/// Lists a string after this many steps.
 fn push_turn(
     alloc: Global,
     turns: &mut Vec<Turn>,
@@ -109,7 +109,7 @@ fn push_turn(
     Ok(())
 }
 
-/// Puts a string with its place after others, if it is another one than it was.
+/// Lists a string after this many steps, if it is another one than it was.
 fn report_changed(
     alloc: Global,
     turns: &mut Vec<Turn>,
@@ -126,7 +126,7 @@ fn report_changed(
     Ok(())
 }
 
-/// Puts a string with its place after others, if the instruction in front of it is a tick.
+/// Lists a string after this many steps, if the last instruction is a tick.
 fn report_tick(
     alloc: Global,
     turns: &mut Vec<Turn>,
@@ -153,6 +153,8 @@ fn keeps_strings(kind: &Kind) -> bool
         Kind::Detector(_) => true,
         Kind::ObservableInclude(_, _) => true,
         Kind::Tick => true,
+        Kind::QubitCoords(_) => true,
+        Kind::ShiftCoords(_) => true,
         _ => false,
     }
 }
@@ -165,13 +167,13 @@ fn report_steps(
     from: usize,
     to: usize,
 ) -> Result<(), AllocError>
-    requires walks { IsWalk (length walk.old.propagation.letters) walk.old }
+    requires walks { IsWalkOn (length walk.old.propagation.letters) walk.old }
     requires fits { All (StepFits (length walk.old.propagation.letters)) (steps_of kind.now) }
     requires order { from ≤ to }
     requires within { to ≤ length (steps_of kind.now) }
     requires few { walk.old.steps + (to - from) ≤ most_steps }
     requires turns { walk.old.every ≡ false }
-    ensures walks { OnOk result (IsWalk (length walk.old.propagation.letters) walk.new) }
+    ensures walks { OnOk result (IsWalkOn (length walk.old.propagation.letters) walk.new) }
     ensures reported { OnOk result (walk_shown walk.new ≡ reported (length walk.old.propagation.letters) (record { tick = is_tick kind.now; steps = take (to - from) (drop from (steps_of kind.now)) }) (walk_shown walk.old)) }
 {
     // Most instructions of a circuit are detectors, and then no letters need to be compared.
@@ -199,12 +201,12 @@ fn list_steps(
     from: usize,
     to: usize,
 ) -> Result<(), AllocError>
-    requires walks { IsWalk (length walk.old.propagation.letters) walk.old }
+    requires walks { IsWalkOn (length walk.old.propagation.letters) walk.old }
     requires fits { All (StepFits (length walk.old.propagation.letters)) (steps_of kind.now) }
     requires order { from ≤ to }
     requires within { to ≤ length (steps_of kind.now) }
     requires few { walk.old.steps + (to - from) ≤ most_steps }
-    ensures walks { OnOk result (IsWalk (length walk.old.propagation.letters) walk.new) }
+    ensures walks { OnOk result (IsWalkOn (length walk.old.propagation.letters) walk.new) }
     ensures reported { OnOk result (walk_shown walk.new ≡ reported (length walk.old.propagation.letters) (record { tick = is_tick kind.now; steps = take (to - from) (drop from (steps_of kind.now)) }) (walk_shown walk.old)) }
 {
     if !walk.every {
@@ -223,8 +225,8 @@ fn list_steps(
 
 /// Puts the string in.
 pub(crate) fn put_in(walk: &mut Walk, string: &Pauli)
-    requires walks { IsWalk (length string.now.letters) walk.old }
-    ensures walks { IsWalk (length string.now.letters) walk.new }
+    requires walks { IsWalkOn (length string.now.letters) walk.old }
+    ensures walks { IsWalkOn (length string.now.letters) walk.new }
     ensures value { walk_shown walk.new ≡ put_in_of string.now.letters (walk_shown walk.old) }
 {
     walk.propagation.multiply(string);
@@ -233,7 +235,7 @@ pub(crate) fn put_in(walk: &mut Walk, string: &Pauli)
 
 /// Puts the string in at the end, if it was not yet.
 pub(crate) fn finish(walk: &mut Walk, string: &Pauli)
-    requires walks { IsWalk (length string.now.letters) walk.old }
+    requires walks { IsWalkOn (length string.now.letters) walk.old }
     ensures value { walk_shown walk.new ≡ ended walk.old.waits string.now.letters (walk_shown walk.old) }
 {
     match walk.waits {
@@ -249,10 +251,10 @@ pub(crate) fn over_instruction(
     string: &Pauli,
     kind: &Kind,
 ) -> Result<(), AllocError>
-    requires walks { IsWalk (length string.now.letters) walk.old }
+    requires walks { IsWalkOn (length string.now.letters) walk.old }
     requires fits { All (StepFits (length string.now.letters)) (steps_of kind.now) }
     requires few { walk.old.steps + length (steps_of kind.now) ≤ most_steps }
-    ensures walks { OnOk result (IsWalk (length string.now.letters) walk.new) }
+    ensures walks { OnOk result (IsWalkOn (length string.now.letters) walk.new) }
     ensures over { OnOk result (walk_shown walk.new ≡ over_part (length string.now.letters) string.now.letters (record { tick = is_tick kind.now; steps = steps_of kind.now }) walk.old.waits (walk_shown walk.old)) }
 {
     let count = step_count(kind);

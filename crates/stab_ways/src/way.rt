@@ -11,7 +11,7 @@ pub struct PlacedLetter {
 /// Where a string is listed: after an instruction.
 #[derive(Drop)]
 pub struct Turn {
-    /// How many steps there are before the place.
+    /// After how many steps.
     pub after: usize,
     /// The letters of the string there, by qubit. There is none if it is gone.
     pub string: Vec<PlacedLetter>,

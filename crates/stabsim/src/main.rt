@@ -20,7 +20,8 @@ use stab_cli::{
     CoinsFault, Command, ErrorLetters, FaultLayout, Job, NO_COINS, NoWatcher, Question, Source,
     Usage, parse_words, read_coins, run_job_watched, write_fault, write_usage,
 };
-use stab_pauli::{Device, Fault, Output, Refusal, write_all};
+use stab_io::write_all;
+use stab_pauli::{Device, Fault, Output, Refusal};
 use stab_results::Format;
 use std::alloc::{AllocError, Global};
 use std::io::{BufWriter, IsTerminal};

@@ -25,7 +25,7 @@ pub use stab_items::{
 pub use stab_jobs::ErrorLetters;
 pub use stab_pauli::{Pauli, PauliRows};
 pub use stab_recording::{Sampler, Shot, run_once};
-pub use stab_regions::{FaultTable, deterministic, faults};
+pub use stab_regions::{SingleErrorTable, deterministic, single_errors};
 pub use stab_results::{Format, Kinds, write_entries, write_shot};
 pub use stab_run::{Coins, ListCoins, Outputs, SeedCoins, apply_steps};
 pub use stab_sampler::{

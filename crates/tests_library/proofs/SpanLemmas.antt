@@ -2,8 +2,8 @@
 use Rattle.std.proofs.Common.{◌≡◌, ◌≤◌, ap, sym, ◌∙◌, subst, ℕ, Bool, true, false, List, length, take, drop, nat_lt, if◌then◌else◌, arith}
 use Rattle.std.proofs.lemmas.List.{length-append}
 use Rattle.std.specs.Prelude.{Option, Some, None, Ok}
-use Rattle.stab_circuit.specs.Items.{OneItem, listed, depth}
-use Rattle.stab_circuit.specs.Steps.{unroll, check_of, check_within}
+use Rattle.stab_items.specs.Items.{OneItem, listed, depth}
+use Rattle.stab_items.specs.Steps.{unroll, check_of, check_within}
 use Rattle.stab_items.proofs.EditLemmas.{edits_leave, steps_split}
 use Rattle.stab_items.specs.Editings.{IsSpanOf}
 use Rattle.stab_items.specs.Edits.{edit_path, edited, verdict, list_verdict, first_changed, old_end, new_end, after_taken, after_put, outermost}

@@ -1,6 +1,7 @@
 //! Edits of circuits at paths, and the steps before a path.
 use crate::circuits::{fault_of, is_there, prints, read};
-use stab_circuit::{Circuit, Edit, Item, Path, Refused, Span, read_item};
+use stab_circuit::{Circuit, Edit, Item, Path, Refused, read_item};
+use stab_items::Span;
 use stab_pauli::Fault;
 use std::alloc::Global;
 use std::test::Fail;

@@ -1,10 +1,10 @@
 //! Texts of circuits and of items.
 use crate::answers::assert_same;
 use crate::made_items::tagged_tick;
-use stab_circuit::{
-    Circuit, Path, Refused, read_circuit, read_item, write_circuit, write_one_item,
-};
-use stab_pauli::{EndlessInput, Fault, MemoryInput, MemoryOutput, Refusal, write_all};
+use stab_circuit::{Circuit, Path, Refused, read_circuit, read_item, write_circuit};
+use stab_io::write_all;
+use stab_items::write_one_item;
+use stab_pauli::{EndlessInput, Fault, MemoryInput, MemoryOutput, Refusal};
 use std::alloc::Global;
 use std::test::Fail;
 

@@ -13,11 +13,11 @@ ghost use Rattle.stab_tableau.specs.Columns.{destabiliser_of};
 ghost use Rattle.stab_tableau.specs.Groups.{SameGroup};
 ghost use Rattle.stab_tableau.specs.Traces.{member};
 ghost use Rattle.stab_items.specs.Paths.{numbers};
-ghost use Rattle.stab_circuit.specs.Items.{entries};
+ghost use Rattle.stab_items.specs.Items.{entries};
 ghost use Rattle.stab_items.specs.Edits.{edited, steps_before, verdict, put_item};
 ghost use Rattle.stab_items.specs.declared.edit.Edit.TheVariants.{Insert as inserting};
 ghost use Rattle.stab_items.specs.Repeats.{repeated_blocks};
-ghost use Rattle.stab_circuit.specs.Steps.{unroll, records_of, steps_cap, check_of, check_within};
+ghost use Rattle.stab_items.specs.Steps.{unroll, records_of, steps_cap, check_of, check_within};
 ghost use Rattle.stab_items.specs.StepPaths.{item_steps_left};
 ghost use Rattle.stab_items.specs.Views.{circuit_items};
 ghost use Rattle.stab_circuit.specs.Limits.{most_stride};
@@ -26,15 +26,17 @@ ghost use Rattle.stab_run.specs.Runs.{run_of};
 ghost use Rattle.stab_io.specs.Refusals.{Refuses, IsCallFault};
 ghost use Rattle.stab_sampler.specs.Seeds.{shot_coins};
 ghost use Rattle.stab_sampler.specs.Shots.{AreShots};
-ghost use Rattle.stab_sampler.specs.References.{most_pivots, IsReference};
+ghost use Rattle.stab_sampler.specs.References.{IsReference};
+ghost use Rattle.stab_sampler.specs.RecordedPivots.{most_pivots};
 ghost use Rattle.stab_run.specs.Coins.{zero_coins};
 ghost use Rattle.stab_session.specs.Sessions.{IsSignIn};
 ghost use Rattle.stab_session.specs.Bounds.{steps_from_change, steps_near_change, most_tried, most_refused_asks, most_checkpoints, AgreeAfter, IsCountOf};
 
-use stab_circuit::{Circuit, Item, Path, Refused, Repeat};
+use stab_circuit::{Circuit, Item, Path, Refused};
+use stab_gates::Phase;
+use stab_items::Repeat;
 use stab_pauli::{
-    CutInput, Device, DeviceFault, Input, Letter, MemoryInput, MemoryOutput, Output, Pauli, Phase,
-    Refusal,
+    CutInput, Device, DeviceFault, Input, Letter, MemoryInput, MemoryOutput, Output, Pauli, Refusal,
 };
 use stab_recording::is_long;
 use stab_sampler::{Reference, run_shots};

@@ -1,6 +1,7 @@
 //! Devices around readers and writers that fail.
 
-use stab_pauli::{Device, DeviceFault, Input, Output, Refusal, write_all};
+use stab_io::write_all;
+use stab_pauli::{Device, DeviceFault, Input, Output, Refusal};
 use std::alloc::Global;
 use std::io;
 use std::io::{Read, Write};

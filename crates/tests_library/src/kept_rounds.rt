@@ -1,12 +1,13 @@
 //! Which rounds that are written out an edit leaves.
 
 ghost use Rattle.std.specs.Prelude.{◌≡◌, None, OnOk, IfOk};
-ghost use Rattle.stab_circuit.specs.Steps.{unroll, check_of};
+ghost use Rattle.stab_items.specs.Steps.{unroll, check_of};
 ghost use Rattle.stab_items.specs.Views.{circuit_items};
 ghost use Rattle.stab_items.specs.Repeats.{AreRepeats};
 
 use crate::circuit_edits::{Call, edit_of};
-use stab_circuit::{Circuit, Edit, Path, Refused, Repeat, read_circuit};
+use stab_circuit::{Circuit, Edit, Path, Refused, read_circuit};
+use stab_items::Repeat;
 use stab_pauli::{Fault, MemoryInput};
 use stab_rounds::{edited_rounds, find_rounds};
 use std::alloc::Global;

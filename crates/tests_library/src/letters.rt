@@ -1,5 +1,6 @@
 //! Letters and powers of i.
-use stab_pauli::{Letter, Phase};
+use stab_gates::Phase;
+use stab_pauli::Letter;
 
 // A number by its real and imaginary part.
 type Complex = (i32, i32);

@@ -1,5 +1,6 @@
 //! Rounds that come again, in blocks and written out: where they are in the steps, and that their pivots count once.
-use stab_circuit::{Repeat, read_circuit};
+use stab_circuit::read_circuit;
+use stab_items::Repeat;
 use stab_pauli::MemoryInput;
 use stab_rounds::find_rounds;
 use stab_sampler::Reference;

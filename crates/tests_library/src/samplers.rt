@@ -1,8 +1,9 @@
 //! Single runs of circuits, and many shots of one.
 use stab_circuit::{Circuit, read_circuit};
 use stab_pauli::{Fault, MemoryInput, Refusal};
+use stab_recording::Sampler;
 use stab_sampler::run_shots;
-use stab_session::{ListCoins, Sampler, SeedCoins, Shot, run_once};
+use stab_session::{ListCoins, SeedCoins, Shot, run_once};
 use std::alloc::Global;
 use std::test::Fail;
 

@@ -8,7 +8,7 @@ mod kept;
 
 use crate::texts::{both, prints, single};
 use calls::Call::{self, Copy, Measure, One, Reset, Two, Wear};
-use calls::Place::{First, Last};
+use calls::EndQubit::{First, Last};
 use calls::carry_out;
 use stab_pauli::{Letter, Pauli, Refusal};
 use stab_tableau::{Collapse, Gate, PairGate, Tableau};
@@ -222,7 +222,7 @@ fn identities_are_fixed(alloc: Global, n: usize, coin: bool) -> Result<bool, Ref
 }
 
 #[test]
-fn what_has_no_letter_is_never_free(rt: HostRuntime) -> Result<(), Fail> {
+fn what_has_no_letter_is_never_random(rt: HostRuntime) -> Result<(), Fail> {
     for n in SIZES {
         let fixed = identities_are_fixed(rt.alloc(), n, n % 2 == 0)?;
         assert!(rt; fixed, "{n}");

@@ -1,5 +1,6 @@
 //! The items that the unrolled steps of a circuit are of.
-use stab_circuit::{read_circuit, write_path};
+use stab_circuit::read_circuit;
+use stab_items::write_path;
 use stab_pauli::{MemoryInput, MemoryOutput};
 use std::alloc::Global;
 use std::test::Fail;

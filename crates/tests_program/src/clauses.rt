@@ -4,9 +4,9 @@
 //! caller here would fail.
 
 ghost use Rattle.std.specs.Prelude.{◌≡◌, true};
-ghost use Rattle.stab_cli.specs.Jobs.{EndsJob, reads_script};
-ghost use Rattle.stab_cli.specs.Outputs.{EndsRun, detect_of, sample_of};
-ghost use Rattle.stab_cli.specs.Jobs.{JobInTurn};
+ghost use Rattle.stab_cli.specs.Jobs.{EndsJob, JobInTurn};
+ghost use Rattle.stab_jobs.specs.Commands.{reads_script};
+ghost use Rattle.stab_commands.specs.Outputs.{EndsRun, detect_of, sample_of};
 
 use stab_cli::{Job, Progress, Source, Watcher, run_detect, run_job, run_job_watched, run_sample};
 use stab_pauli::{Fault, Input, Output};

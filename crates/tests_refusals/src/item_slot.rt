@@ -1,6 +1,7 @@
 use crate::one_drop::OneDrop;
 use crate::stop::Stop;
-use stab_circuit::{Item, Refused, read_item, write_one_item};
+use stab_circuit::{Item, Refused, read_item};
+use stab_items::write_one_item;
 use stab_pauli::{MemoryOutput, Refusal};
 use std::alloc::Global;
 use std::mem;

@@ -5,9 +5,11 @@ use crate::sheet::{circuit_of, show_coins, show_shot};
 use crate::stop::Stop;
 use crate::trial::{Ending, Trial, print_ending, try_call};
 use stab_circuit::{Circuit, Cursor};
-use stab_pauli::{MemoryOutput, write_all};
+use stab_io::write_all;
+use stab_pauli::MemoryOutput;
+use stab_recording::Sampler;
 use stab_sampler::run_shots;
-use stab_session::{ListCoins, Sampler, Shot, run_once};
+use stab_session::{ListCoins, Shot, run_once};
 use std::alloc::Global;
 use std::io;
 

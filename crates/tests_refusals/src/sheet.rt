@@ -2,7 +2,8 @@
 use crate::one_drop::OneDrop;
 use crate::stop::Stop;
 use stab_circuit::{Circuit, read_circuit, write_circuit};
-use stab_pauli::{Letter, MemoryInput, MemoryOutput, Pauli, write_all};
+use stab_io::write_all;
+use stab_pauli::{Letter, MemoryInput, MemoryOutput, Pauli};
 use stab_results::{Format, Kinds, write_shot};
 use stab_session::{Coins, Shot};
 use std::alloc::Global;

@@ -2,7 +2,8 @@
 use crate::sheet::show_string;
 use crate::stop::Stop;
 use crate::trial::Trial;
-use stab_pauli::{Letter, MemoryOutput, Pauli, write_all};
+use stab_io::write_all;
+use stab_pauli::{Letter, MemoryOutput, Pauli};
 use std::alloc::Global;
 
 /// More letters than fit into one block of words.

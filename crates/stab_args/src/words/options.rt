@@ -4,7 +4,7 @@ ghost use Rattle.clap.specs.Words.{IsUnsignedIn, first_of, found_of, has_subcomm
 ghost use Rattle.stab_gates.specs.Limits.{most_qubits};
 ghost use Rattle.stab_circuit.specs.Limits.{most_stride};
 ghost use Rattle.stab_jobs.specs.Limits.{last_shot, most_shots, shots_of_seed};
-ghost use Rattle.stab_args.specs.Asked.{AreLetters, AreShots, IsCommand, IsFirst, IsJob, IsLayout, IsNamed, IsSet, IsSource, IsWritten, IsWrittenIfGiven, RefusesCoins, RefusesCommand, RefusesOptions, RefusesShots, first_beside_coins, text_or_none};
+ghost use Rattle.stab_args.specs.Asked.{AreLetters, AreAskedShots, IsCommand, IsFirstShot, IsJob, IsLayout, IsNamed, IsSet, IsSource, IsWritten, IsWrittenIfGiven, RefusesCoins, RefusesCommand, RefusesOptions, RefusesShots, first_beside_coins, text_or_none};
 ghost use Rattle.stab_args.specs.Options.{last_observable, most_errors, most_seed};
 ghost use Rattle.stab_args.specs.declared.words.Usage.{Usage};
 ghost use Rattle.stab_args.specs.inner.Parts.{IsCommandName};
@@ -63,7 +63,7 @@ fn format(options: &ArgMatches) -> Format
     }
 }
 
-/// The layout of faults or coins: shots in the format that `--out_format` names, and lines if it names none.
+/// The layout of single errors or coins: shots in the format that `--out_format` names, and lines if it names none.
 fn layout(options: &ArgMatches) -> FaultLayout
     ensures layout { IsLayout (first_of (codes "out_format") (rows_of (found_of options.now))) result }
 {
@@ -87,14 +87,14 @@ fn number_of_shots(options: &ArgMatches) -> usize
 /// The number of `--first_shot`, and 0 if it isn't given. The command line reader takes no other
 /// number.
 fn first_shot(options: &ArgMatches) -> u64
-    ensures first { IsFirst (one_of (codes "first_shot") (rows_of (found_of options.now))) result }
+    ensures first { IsFirstShot (one_of (codes "first_shot") (rows_of (found_of options.now))) result }
 {
     number(options, "first_shot").unwrap_or(0)
 }
 
 /// The shots of `--first_shot` and `--shots`.
 fn shots(alloc: Global, options: &ArgMatches) -> Result<Shots, Usage>
-    ensures shots { IfOk result (AreShots (rows_of (found_of options.now))) }
+    ensures shots { IfOk result (AreAskedShots (rows_of (found_of options.now))) }
     ensures refused { IfErr result (RefusesShots (rows_of (found_of options.now))) }
 {
     match Shots::from_first(first_shot(options), number_of_shots(options)) {

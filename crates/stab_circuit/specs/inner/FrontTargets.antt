@@ -22,9 +22,9 @@ GivesFirst meaning bs (Ok (Some first)) = BeginsWithTarget meaning bs first.0 fi
 GivesFirst meaning bs (Err r) = (r ≡ OutOfMemory) ⊎ ((word : List ℕ) × (more : List (List ℕ)) × (words bs ≡ word ∷ more) × (meaning word ≡ Err r))
 
 -- what follows the first word is shorter
-abbrev pub IsShorter : {X : Type 0} → List ℕ → Result (Option (X × Bor (List ℕ))) Refusal → Type 0
-IsShorter bs (Ok (Some first)) = length first.1.now < length bs
-IsShorter bs answer = Unit {0}
+abbrev pub IsShorterRest : {X : Type 0} → List ℕ → Result (Option (X × Bor (List ℕ))) Refusal → Type 0
+IsShorterRest bs (Ok (Some first)) = length first.1.now < length bs
+IsShorterRest bs answer = Unit {0}
 
 -- one before what is read after it, or the refusal of that
 abbrev pub begun_with : {X E : Type 0} → X → Result (List X) E → Result (List X) E

@@ -42,13 +42,13 @@ open_blocks_of xs [] = []
 open_blocks_of xs (f ∷ fs) = open_block_of xs f ∷ map (open_block_of []) fs
 
 -- which of these items are in the innermost open block: all if no block is open
-abbrev pub outermost : List OneItem → List StoredBlock → List OneItem
-outermost xs [] = xs
-outermost xs (f ∷ fs) = []
+abbrev pub innermost_open : List OneItem → List StoredBlock → List OneItem
+innermost_open xs [] = xs
+innermost_open xs (f ∷ fs) = []
 
 -- what is kept by items of the outermost list, by open blocks, the outermost first, and by the items after
 abbrev pub kept_progress : List OneItem → List StoredBlock → List OneItem → Progress
-kept_progress xs fs ys = record { open_blocks = reverse (open_blocks_of xs fs); now = listed (outermost xs fs ++ ys) }
+kept_progress xs fs ys = record { open_blocks = reverse (open_blocks_of xs fs); now = listed (innermost_open xs fs ++ ys) }
 
 -- what a reader keeps, without pointers
 abbrev pub progress_of : CircuitReader → Progress
@@ -87,8 +87,8 @@ abbrev pub with_instruction : Progress → Operation → Progress
 with_instruction s op = record { open_blocks = s.open_blocks; now = join s.now (next op done) }
 
 -- an item is read
-abbrev pub with_item : Progress → OneItem → Progress
-with_item s x = record { open_blocks = s.open_blocks; now = join s.now (before x done) }
+abbrev pub with_read_item : Progress → OneItem → Progress
+with_read_item s x = record { open_blocks = s.open_blocks; now = join s.now (before x done) }
 
 -- what a line n makes of what was read
 abbrev pub stepped : ℕ → Meaning → Progress → Result Progress Refusal

@@ -17,12 +17,12 @@ use Rattle.stab_items.specs.Circuits.{Meaning, line_meanings, at_line}
 use Rattle.stab_circuit.specs.inner.Readers.{Progress, read_on, pending}
 
 -- what is read if no block is open
-abbrev pub outside : Items → Progress
-outside now = record { open_blocks = []; now = now }
+abbrev pub read_outside : Items → Progress
+read_outside now = record { open_blocks = []; now = now }
 
 -- read if no block is open, the lines put these items after the others, of which none is a block
-pub record Reads (lines : List (List ℕ)) (items : Items) : Type 0 where
-  pub on : (n : ℕ) (now : Items) (ms : List Meaning) → read_on n (outside now) (line_meanings lines ++ ms) ≡ read_on (n + length lines) (outside (join now items)) ms
+pub record ReadsAhead (lines : List (List ℕ)) (items : Items) : Type 0 where
+  pub on : (n : ℕ) (now : Items) (ms : List Meaning) → read_on n (read_outside now) (line_meanings lines ++ ms) ≡ read_on (n + length lines) (read_outside (join now items)) ms
   pub flat : depth items ≡ 0
 
 -- the items of a stretch, in the list in which they are
@@ -30,19 +30,19 @@ abbrev pub items_of : Stretch → List OneItem → List OneItem
 items_of s xs = drop s.first (take s.following xs)
 
 -- what is known of a stretch: it is this many lines, which put its items after the others
-pub record IsStretch (xs : List OneItem) (s : Stretch) : Type 0 where
+pub record IsLineStretch (xs : List OneItem) (s : Stretch) : Type 0 where
   pub order : s.first ≤ s.following
   pub within : s.following ≤ length xs
   pub count : length (slice_split (is_byte 10) s.bytes.now) ≡ s.lines
-  pub reads : Reads (slice_split (is_byte 10) s.bytes.now) (listed (items_of s xs))
+  pub reads : ReadsAhead (slice_split (is_byte 10) s.bytes.now) (listed (items_of s xs))
 
 -- this is known of each of the stretches
-abbrev pub AreStretches : List OneItem → Stretches → Type 0
-AreStretches xs known = All (IsStretch xs) known.all.items
+abbrev pub AreLineStretches : List OneItem → Stretches → Type 0
+AreLineStretches xs known = All (IsLineStretch xs) known.all.items
 
 -- what is known of a stretch stays true
 abbrev pub KeepsStretches : List OneItem → List OneItem → Type 0
-KeepsStretches old new = (s : Stretch) → IsStretch old s → IsStretch new s
+KeepsStretches old new = (s : Stretch) → IsLineStretch old s → IsLineStretch new s
 
 -- a text is these lines, each with its end, and then the rest
 abbrev pub Ran : List ℕ → List (List ℕ) → List ℕ → Type 0
@@ -55,12 +55,12 @@ pub record IsRunOf (xs : List OneItem) (s : Progress) (n : ℕ) (rest : List ℕ
   pub items : Items
   pub ran : Ran run.front.now lines rest
   pub count : run.from + length lines ≡ n
-  pub reads : Reads lines items
-  pub read : s ≡ outside (join (listed xs) items)
+  pub reads : ReadsAhead lines items
+  pub read : s ≡ read_outside (join (listed xs) items)
 
 -- the same if there is a run
-abbrev pub IsRun : List OneItem → Progress → ℕ → List ℕ → Option Run → Type 0
-IsRun xs s n rest run = MatchOption run (Unit {0}) (IsRunOf xs s n rest)
+abbrev pub IsLineRun : List OneItem → Progress → ℕ → List ℕ → Option Run → Type 0
+IsLineRun xs s n rest run = MatchOption run (Unit {0}) (IsRunOf xs s n rest)
 
 -- a run whose items are now those of the list from a position on
 pub record IsEnded (xs : List OneItem) (first n : ℕ) (rest : List ℕ) (run : Run) : Type 0 where
@@ -68,7 +68,7 @@ pub record IsEnded (xs : List OneItem) (first n : ℕ) (rest : List ℕ) (run : 
   pub lines : List (List ℕ)
   pub ran : Ran run.front.now lines rest
   pub count : run.from + length lines ≡ n
-  pub reads : Reads lines (listed (drop first xs))
+  pub reads : ReadsAhead lines (listed (drop first xs))
 
 -- what is read from line n on, if these lines are still to be read
 abbrev pub reading_on : Bool → ℕ → Progress → Option (List ℕ) → Result Items Fault
@@ -85,4 +85,4 @@ IsShorter text taken = MatchOption (option_copied taken.after) (Unit {0}) (λ re
 
 -- the run goes on at the lines after those that were taken, if there are any
 abbrev pub RunsOn : List OneItem → Progress → ℕ → Option (List ℕ) → Option Run → Type 0
-RunsOn xs s n after run = MatchOption after (Unit {0}) (λ rest. IsRun xs s n rest run)
+RunsOn xs s n after run = MatchOption after (Unit {0}) (λ rest. IsLineRun xs s n rest run)

@@ -1,21 +1,21 @@
 -- Coin rows: the coins of a table by their positions in it, and the words of lanes that have what they flip.
 -- Source: this project's own.
 use Rattle.std.specs.Prelude.{◌≡◌, ℕ, ◌+◌, ◌<◌, Bool, false, List, [], ◌∷◌, slice_index_or, if◌then◌else◌}
-use Rattle.stab_circuit.specs.Items.{Items}
-use Rattle.stab_circuit.specs.Steps.{qubits_of}
+use Rattle.stab_items.specs.Items.{Items}
+use Rattle.stab_items.specs.Steps.{qubits_of}
 use Rattle.stab_sampler.specs.Lanes.{lane_bits}
 use Rattle.stab_sampler.specs.Words.{word_bit}
 use Rattle.stab_report.specs.Coins.{flips_of}
 use Rattle.stab_run.specs.Coins.{zero_coins}
-use Rattle.stab_commands.specs.CoinRuns.{free_coins}
+use Rattle.stab_commands.specs.CoinRuns.{deciding_coins}
 use Rattle.stab_jobs.specs.declared.job.FaultLayout.{FaultLayout}
-use Rattle.stab_commands.specs.declared.coin_rows.PlacedWord.{PlacedWord}
-use Rattle.stab_report.specs.CoinTables.{coin_text, whole_bits}
+use Rattle.stab_commands.specs.declared.coin_rows.NumberedWord.{NumberedWord}
+use Rattle.stab_report.specs.CoinTables.{coin_entry, whole_bits}
 use Rattle.stab_report.specs.Deciders.{checked_bits}
 
 -- the coin at a position
 abbrev pub coin_at : Items → ℕ → ℕ
-coin_at items k = slice_index_or (free_coins (qubits_of items) items) k 0
+coin_at items k = slice_index_or (deciding_coins (qubits_of items) items) k 0
 
 -- the bits that it flips
 abbrev pub flips_at : Items → ℕ → List Bool
@@ -23,14 +23,14 @@ flips_at items k = whole_bits (flips_of (qubits_of items) items zero_coins (coin
 
 -- what is written of it
 abbrev pub text_at : FaultLayout → Items → ℕ → List ℕ
-text_at layout items k = coin_text layout items (coin_at items k) (flips_at items k)
+text_at layout items k = coin_entry layout items (coin_at items k) (flips_at items k)
 
 -- whether the coin at a position flips the detector or observable of a number
 abbrev pub decides : Items → (number position : ℕ) → Bool
 decides items i k = slice_index_or (checked_bits (flips_of (qubits_of items) items zero_coins (coin_at items k))) i false
 
 -- the positions of those words of 64 lanes that are 1 in a lane
-abbrev pub positions_in : (lane : ℕ) → List PlacedWord → List ℕ
+abbrev pub positions_in : (lane : ℕ) → List NumberedWord → List ℕ
 positions_in l [] = []
 positions_in l (w ∷ ws) = if word_bit w.word l then w.position ∷ positions_in l ws else positions_in l ws
 

@@ -1,7 +1,7 @@
 -- Deciders: the lanes in which a word, or one of several, is 1.
 -- Source: this project's own.
 use Rattle.std.specs.Prelude.{ℕ, ◌-◌, Bool, false, List, slice_index_or}
-use Rattle.stab_regions.specs.Faults.{numbers_where}
+use Rattle.stab_regions.specs.SingleErrors.{numbers_where}
 use Rattle.stab_sampler.specs.Lanes.{lane_bits}
 
 -- the numbers from a first one up to an end in whose lane a word is 1; the first has lane 0

@@ -5,7 +5,7 @@ use Rattle.stab_io.specs.Devices.{OutputView}
 use Rattle.stab_io.specs.declared.refusal.Refusal.TheVariants.{WriteFault, OutOfMemory}
 use Rattle.stab_io.specs.declared.refusal.Fault.{Fault}
 use Rattle.stab_io.specs.Refusals.{whole}
-use Rattle.stab_circuit.specs.Steps.{Step}
+use Rattle.stab_items.specs.Steps.{Step}
 use Rattle.stab_report.specs.declared.random.Bit.{Bit}
 use Rattle.stab_report.specs.Endings.{TookAndFlushed, FailsToSend}
 use Rattle.stab_report.specs.Places.{steps_before_bit}

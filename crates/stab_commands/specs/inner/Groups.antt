@@ -3,7 +3,7 @@
 use Rattle.std.specs.Prelude.{ℕ, length}
 use Rattle.stab_items.specs.declared.steps.Steps.{Steps}
 use Rattle.stab_items.specs.declared.steps.Steps.TheVariants.{Gates, Pairs, Measurements, Detectors, Single}
-use Rattle.stab_items.specs.Cursors.{step_shown}
+use Rattle.stab_items.specs.StepValues.{step_shown}
 use Rattle.stab_run.specs.Points.{coins_of}
 
 -- how many coins steps take: each of some measurements takes one

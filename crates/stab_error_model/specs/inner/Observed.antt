@@ -6,12 +6,12 @@ use Rattle.stab_search.specs.Tables.{ErrorTable, flipped_by_rows}
 use Rattle.stab_error_model.specs.Unseen.{IsAskedFor}
 
 -- whether a number is that of a detector, or of this observable
-abbrev pub is_kept : (detectors observable : ℕ) → ℕ → Bool
-is_kept detectors observable number = nat_lt number detectors || ((number - detectors) == observable)
+abbrev pub is_searched_number : (detectors observable : ℕ) → ℕ → Bool
+is_searched_number detectors observable number = nat_lt number detectors || ((number - detectors) == observable)
 
 -- the numbers of a row that are kept so
 abbrev pub kept_row : (detectors observable : ℕ) → List ℕ → List ℕ
-kept_row detectors observable = filter (is_kept detectors observable)
+kept_row detectors observable = filter (is_searched_number detectors observable)
 
 -- the table of rows in which this observable alone counts, or the table as it is if any does
 abbrev pub with_observable : Option ℕ → ErrorTable → ErrorTable

@@ -29,5 +29,5 @@ AreDrawn free draw changes (x ∷ xs) coin =
     (0 < coins_of x → IsDrawn free draw changes coin) × AreDrawn free draw changes xs (coin + coins_of x)
 
 -- between two counts of asks the coins of random outcomes were asked for, from one number to another, each once at most
-abbrev pub AsksFree : List Bool → (from to : ℕ) → (old new : ℕ) → Type 0
-AsksFree free from to old new = new + ones (take from free) ≤ old + ones (take to free)
+abbrev pub AsksRandom : List Bool → (from to : ℕ) → (old new : ℕ) → Type 0
+AsksRandom free from to old new = new + ones (take from free) ≤ old + ones (take to free)

@@ -45,14 +45,14 @@ abbrev pub IsDeterminedBy : List (List Letter) → List Bool → ℕ → (change
 IsDeterminedBy strings free coin change anticommuting = change ⊕ anticommuting ≡ true → pivot_at strings free coin ≡ None → slice_index_or free coin false ≡ false
 
 -- the same at a step
-abbrev pub IsDetermined : ℕ → List (List Letter) → List Bool → (ℕ → Bool) → Step → ℕ → List Letter → Type 0
-IsDetermined n strings free changes x coin f = IfSome (measured_by n x) (λ m. IsDeterminedBy strings free coin (changes coin) (strings_anticommute f m.letters))
+abbrev pub IsStepDetermined : ℕ → List (List Letter) → List Bool → (ℕ → Bool) → Step → ℕ → List Letter → Type 0
+IsStepDetermined n strings free changes x coin f = IfSome (measured_by n x) (λ m. IsDeterminedBy strings free coin (changes coin) (strings_anticommute f m.letters))
 
 -- and at steps
 abbrev pub AreDetermined : ℕ → List (List Letter) → List Bool → (ℕ → Bool) → List Step → ℕ → Frame → Type 0
 AreDetermined n strings free changes [] coin f = Unit {0}
 AreDetermined n strings free changes (x ∷ xs) coin f =
-    IsDetermined n strings free changes x coin f.letters
+    IsStepDetermined n strings free changes x coin f.letters
     × AreDetermined n strings free changes xs (coin + coins_of x) (frame_after n (pivots_of (pivot_at strings free) changes) x coin f)
 
 -- past a coin, whichever coins differ as is drawn, and what it had to know was kept
@@ -71,8 +71,8 @@ pub record GoesOver (n : ℕ) (strings : List (List Letter)) (free : List Bool) 
   pub size : length new.letters ≡ n
 
 -- whatever strings were kept, whichever outcomes were random, and whatever is drawn
-abbrev pub GoesFreely : ℕ → List Step → PropagationState → PropagationState → Type 0
-GoesFreely n xs old new =
+abbrev pub GoesWithoutCoins : ℕ → List Step → PropagationState → PropagationState → Type 0
+GoesWithoutCoins n xs old new =
     (strings : List (List Letter)) (free : List Bool) (draw : ℕ → Bool) → IsPlaced free old → GoesOver n strings free draw xs old new
 
 -- the string of a random outcome before a coin was not kept

@@ -3,7 +3,7 @@
 use Rattle.std.specs.Prelude.{◌≡◌, ℕ, Bool, true, false, List, [], ◌∷◌, Option, Some, None, All}
 use Rattle.stab_gates.specs.declared.letter.Letter.{Letter}
 use Rattle.stab_pauli.specs.Paulis.{Signed}
-use Rattle.stab_tableau.specs.Rules.{is_free_by}
+use Rattle.stab_tableau.specs.Rules.{is_random_by}
 use Rattle.stab_tableau.specs.Pivots.{IsPivot}
 use Rattle.stab_items.specs.Steps.{Step}
 use Rattle.stab_run.specs.Runs.{measured_by}
@@ -21,7 +21,7 @@ pub record IsAdded (n : ℕ) (member : Signed → Bool) (m : Signed) (old new : 
 abbrev pub KeepsPivotsOf : ℕ → (Signed → Bool) → Option Signed → PivotsState → PivotsState → Type 0
 KeepsPivotsOf n member None old new = new.strings ≡ old.strings
 KeepsPivotsOf n member (Some m) old new =
-    (is_free_by member m ≡ true → IsAdded n member m old new) × (is_free_by member m ≡ false → new.strings ≡ old.strings)
+    (is_random_by member m ≡ true → IsAdded n member m old new) × (is_random_by member m ≡ false → new.strings ≡ old.strings)
 
 -- the same for a step
 abbrev pub KeepsPivots : ℕ → (Signed → Bool) → Step → PivotsState → PivotsState → Type 0

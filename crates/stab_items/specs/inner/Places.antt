@@ -11,7 +11,7 @@ abbrev pub path_of : Inside → Path
 path_of p = record { blocks = take p.depth p.blocks; place = p.place }
 
 -- there are at most 16 blocks, and zeros after them
-pub record IsPadded (p : Inside) : Type 0 where
+pub record IsPaddedPath (p : Inside) : Type 0 where
   pub room : length p.blocks ≡ 16
   pub few : p.depth ≤ 16
   pub zeros : drop p.depth p.blocks ≡ replicate (16 - p.depth) 0
@@ -21,7 +21,7 @@ abbrev pub kept_path : Path → Inside
 kept_path p = record { blocks = p.blocks ++ replicate (16 - length p.blocks) 0; depth = length p.blocks; place = p.place }
 
 -- a path is kept in one way
-pub kept_path_of : (p : Inside) → IsPadded p → kept_path (path_of p) ≡ p
+pub kept_path_of : (p : Inside) → IsPaddedPath p → kept_path (path_of p) ≡ p
 kept_path_of p h =
     let depth : length (take p.depth p.blocks) ≡ p.depth = length-take-le p.depth p.blocks (omega (arith, h.few, h.room)) in
     let zeros : replicate (16 - length (take p.depth p.blocks)) 0 ≡ drop p.depth p.blocks = ap (λ n. replicate (16 - n) 0) depth ∙ sym h.zeros in

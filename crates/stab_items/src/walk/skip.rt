@@ -15,11 +15,11 @@ impl<'a> Walk<'a> {
     /// Leaves out steps of an instruction, and says how many are still to be left out.
     fn pass_steps(&mut self, kind: &'a Kind, count: u32) -> u32
         requires walks { IsWalk self.old }
-        requires free { self.old.kind ≡ None }
+        requires no_kind { self.old.kind ≡ None }
         ensures walks { IsWalk self.new }
         ensures left { drop result (walk_left self.new) ≡ drop count (steps_of kind.now ++ ahead self.old) }
         ensures fewer { result ≤ count }
-        ensures free { 0 < result → self.new.kind ≡ None }
+        ensures no_kind { 0 < result → self.new.kind ≡ None }
         ensures weight { walk_weight self.new ≡ walk_weight self.old }
     {
         let steps = step_count(kind);
@@ -35,14 +35,14 @@ impl<'a> Walk<'a> {
     /// out.
     fn pass_rounds(&mut self, rounds: u64, steps: u32, body: &'a [Item], count: u32) -> u32
         requires walks { IsWalk self.old }
-        requires free { self.old.kind ≡ None }
+        requires no_kind { self.old.kind ≡ None }
         requires room { depth (listed body.now) + 1 + length self.old.around.items ≤ 16 }
         requires kept { steps ≡ min (length (unroll (listed body.now))) steps_cap }
         requires few { count ≤ most_steps }
         ensures walks { IsWalk self.new }
         ensures left { drop result (walk_left self.new) ≡ drop count (rounds_of rounds (unroll (listed body.now)) ++ ahead self.old) }
         ensures fewer { result ≤ count }
-        ensures free { self.new.kind ≡ None }
+        ensures no_kind { self.new.kind ≡ None }
         ensures weight { walk_weight self.new ≤ rounds * (1 + weight (listed body.now)) + walk_weight self.old }
     {
         let (skipped, rest) = jump(count, steps, rounds);
@@ -56,7 +56,7 @@ impl<'a> Walk<'a> {
     /// still are, or that the walk is at the end.
     fn pass(&mut self, count: u32) -> Option<u32>
         requires walks { IsWalk self.old }
-        requires free { self.old.kind ≡ None }
+        requires no_kind { self.old.kind ≡ None }
         requires few { count ≤ most_steps }
         ensures walks { IsWalk self.new }
         ensures passes { Passes count self.old self.new result }
@@ -80,7 +80,7 @@ impl<'a> Walk<'a> {
     #[tactic(auto, using(crate::proofs::SkipLemmas::skipped, crate::proofs::SkipLemmas::skipped_all))]
     pub fn skip(&mut self, count: u32)
         requires walks { IsWalk self.old }
-        requires free { self.old.kind ≡ None }
+        requires no_kind { self.old.kind ≡ None }
         requires few { count ≤ most_steps }
         ensures walks { IsWalk self.new }
         ensures left { walk_left self.new ≡ drop count (walk_left self.old) }

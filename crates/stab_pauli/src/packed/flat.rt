@@ -12,7 +12,7 @@ use std::simd::u64x4;
 
 /// Where the words of row a of this many rows begin.
 #[inline(always)]
-pub(crate) fn place_of(size: usize, count: usize, blocks: usize, a: usize) -> usize
+pub(crate) fn offset_of(size: usize, count: usize, blocks: usize, a: usize) -> usize
     requires in_range { a < count }
     requires all { size ≡ 8 * blocks * count }
     ensures value { result ≡ 8 * blocks * a }
@@ -29,7 +29,7 @@ pub(crate) fn row_of(words: &[u64], count: usize, blocks: usize, a: usize) -> &[
     ensures value { result.now ≡ chunk (8 * blocks * a) (8 * blocks) words.now }
     ensures size { length result.now ≡ 8 * blocks }
 {
-    let at = place_of(words.len(), count, blocks, a);
+    let at = offset_of(words.len(), count, blocks, a);
     &words[at..at + 8 * blocks]
 }
 
@@ -69,12 +69,12 @@ pub(crate) fn multiply(words: &mut [u64], count: usize, blocks: usize, a: usize,
 {
     let size = words.len();
     if blocks == 1 {
-        let first = place_of(size, count, 1, a);
-        let second = place_of(size, count, 1, b);
+        let first = offset_of(size, count, 1, a);
+        let second = offset_of(size, count, 1, b);
         return multiply_block(words, first, second);
     }
-    let first = place_of(size, count, blocks, a);
-    let second = place_of(size, count, blocks, b);
+    let first = offset_of(size, count, blocks, a);
+    let second = offset_of(size, count, blocks, b);
     multiply_at(words, blocks, first, second)
 }
 
@@ -129,7 +129,7 @@ pub(crate) fn multiply_by(
     ensures words { words.new ≡ put_chunk (8 * blocks * a) words.old (xor_words (chunk (8 * blocks * a) (8 * blocks) words.old) other.now) }
     ensures meet { result ≡ strings_meet (row_letters blocks (chunk (8 * blocks * a) (8 * blocks) words.old)) (row_letters blocks other.now) }
 {
-    let at = place_of(words.len(), count, blocks, a);
+    let at = offset_of(words.len(), count, blocks, a);
     row::multiply(blocks, &mut words[at..at + 8 * blocks], other)
 }
 
@@ -158,7 +158,7 @@ pub(crate) fn copy_from(words: &mut [u64], count: usize, blocks: usize, a: usize
     requires other_length { length other.now ≡ 8 * blocks }
     ensures words { words.new ≡ put_chunk (8 * blocks * a) words.old other.now }
 {
-    let at = place_of(words.len(), count, blocks, a);
+    let at = offset_of(words.len(), count, blocks, a);
     words[at..at + 8 * blocks].copy_from_slice(other);
 }
 
@@ -169,7 +169,7 @@ pub(crate) fn clear(words: &mut [u64], count: usize, blocks: usize, a: usize)
     requires in_range { a < count }
     ensures words { words.new ≡ put_chunk (8 * blocks * a) words.old (replicate (8 * blocks) 0) }
 {
-    let at = place_of(words.len(), count, blocks, a);
+    let at = offset_of(words.len(), count, blocks, a);
     words[at..at + 8 * blocks].fill(0);
 }
 
@@ -188,7 +188,7 @@ pub(crate) fn set(
     requires qubit_in_range { qubit < 256 * blocks }
     ensures words { IsRewritten (8 * blocks * a) (8 * blocks) words.old words.new (λ new. row_letters blocks new ≡ slice_set (row_letters blocks (chunk (8 * blocks * a) (8 * blocks) words.old)) qubit letter) }
 {
-    let at = place_of(words.len(), count, blocks, a);
+    let at = offset_of(words.len(), count, blocks, a);
     row::set(blocks, &mut words[at..at + 8 * blocks], qubit, letter);
 }
 
@@ -204,13 +204,13 @@ pub(crate) fn swap(words: &mut [u64], count: usize, blocks: usize, a: usize, b: 
     let size = words.len();
     // One block, which most codes have, is handled by itself, so that its two halves need no loop.
     if blocks == 1 {
-        let first = place_of(size, count, 1, a);
-        let second = place_of(size, count, 1, b);
+        let first = offset_of(size, count, 1, a);
+        let second = offset_of(size, count, 1, b);
         swap_at(words, 1, first, second);
         return;
     }
-    let first = place_of(size, count, blocks, a);
-    let second = place_of(size, count, blocks, b);
+    let first = offset_of(size, count, blocks, a);
+    let second = offset_of(size, count, blocks, b);
     swap_at(words, blocks, first, second);
 }
 

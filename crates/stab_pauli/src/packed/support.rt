@@ -45,7 +45,7 @@ pub(crate) fn multiply_by(
     ensures words { words.new ≡ put_chunk (8 * blocks * a) words.old (xor_words (chunk (8 * blocks * a) (8 * blocks) words.old) other.now) }
     ensures meet { result ≡ strings_meet (row_letters blocks (chunk (8 * blocks * a) (8 * blocks) words.old)) (row_letters blocks other.now) }
 {
-    let at = flat::place_of(words.len(), count, blocks, a);
+    let at = flat::offset_of(words.len(), count, blocks, a);
     multiply(blocks, &mut words[at..at + 8 * blocks], support, other)
 }
 

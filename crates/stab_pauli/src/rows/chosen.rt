@@ -203,7 +203,7 @@ impl PauliRows {
         requires anticommuting { anticommute (row_at self.old a) (signed_row self.old.qubits power (row_letters 1 (x ++ z))) ≡ true }
         ensures value { self.new ≡ with_row self.old a (product_times_i (row_at self.old a) (signed_row self.old.qubits power (row_letters 1 (x ++ z)))) }
     {
-        let at = flat::place_of(self.words.len(), self.powers.len(), 1, a);
+        let at = flat::offset_of(self.words.len(), self.powers.len(), 1, a);
         let meet = flat::multiply_block_by(self.words.as_mut_slice(), at, x, z);
         self.powers[a] = row::product_power(self.powers[a], power, meet).times_i();
     }

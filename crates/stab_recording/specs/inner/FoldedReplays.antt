@@ -14,7 +14,7 @@ use Rattle.stab_run.specs.Ends.{AgreeBack, with_coin}
 use Rattle.stab_frames.specs.Flips.{flipped_output}
 use Rattle.stab_frames.specs.Pivots.{PivotsState, pivot_at, kept_again}
 use Rattle.stab_frames.specs.Propagations.{PropagationState, frame_at, IsPlaced}
-use Rattle.stab_frames.specs.AgainLaws.{DiffersBack}
+use Rattle.stab_frames.specs.RepeatedStepLaws.{DiffersBack}
 use Rattle.stab_frames.specs.OtherCoins.{coins_from, PropagatesToOthers}
 use Rattle.stab_recording.specs.declared.checkpoint.Checkpoint.{Checkpoint}
 use Rattle.stab_recording.specs.declared.recurrence.Recurrence.{Recurrence}
@@ -48,7 +48,7 @@ StandsAs r None c = ComesAgain r.pivots.window r.tableau (output_of r.outputs) c
 StandsAs r (Some w) c = IsFrameFrom r.tableau (output_of r.outputs) (output_of r.outputs) c.lengths.records r.pivots.window c w
 
 -- it does so in a block, some whole rounds after a saved checkpoint with another one after it
-pub record IsFound (block : Repeat) (r : Replay) (e : Recurrence) : Type 0 where
+pub record AreRoundsFound (block : Repeat) (r : Replay) (e : Recurrence) : Type 0 where
   pub further : e.number + 1 < length r.saved.items
   pub checkpoint : Checkpoint
   pub here : slice_get r.saved.items e.number ≡ Some checkpoint

@@ -4,8 +4,7 @@ use Rattle.std.specs.Prelude.{◌≡◌, ℕ, ◌≤◌, min, List, All, None, r
 use Rattle.std.specs.Coded.{Coded, code_by, coded×, coded_ℕ}
 use Rattle.stab_gates.specs.Limits.{most_qubits}
 use Rattle.stab_items.specs.Items.{Items}
-use Rattle.stab_items.specs.Steps.{unroll, records_of, observables_of, steps_cap, check_within}
-use Rattle.stab_items.specs.Cursors.{HasDistinctQubits}
+use Rattle.stab_items.specs.Steps.{unroll, records_of, observables_of, steps_cap, check_within, HasDistinctQubits}
 use Rattle.stab_items.specs.declared.circuit.repeats.Repeat.{Repeat}
 use Rattle.stab_items.specs.Repeats.{AreRepeats}
 use Rattle.stab_recording.specs.Samplers.{SamplerState}

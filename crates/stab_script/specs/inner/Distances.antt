@@ -3,10 +3,10 @@
 use Rattle.std.specs.Prelude.{◌≡◌, ◌⊎◌, Result, Ok, Err}
 use Rattle.stab_io.specs.declared.refusal.Refusal.{Refusal}
 use Rattle.stab_io.specs.declared.refusal.Refusal.TheVariants.{OutOfMemory, NotDeterministic}
-use Rattle.stab_circuit.specs.Items.{Items}
+use Rattle.stab_items.specs.Items.{Items}
 use Rattle.stab_jobs.specs.declared.job.DistanceOptions.{DistanceOptions}
 use Rattle.stab_report.specs.declared.random.Random.{Random}
-use Rattle.stab_report.specs.FaultTables.{IsFirstRandom}
+use Rattle.stab_report.specs.SingleErrorTables.{IsFirstRandom}
 use Rattle.stab_report.specs.Distances.{IsDistanceText}
 use Rattle.stab_script.specs.Replies.{ReplyBytes}
 

@@ -2,19 +2,19 @@
 use Rattle.std.specs.Prelude.{ℕ, ◌+◌, ◌-◌, ◌/◌, ◌%◌, ◌==◌, List, [], ◌∷◌, ◌++◌, codes, if◌then◌else◌}
 use Rattle.std.specs.List.{flat_map}
 use Rattle.stab_gates.specs.declared.letter.Letter.TheVariants as letter
-use Rattle.stab_circuit.specs.Items.{Items}
+use Rattle.stab_items.specs.Items.{Items}
 use Rattle.stab_results.specs.Formats.{entry}
-use Rattle.stab_regions.specs.Faults.{FaultPlace}
+use Rattle.stab_regions.specs.SingleErrors.{SingleError}
 use Rattle.stab_ways.specs.declared.way.PlacedLetter.{PlacedLetter}
 use Rattle.stab_report.specs.CoinTables.{whole_kinds}
-use Rattle.stab_report.specs.FaultTables.{fault_text}
+use Rattle.stab_report.specs.SingleErrorTables.{single_error_text}
 use Rattle.stab_report.specs.Places.{path_at}
 use Rattle.stab_script.specs.WayTexts.{left_line}
 
 -- the line of an error that flips the bits of these numbers
-abbrev pub numbered_text : Items → FaultPlace → (flipped : List ℕ) → (left : List PlacedLetter) → List ℕ
+abbrev pub numbered_text : Items → SingleError → (flipped : List ℕ) → (left : List PlacedLetter) → List ℕ
 numbered_text items f flipped left =
-    fault_text f.before (path_at items f.step) f.letter f.qubit ++ (flat_map (entry (whole_kinds items)) flipped ++ (codes " " ++ left_line left))
+    single_error_text f.before (path_at items f.step) f.letter f.qubit ++ (flat_map (entry (whole_kinds items)) flipped ++ (codes " " ++ left_line left))
 
 -- a letter of one part: X of an even part, Z of an odd one
 abbrev pub part_letter : (part : ℕ) → PlacedLetter

@@ -1,7 +1,7 @@
 -- Step counts: how counts grow by one step.
 -- Source: this project's own.
 use Rattle.std.specs.Prelude.{◌≤◌, ◌+◌}
-use Rattle.stab_circuit.specs.Steps.{Step, makes, detectors_in}
+use Rattle.stab_items.specs.Steps.{Step, makes, detectors_in}
 use Rattle.stab_run.specs.Points.{coins_of}
 use Rattle.stab_script.specs.declared.reply.StepCounts.{StepCounts}
 
@@ -10,8 +10,8 @@ abbrev pub counted_with : StepCounts → Step → StepCounts
 counted_with c x = record { steps = c.steps + 1; records = c.records + makes x; detectors = c.detectors + detectors_in x; coins = c.coins + coins_of x }
 
 -- the counts with those of others
-abbrev pub added : StepCounts → StepCounts → StepCounts
-added c d = record { steps = c.steps + d.steps; records = c.records + d.records; detectors = c.detectors + d.detectors; coins = c.coins + d.coins }
+abbrev pub counts_added : StepCounts → StepCounts → StepCounts
+counts_added c d = record { steps = c.steps + d.steps; records = c.records + d.records; detectors = c.detectors + d.detectors; coins = c.coins + d.coins }
 
 -- no step makes more than one of each
 pub record IsOfSteps (c : StepCounts) : Type 0 where

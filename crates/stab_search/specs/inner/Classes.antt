@@ -4,7 +4,7 @@ use Rattle.stab_search.specs.Ascending.{IsAscending}
 use Rattle.stab_search.specs.Tables.{ErrorTable, odd, row, flipped_by_rows}
 use Rattle.stab_search.specs.LogicalErrors.{IsLogicalError}
 use Rattle.stab_search.specs.inner.Errors.{AreRowsOf}
-use Rattle.stab_search.specs.inner.Lists.{Each}
+use Rattle.stab_search.specs.inner.Lists.{ForEach}
 
 -- the class of what an error flips: that of its first number
 abbrev pub class_of : List ℕ → List ℕ → ℕ
@@ -20,13 +20,13 @@ abbrev pub HaveClasses : ErrorTable → (classes : List ℕ) → Type 0
 HaveClasses t classes = (r : ℕ) → r < length t.rows → AreOfClass classes t.detectors (row t.rows r) (class_of classes (row t.rows r))
 
 -- an observable, or a detector that is not ignored
-abbrev pub Counts : (classes : List ℕ) → (detectors : ℕ) → ℕ → Type 0
-Counts classes detectors i = (detectors ≤ i) ⊎ (slice_index classes i ≢ 0)
+abbrev pub CountsNumber : (classes : List ℕ) → (detectors : ℕ) → ℕ → Type 0
+CountsNumber classes detectors i = (detectors ≤ i) ⊎ (slice_index classes i ≢ 0)
 
 -- errors of different classes that flip together what counts of these numbers
 pub record AreParts (t : ErrorTable) (classes is parts : List ℕ) : Type 0 where
-  pub inside : Each (λ r. r < length t.rows) parts
-  pub same : (i : ℕ) → Counts classes t.detectors i → flipped_by_rows t.rows parts i ≡ odd i is
+  pub inside : ForEach (λ r. r < length t.rows) parts
+  pub same : (i : ℕ) → CountsNumber classes t.detectors i → flipped_by_rows t.rows parts i ≡ odd i is
   pub distinct : IsAscending (map (λ r. class_of classes (row t.rows r)) parts)
 
 -- what an error flips splits into errors of a table
@@ -34,7 +34,7 @@ abbrev pub Splits : ErrorTable → (classes is : List ℕ) → Type 0
 Splits t classes is = (parts : List ℕ) × AreParts t classes is parts
 
 -- errors of a table that are enough: for each logical error of the table they have one of no more errors
-pub record AreEnough (t fewer : ErrorTable) (numbers : List ℕ) : Type 0 where
+pub record ErrorsAreEnough (t fewer : ErrorTable) (numbers : List ℕ) : Type 0 where
   pub detectors : fewer.detectors ≡ t.detectors
   pub rows : AreRowsOf t.rows fewer.rows numbers
   pub enough : (errors : List ℕ) → IsLogicalError t errors → (others : List ℕ) × (IsLogicalError fewer others × (length others ≤ length errors))

@@ -2,7 +2,7 @@
 use Rattle.std.specs.Prelude.{◌≡◌, ℕ, ◌<◌, ◌≤◌, List, [], ◌∷◌, length, slice_index, bit_xor}
 use Rattle.std.specs.Global.{Vec}
 use Rattle.stab_search.specs.Tables.{ErrorTable, row}
-use Rattle.stab_search.specs.inner.Indexes.{ListsDetectors}
+use Rattle.stab_search.specs.inner.Indexes.{ListsDetectors, ListsKeys}
 use Rattle.stab_search.specs.inner.Pairs.{ArePairs}
 use Rattle.stab_search.specs.inner.Steps.{BeginsBefore}
 
@@ -22,11 +22,12 @@ key_of numbers (d ∷ ds) = bit_xor (slice_index numbers d) (key_of numbers ds)
 abbrev pub AreKeys : List ℕ → List (List ℕ) → List ℕ → Type 0
 AreKeys numbers rows keys = (length keys ≡ length rows) × ((r : ℕ) → r < length rows → slice_index keys r ≡ key_of numbers (row rows r))
 
--- only detectors have numbers; the keys, the index, the pairs and the errors that can be first are those of the rows
-pub record IsReady (detectors : ℕ) (rows : List (List ℕ)) (numbers keys : List ℕ) (index pairs : List (Vec ℕ)) (firsts : ℕ) : Type 0 where
+-- only detectors have numbers; the keys, the indexes, the pairs and the errors that can be first are those of the rows
+pub record AreErrorsReady (detectors : ℕ) (rows : List (List ℕ)) (numbers keys : List ℕ) (mask : ℕ) (by_key by_detector pairs : List (Vec ℕ)) (firsts : ℕ) : Type 0 where
   pub numbered : length numbers ≤ detectors
   pub keyed : AreKeys numbers rows keys
-  pub listed : ListsDetectors rows index
+  pub indexed : ListsKeys keys mask by_key
+  pub listed : ListsDetectors rows by_detector
   pub paired : ArePairs rows firsts pairs
   pub inside : firsts ≤ length rows
   pub begun : BeginsBefore (record { detectors = detectors; rows = rows }) firsts

@@ -21,7 +21,7 @@ pub record AreEdges (t : ErrorTable) (edges : List Edge) : Type 0 where
   pub each : (r : ℕ) → r < length t.rows → IsEdge t.detectors (row t.rows r) (edge edges r)
 
 -- whether each row flips a number
-pub record AreBits (rows : List (List ℕ)) (o : ℕ) (bits : List Bool) : Type 0 where
+pub record RowsFlip (rows : List (List ℕ)) (o : ℕ) (bits : List Bool) : Type 0 where
   pub count : length bits ≡ length rows
   pub each : (r : ℕ) → r < length rows → slice_index_or bits r false ≡ odd o (row rows r)
 

@@ -4,9 +4,9 @@ use Rattle.std.specs.Global.{Vec}
 use Rattle.stab_gates.specs.Letters.{◌⊕◌}
 use Rattle.stab_search.specs.Tables.{odd, row}
 use Rattle.stab_search.specs.inner.Lists.{has}
-use Rattle.stab_search.specs.inner.Indexes.{listed}
+use Rattle.stab_search.specs.inner.Indexes.{rows_listed}
 
--- with c and d in the place of a and b a set still has an error that can be first
+-- with c and d for a and b a set still has an error that can be first
 abbrev pub KeepFirst : (firsts a b c d : ℕ) → Type 0
 KeepFirst firsts a b c d = (c < firsts) ⊎ ((d < firsts) ⊎ ((firsts ≤ a) × (firsts ≤ b)))
 
@@ -18,5 +18,5 @@ pub data IsLeftOut (rows : List (List ℕ)) (firsts a b : ℕ) : Type 0 where
 
 -- errors listed with others are left out with them, if a logical error has one before `firsts`
 pub record ArePairs (rows : List (List ℕ)) (firsts : ℕ) (pairs : List (Vec ℕ)) : Type 0 where
-  pub differ : (a b : ℕ) → has b (listed pairs a) ≡ true → a ≢ b
-  pub left_out : (a b : ℕ) → has b (listed pairs a) ≡ true → IsLeftOut rows firsts a b ⊎ IsLeftOut rows firsts b a
+  pub differ : (a b : ℕ) → has b (rows_listed pairs a) ≡ true → a ≢ b
+  pub left_out : (a b : ℕ) → has b (rows_listed pairs a) ≡ true → IsLeftOut rows firsts a b ⊎ IsLeftOut rows firsts b a

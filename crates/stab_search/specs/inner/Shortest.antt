@@ -3,7 +3,7 @@ use Rattle.std.specs.Prelude.{◌≡◌, ℕ, ◌<◌, ◌≤◌, Bool, true, fa
 use Rattle.stab_search.specs.Ascending.{IsAscending}
 use Rattle.stab_search.specs.Tables.{ErrorTable, flipped_by_rows}
 use Rattle.stab_search.specs.LogicalErrors.{IsLogicalError, HasNone, HasSome}
-use Rattle.stab_search.specs.inner.Lists.{Each}
+use Rattle.stab_search.specs.inner.Lists.{ForEach}
 
 -- a logical error of at most `most` errors
 pub record IsLogicalWithin (t : ErrorTable) (most : ℕ) (errors : List ℕ) : Type 0 where
@@ -14,7 +14,7 @@ pub record IsLogicalWithin (t : ErrorTable) (most : ℕ) (errors : List ℕ) : T
 pub record IsGathered (errors set : List ℕ) : Type 0 where
   pub ascending : IsAscending set
   pub fewer : length set ≤ length errors
-  pub inside : (n : ℕ) → Each (λ r. r < n) errors → Each (λ r. r < n) set
+  pub inside : (n : ℕ) → ForEach (λ r. r < n) errors → ForEach (λ r. r < n) set
   pub flipped_by_rows : (rows : List (List ℕ)) (i : ℕ) → flipped_by_rows rows set i ≡ flipped_by_rows rows errors i
 
 -- a set of at most `most` errors that is a logical error

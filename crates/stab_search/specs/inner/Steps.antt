@@ -1,14 +1,14 @@
--- Steps: rows with other detectors in the place of theirs, as of one round in that of the next, and the errors that a shortest logical error has one of.
+-- Steps: rows with other detectors for theirs, as of one round for those of the next, and the errors that a shortest logical error has one of.
 use Rattle.std.specs.Prelude.{◌≡◌, ℕ, ◌<◌, ◌≤◌, true, List, length, slice_index, slice_index_or}
 use Rattle.stab_search.specs.Tables.{ErrorTable, row}
 use Rattle.stab_search.specs.LogicalErrors.{IsLogicalError}
 use Rattle.stab_search.specs.inner.Lists.{has}
 
--- the number that takes the place of a number; one past the end of the list keeps its place
+-- the number that a number moves to; one past the end of the list does not move
 abbrev pub lowered : List ℕ → ℕ → ℕ
 lowered lower i = slice_index_or lower i i
 
--- detectors take the places of detectors, and of no observable
+-- detectors move to detectors, and to no observable
 pub record AreLower (detectors : ℕ) (lower : List ℕ) : Type 0 where
   pub within : length lower ≤ detectors
   pub inside : (d : ℕ) → d < length lower → slice_index lower d < detectors

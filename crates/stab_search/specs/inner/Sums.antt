@@ -10,9 +10,9 @@ use Rattle.stab_search.specs.declared.sums.Sum.{Sum}
 use Rattle.stab_search.specs.declared.sums.Parities.{Parities}
 
 -- the value of a variable; number 0 stands for false
-abbrev pub value : (ℕ → Bool) → ℕ → Bool
-value a zero = false
-value a (suc v) = a (suc v)
+abbrev pub variable_value : (ℕ → Bool) → ℕ → Bool
+variable_value a zero = false
+variable_value a (suc v) = a (suc v)
 
 -- an assignment has each sum as the sum of its parts
 abbrev pub AreSums : (ℕ → Bool) → List Sum → Type 0
@@ -31,22 +31,22 @@ AreFrom first [] = Unit {0}
 AreFrom first (s ∷ ss) = IsSumAt first s × AreFrom (first + 1) ss
 
 -- whether an odd number of the errors that an assignment has flip a detector or observable; v is the variable of the first row
-abbrev pub flipped_by : (ℕ → Bool) → (v : ℕ) → List (List ℕ) → ℕ → Bool
-flipped_by a v [] i = false
-flipped_by a v (is ∷ rows) i = (a v && odd i is) ⊕ flipped_by a (v + 1) rows i
+abbrev pub flipped_in_sum : (ℕ → Bool) → (v : ℕ) → List (List ℕ) → ℕ → Bool
+flipped_in_sum a v [] i = false
+flipped_in_sum a v (is ∷ rows) i = (a v && odd i is) ⊕ flipped_in_sum a (v + 1) rows i
 
 -- the variable for a detector or observable
-abbrev pub parity : List ℕ → ℕ → ℕ
-parity parities i = slice_index_or parities i 0
+abbrev pub parity_variable : List ℕ → ℕ → ℕ
+parity_variable parities i = slice_index_or parities i 0
 
 -- each parity is what the errors of these rows flip
 abbrev pub AreParities : List (List ℕ) → List Sum → List ℕ → Type 0
-AreParities rows sums parities = (a : ℕ → Bool) → AreSums a sums → (i : ℕ) → value a (parity parities i) ≡ flipped_by a 1 rows i
+AreParities rows sums parities = (a : ℕ → Bool) → AreSums a sums → (i : ℕ) → variable_value a (parity_variable parities i) ≡ flipped_in_sum a 1 rows i
 
 -- parities after an error that flips these numbers: its variable is added to theirs
 pub record Adds (variable : ℕ) (is : List ℕ) (sums : List Sum) (parities : List ℕ) (sums' : List Sum) (parities' : List ℕ) : Type 0 where
   pub kept : (a : ℕ → Bool) → AreSums a sums' → AreSums a sums
-  pub added : (a : ℕ → Bool) → AreSums a sums' → (i : ℕ) → value a (parity parities' i) ≡ value a (parity parities i) ⊕ (a variable && odd i is)
+  pub added : (a : ℕ → Bool) → AreSums a sums' → (i : ℕ) → variable_value a (parity_variable parities' i) ≡ variable_value a (parity_variable parities i) ⊕ (a variable && odd i is)
 
 -- sums from a first variable on, and parities, each of which is a variable that is there or 0
 pub record AreBuilt (p : Parities) : Type 0 where

@@ -7,8 +7,8 @@ use Rattle.stab_gates.specs.declared.gate.Gate.{Gate}
 use Rattle.stab_gates.specs.declared.gate.Gate.TheVariants as gate
 use Rattle.stab_instructions.specs.declared.operation.Kind.{Kind}
 use Rattle.stab_instructions.specs.declared.operation.Kind.TheVariants as kind
-use Rattle.stab_circuit.specs.Items.{OneItem, operation, repeat, listed}
-use Rattle.stab_circuit.specs.Steps.{one, unroll, past, qubits_of, check_within, most_steps}
+use Rattle.stab_items.specs.Items.{OneItem, operation, repeat, listed}
+use Rattle.stab_items.specs.Steps.{one, unroll, past, qubits_of, check_within, most_steps}
 use Rattle.stab_items.specs.Places.{item_at}
 use Rattle.stab_items.specs.Rounds.{pieces}
 use Rattle.stab_run.specs.Runs.{gate_of}

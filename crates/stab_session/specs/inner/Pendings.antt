@@ -2,8 +2,8 @@
 -- Source: this project's own.
 use Rattle.std.specs.Prelude.{◌≡◌, ℕ, List, Option, None, Result, Ok}
 use Rattle.stab_io.specs.declared.refusal.Refusal.{Refusal}
-use Rattle.stab_circuit.specs.Items.{OneItem, listed}
-use Rattle.stab_circuit.specs.Steps.{unroll, observables_of, check_within}
+use Rattle.stab_items.specs.Items.{OneItem, listed}
+use Rattle.stab_items.specs.Steps.{unroll, observables_of, check_within}
 use Rattle.stab_items.specs.Paths.{Path}
 use Rattle.stab_items.specs.Edits.{edited, list_refusal, verdict, taken, put_item, first_changed, old_end, new_end}
 use Rattle.stab_items.specs.declared.edit.Edit.{Edit}
@@ -38,10 +38,10 @@ item_back (Replaced path old) items = taken (Replace path old) items
 item_back (Deleted path old) items = None
 
 -- the items after the edit is finished: an item that is to be deleted is replaced until then by one that stands for nothing
-abbrev pub finished : Pending → List OneItem → Result (List OneItem) Refusal
-finished (Inserted path) items = Ok items
-finished (Replaced path old) items = Ok items
-finished (Deleted path old) items = edited (Delete path) items
+abbrev pub finished_items : Pending → List OneItem → Result (List OneItem) Refusal
+finished_items (Inserted path) items = Ok items
+finished_items (Replaced path old) items = Ok items
+finished_items (Deleted path old) items = edited (Delete path) items
 
 -- two lists of items have the same runs
 pub record HaveSameRuns (xs ys : List OneItem) : Type 0 where
@@ -63,8 +63,8 @@ pub record IsBegun (n : ℕ) (edit : Edit) (old now : List OneItem) (p : Pending
   pub new : List OneItem
   pub edited : edited edit old ≡ Ok new
   pub accepted : verdict n edit old ≡ None
-  pub ahead : finished p now ≡ Ok new
-  pub ahead_allowed : list_refusal (finished p now) ≡ None
+  pub ahead : finished_items p now ≡ Ok new
+  pub ahead_allowed : list_refusal (finished_items p now) ≡ None
   pub back : taken_back p now ≡ Ok old
   pub back_allowed : list_refusal (taken_back p now) ≡ None
   pub item : item_back p now ≡ put_item edit

@@ -4,8 +4,7 @@ use Rattle.std.specs.Prelude.{◌≡◌, ℕ, ◌<◌, ◌≤◌, false, List, [
 use Rattle.stab_gates.specs.declared.letter.Letter.TheVariants.{I}
 use Rattle.stab_tableau.specs.Tableaus.{TableauState, stabilises}
 use Rattle.stab_tableau.specs.Conjugations.{IsConjugated}
-use Rattle.stab_items.specs.Steps.{Step}
-use Rattle.stab_items.specs.Cursors.{HasDistinctQubits}
+use Rattle.stab_items.specs.Steps.{Step, HasDistinctQubits}
 use Rattle.stab_recording.specs.declared.checkpoint.Checkpoint.{Checkpoint}
 use Rattle.stab_recording.specs.declared.checkpoint.Meeting.{Meeting}
 use Rattle.stab_recording.specs.declared.replay.Replay.{Replay}
@@ -27,7 +26,7 @@ use Rattle.stab_session.specs.declared.rest.OldRest.{OldRest}
 use Rattle.stab_session.specs.inner.OldRests.{HasRoomFor, checkpoints_moved}
 
 -- this many of the first checkpoints are before a step
-pub record IsCount (step : ℕ) (checkpoints : List Checkpoint) (m : ℕ) : Type 0 where
+pub record IsCheckpointCount (step : ℕ) (checkpoints : List Checkpoint) (m : ℕ) : Type 0 where
   pub within : m ≤ length checkpoints
   pub before : All (λ c. c.step < step) (take m checkpoints)
   pub following : IfSome (slice_get checkpoints m) (λ c. step ≤ c.step)

@@ -20,13 +20,13 @@ use Rattle.stab_frames.specs.Pivots.{pivot_at}
 use Rattle.stab_frames.specs.Propagations.{PropagationState, IsPlaced}
 use Rattle.stab_session.specs.LongerLists.{longer}
 use Rattle.stab_recording.specs.RestFrames.{IsRestFrame, with_states}
-use Rattle.stab_session.specs.PassedPlaces.{IsFrameBetween, IsBeforePlaces}
-use Rattle.stab_session.specs.declared.past_places.PauliChange.{PauliChange}
+use Rattle.stab_session.specs.PassedSites.{IsFrameBetween, IsBeforeSites}
+use Rattle.stab_session.specs.declared.past_sites.PauliChange.{PauliChange}
 use Rattle.stab_session.specs.declared.recording.Recording.{Recording}
 use Rattle.stab_session.specs.declared.recording.Followed.{Followed}
-use Rattle.stab_session.specs.declared.conjugating.PastPlaces.{PastPlaces}
+use Rattle.stab_session.specs.declared.conjugating.PastSites.{PastSites}
 use Rattle.stab_session.specs.declared.conjugating.Conjugating.{Conjugating}
-use Rattle.stab_session.specs.inner.Prepared.{IsCount}
+use Rattle.stab_session.specs.inner.Prepared.{IsCheckpointCount}
 use Rattle.stab_session.specs.inner.OldRests.{HasRoomFor, checkpoints_moved}
 use Rattle.stab_session.specs.Recordings.{IsRecording}
 use Rattle.stab_session.specs.FollowedEdits.{IsWay}
@@ -37,7 +37,7 @@ no_lengths = record { records = 0; free = 0; detectors = 0; additions = 0 }
 
 -- of some checkpoints this many are not after the first step of a span, and those up to another count may be within it
 pub record AreCounted (s : Span) (checkpoints : List Checkpoint) (before inside : ℕ) : Type 0 where
-  pub first : IsCount (s.first + 1) checkpoints before
+  pub first : IsCheckpointCount (s.first + 1) checkpoints before
   pub order : before ≤ inside
   pub within : inside ≤ length checkpoints
 
@@ -52,7 +52,7 @@ span_meeting s = record { old_step = s.old_end; new_step = s.new_end; old_length
 
 -- a frame that began where the lists of a run were this long went past the places of a change within a span; of the checkpoints that are after
 -- this many, those up to another count were made checkpoints of the new run
-pub record IsPastPlaces (ys : List Step) (s : Span) (before inside : ℕ) (change : PauliChange) (r : Recording) (from : Lengths) (w : PropagationState) (checkpoints : List Checkpoint) : Type 0 where
+pub record IsPastSites (ys : List Step) (s : Span) (before inside : ℕ) (change : PauliChange) (r : Recording) (from : Lengths) (w : PropagationState) (checkpoints : List Checkpoint) : Type 0 where
   pub from_is : IfSome (slice_get r.checkpoints.items (before - 1)) (λ c. (n : ℕ) (coins : ℕ → Bool) (a : Point)
       → from ≡ longer c.lengths (lengths_of (outputs n coins (take (s.first - c.step) (drop c.step ys)) a)))
   pub start : PropagationState
@@ -62,10 +62,10 @@ pub record IsPastPlaces (ys : List Step) (s : Span) (before inside : ℕ) (chang
   pub few : w.coin ≤ from.free + length (drop s.first ys)
   pub count : length checkpoints + before ≡ inside
   pub between : (coins : ℕ → Bool) (xs : List Step) (base : ℕ) (front : RunOutput)
-      → IsBeforePlaces r.tableau.qubits coins xs ys (pivot_at r.strings.strings r.outputs.free.items) r.outputs.free.items base front s change (drop s.first ys) start
+      → IsBeforeSites r.tableau.qubits coins xs ys (pivot_at r.strings.strings r.outputs.free.items) r.outputs.free.items base front s change (drop s.first ys) start
       → IsFrameBetween r.tableau.qubits coins xs ys (pivot_at r.strings.strings r.outputs.free.items) r.outputs.free.items base front s.old_end s.new_end w
   pub are_checkpoints : (coins : ℕ → Bool) (xs : List Step) (base : ℕ) (front : RunOutput)
-      → IsBeforePlaces r.tableau.qubits coins xs ys (pivot_at r.strings.strings r.outputs.free.items) r.outputs.free.items base front s change (drop s.first ys) start
+      → IsBeforeSites r.tableau.qubits coins xs ys (pivot_at r.strings.strings r.outputs.free.items) r.outputs.free.items base front s change (drop s.first ys) start
       → All (IsCheckpoint r.tableau.qubits coins xs) (take (inside - before) (drop before r.checkpoints.items)) → All (IsCheckpoint r.tableau.qubits coins ys) checkpoints
 
 -- the checkpoints after a span, those that a frame conjugated with their new states, and moved with it
@@ -73,7 +73,7 @@ abbrev pub checkpoints_conjugated : Span → List TableauState → List Checkpoi
 checkpoints_conjugated s conjugated checkpoints = map (moved_checkpoint (span_meeting s)) (with_states conjugated checkpoints)
 
 -- it was propagated on over the steps after the span, past the checkpoints that are there
-pub record IsConjugating (ys : List Step) (s : Span) (inside : ℕ) (p : PastPlaces) (r : Recording) (t : Conjugating) : Type 0 where
+pub record IsConjugating (ys : List Step) (s : Span) (inside : ℕ) (p : PastSites) (r : Recording) (t : Conjugating) : Type 0 where
   pub from : t.from ≡ p.from
   pub passed : t.passed.items ≡ p.checkpoints.items
   pub number : t.rest.number ≡ inside
@@ -82,7 +82,7 @@ pub record IsConjugating (ys : List Step) (s : Span) (inside : ℕ) (p : PastPla
   pub room : HasRoomFor r.tableau.qubits t.rest r.checkpoints.items
 
 -- what it made was put in place
-pub record IsPut (old : Recording) (before K : ℕ) (t : Conjugating) (new : Recording) : Type 0 where
+pub record IsPutInPlace (old : Recording) (before K : ℕ) (t : Conjugating) (new : Recording) : Type 0 where
   pub qubits : new.tableau.qubits ≡ old.tableau.qubits
   pub conjugated : IsConjugated old.tableau.qubits t.rest.propagation.letters (stabilises old.tableau) (stabilises new.tableau)
   pub output : output_of new.outputs

@@ -3,9 +3,8 @@
 use Rattle.std.specs.Prelude.{◌≡◌, ℕ, ◌≤◌, Bool, List, All, None, refl}
 use Rattle.std.specs.Coded.{Coded, code_by, coded×, coded_ℕ, coded_bool, coded_list}
 use Rattle.stab_gates.specs.Limits.{most_qubits}
-use Rattle.stab_circuit.specs.Items.{Items}
-use Rattle.stab_circuit.specs.Steps.{unroll, observables_of, check_within}
-use Rattle.stab_items.specs.Cursors.{HasDistinctQubits}
+use Rattle.stab_items.specs.Items.{Items}
+use Rattle.stab_items.specs.Steps.{unroll, observables_of, check_within, HasDistinctQubits}
 use Rattle.stab_session.specs.declared.recording.Recording.{Recording}
 use Rattle.stab_circuit.specs.Limits.{most_stride}
 use Rattle.stab_session.specs.Sessions.{SessionState}

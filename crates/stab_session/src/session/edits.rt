@@ -20,7 +20,7 @@ pub struct Report {
 
 impl<C: Coins> Session<C> {
     ghost use Rattle.std.specs.Prelude.{◌≡◌, ℕ, ◌+◌, ◌-◌, ◌≤◌, length, IfOk, IfErr, OnOk, OnErr};
-    ghost use Rattle.stab_circuit.specs.Items.{entries};
+    ghost use Rattle.stab_items.specs.Items.{entries};
     ghost use Rattle.stab_items.specs.Edits.{verdict, put_item};
     ghost use Rattle.stab_io.specs.Refusals.{IsCallFault};
     ghost use Rattle.stab_session.specs.SessionEdits.{IsEditedBy, IsAsBefore};

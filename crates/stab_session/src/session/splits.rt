@@ -7,7 +7,7 @@ use stab_run::Coins;
 impl<C: Coins> Session<C> {
     ghost use Rattle.std.specs.Prelude.{IfErr, OnOk, OnErr};
     ghost use Rattle.stab_io.specs.Refusals.{IsCallFault};
-    ghost use Rattle.stab_circuit.specs.Items.{entries};
+    ghost use Rattle.stab_items.specs.Items.{entries};
     ghost use Rattle.stab_items.specs.Splits.{split_refusal};
     ghost use Rattle.stab_session.specs.SessionEdits.{IsSplit, IsAsBefore};
     ghost use Rattle.stab_session.specs.Headline.{IsRunOfItems};

@@ -64,21 +64,21 @@ pub record IsOver (n : ℕ) (r : InverseRows) : Type 0 where
   pub z : length r.z.letters ≡ n
 
 -- the rows of a table for one qubit: over n positions, and they anticommute
-pub record IsRow (n : ℕ) (r : InverseRows) : Type 0 where
+pub record IsInverseRow (n : ℕ) (r : InverseRows) : Type 0 where
   pub over : IsOver n r
   pub opposed : anticommute r.x r.z ≡ true
 
 -- the rows of a table for two qubits: those of one commute with those of the other
 pub record AreRows (n : ℕ) (r s : InverseRows) : Type 0 where
-  pub first : IsRow n r
-  pub second : IsRow n s
+  pub first : IsInverseRow n r
+  pub second : IsInverseRow n s
   pub xx : anticommute r.x s.x ≡ false
   pub xz : anticommute r.x s.z ≡ false
   pub zx : anticommute r.z s.x ≡ false
   pub zz : anticommute r.z s.z ≡ false
 
 -- n rows over n positions by which preimages keep products
-pub record IsTable (n : ℕ) (rows : List InverseRows) : Type 0 where
+pub record IsInverseTable (n : ℕ) (rows : List InverseRows) : Type 0 where
   pub count : length rows ≡ n
   pub sizes : (q : ℕ) → q < n → IsOver n (rows_at rows q)
   pub keeps : IsHomomorphism n n (string_preimage n rows)

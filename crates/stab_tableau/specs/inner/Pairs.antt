@@ -15,10 +15,10 @@ use Rattle.stab_gates.specs.Limits.{most_qubits}
 use Rattle.stab_tableau.specs.inner.InverseRows.{InverseRows, rows_at, letter_preimage, GateRow, PairRows}
 
 -- strings taken two by two; a last one alone is left out
-abbrev pub paired : List Signed → List InverseRows
-paired [] = []
-paired (x ∷ []) = []
-paired (x ∷ z ∷ rows) = record { x = x; z = z } ∷ paired rows
+abbrev pub paired_strings : List Signed → List InverseRows
+paired_strings [] = []
+paired_strings (x ∷ []) = []
+paired_strings (x ∷ z ∷ rows) = record { x = x; z = z } ∷ paired_strings rows
 
 -- where the preimage of X or of Z on a qubit lies
 abbrev pub row_position : InverseRow → ℕ → ℕ

@@ -16,11 +16,11 @@ pub struct CompactTable {
 impl Model for CompactTable {
     ghost use Rattle.std.specs.Prelude.{List};
     ghost use Rattle.stab_tableau.specs.inner.InverseRows.{InverseRows};
-    ghost use Rattle.stab_tableau.specs.inner.Pairs.{paired, IsPaired};
+    ghost use Rattle.stab_tableau.specs.inner.Pairs.{paired_strings, IsPaired};
 
     ghost Value = { List InverseRows };
 
-    ghost view = { λ t. paired t.rows.rows };
+    ghost view = { λ t. paired_strings t.rows.rows };
 
     ghost invariant = { λ t. IsPaired t.rows };
 }

@@ -8,7 +8,7 @@ impl Tableau {
     ghost use Rattle.std.specs.Prelude.{◌≡◌, ℕ, ◌<◌, true, false, length};
     ghost use Rattle.stab_pauli.specs.Paulis.{Signed, single};
     ghost use Rattle.stab_tableau.specs.Tableaus.{stabilises};
-    ghost use Rattle.stab_tableau.specs.Rules.{outcome_by, is_free_by, projected_by};
+    ghost use Rattle.stab_tableau.specs.Rules.{outcome_by, is_random_by, projected_by};
     ghost use Rattle.stab_tableau.specs.Pivots.{IsPivot};
 
     /// `collapse`, which also, if the outcome is random, makes another string the letters of a stabiliser of the state before that
@@ -19,7 +19,7 @@ impl Tableau {
         requires pivot_length { length pivot.old.letters ≡ self.old.qubits }
         ensures qubits { self.new.qubits ≡ self.old.qubits }
         ensures outcome { result.outcome ≡ outcome_by (stabilises self.old) pauli.now coin }
-        ensures free { result.free ≡ is_free_by (stabilises self.old) pauli.now }
+        ensures free { result.free ≡ is_random_by (stabilises self.old) pauli.now }
         ensures members { (p : Signed) → length p.letters ≡ self.old.qubits → stabilises self.new p ≡ projected_by (stabilises self.old) pauli.now result.outcome p }
         ensures unchanged { result.free ≡ false → self.new ≡ self.old }
         ensures length { length pivot.new.letters ≡ length pivot.old.letters }
@@ -50,7 +50,7 @@ impl Tableau {
         requires pivot_length { length pivot.old.letters ≡ self.old.qubits }
         ensures qubits { self.new.qubits ≡ self.old.qubits }
         ensures outcome { result.outcome ≡ outcome_by (stabilises self.old) (single self.old.qubits qubit letter) coin }
-        ensures free { result.free ≡ is_free_by (stabilises self.old) (single self.old.qubits qubit letter) }
+        ensures free { result.free ≡ is_random_by (stabilises self.old) (single self.old.qubits qubit letter) }
         ensures members { (p : Signed) → length p.letters ≡ self.old.qubits → stabilises self.new p ≡ projected_by (stabilises self.old) (single self.old.qubits qubit letter) result.outcome p }
         ensures unchanged { result.free ≡ false → self.new ≡ self.old }
         ensures length { length pivot.new.letters ≡ length pivot.old.letters }

@@ -1,5 +1,5 @@
 -- Folds: rounds that a string goes through as it went through earlier ones.
-use Rattle.std.specs.Prelude.{◌≡◌, ◌≤◌, ◌<◌, ℕ, ◌+◌, ◌-◌, List, ◌++◌, All, length, take, drop, map, Option, Some, None}
+use Rattle.std.specs.Prelude.{◌≡◌, ◌≤◌, ◌<◌, ◌⊎◌, ℕ, ◌+◌, ◌-◌, List, ◌++◌, All, length, take, drop, map, Option, Some, None}
 use Rattle.stab_gates.specs.declared.letter.Letter.{Letter}
 use Rattle.stab_run.specs.Records.{looked_up}
 use Rattle.stab_run.specs.Points.{joined}
@@ -9,7 +9,7 @@ use Rattle.stab_ways.specs.Ways.{Part, Turn, part_rounds}
 use Rattle.stab_ways.specs.inner.Walks.{WalkState, walked}
 
 -- a checkpoint keeps these of a walk
-pub record IsKept (c : Checkpoint) (w : WalkState) : Type 0 where
+pub record IsWalkKept (c : Checkpoint) (w : WalkState) : Type 0 where
   pub letters : c.letters.items ≡ w.frame.letters
   pub lengths : c.lengths ≡ lengths_of w.frame.flips
   pub each : length w.frame.flips.outcomes ≡ length w.frame.flips.free
@@ -22,8 +22,12 @@ pub record IsKept (c : Checkpoint) (w : WalkState) : Type 0 where
 pub record CameFrom (n : ℕ) (string : List Letter) (parts : List Part) (c : Checkpoint) (done : ℕ) (w : WalkState) : Type 0 where
   pub earlier : c.done ≤ done
   pub state : WalkState
-  pub kept : IsKept c state
+  pub kept : IsWalkKept c state
   pub over : w ≡ walked n string (part_rounds (done - c.done) parts) state
+
+-- a checkpoint is as it was, or keeps a walk after this many rounds
+abbrev pub StaysOrIsKept : (old new : Checkpoint) → ℕ → WalkState → Type 0
+StaysOrIsKept old new done w = (new ≡ old) ⊎ ((new.done ≡ done) × IsWalkKept new w)
 
 -- what has grown since a checkpoint
 pub record IsSince (c : Checkpoint) (w : WalkState) : Type 0 where
@@ -38,7 +42,7 @@ WaitsLonger steps None = Unit {0}
 WaitsLonger steps (Some k) = steps + steps < k
 
 -- a walk is as it was at a checkpoint, for steps that look no further back than the newest records, as many as this
-pub record IsAgain (window : ℕ) (c : Checkpoint) (w : WalkState) : Type 0 where
+pub record IsWalkAgain (window : ℕ) (c : Checkpoint) (w : WalkState) : Type 0 where
   pub letters : c.letters.items ≡ w.frame.letters
   pub records : (k : ℕ) → k ≤ window → looked_up (take c.lengths.records w.frame.flips.records) k ≡ looked_up w.frame.flips.records k
   pub waits : WaitsLonger (w.steps - c.steps) c.waits

@@ -12,7 +12,7 @@ use Rattle.stab_frames.specs.inner.Touches.{acts}
 use Rattle.stab_frames.specs.FrameSteps.{frame_over, flips_over}
 use Rattle.stab_ways.specs.declared.walk.Walk.{Walk}
 use Rattle.stab_ways.specs.PutIn.{by_letters, step_leaves, way_over, way_flips}
-use Rattle.stab_ways.specs.Ways.{Part, Turn, listed_string, rest_of, turn_shown}
+use Rattle.stab_ways.specs.Ways.{Part, Turn, listed_string, rest_of_instruction, turn_shown}
 
 -- a frame after steps, with what it has flipped
 abbrev pub passed : ℕ → List Step → PropagationState → PropagationState
@@ -71,7 +71,7 @@ reported n p w = record (past_steps n p.steps w) { turns = w.turns ++ listed_str
 abbrev pub over_part : ℕ → List Letter → Part → Option ℕ → WalkState → WalkState
 over_part n string p None w = reported n p w
 over_part n string p (Some k) w =
-    if nat_le k (length p.steps) then reported n (rest_of k p) (put_in string (past_steps n (take k p.steps) w))
+    if nat_le k (length p.steps) then reported n (rest_of_instruction k p) (put_in string (past_steps n (take k p.steps) w))
     else record (past_steps n p.steps w) { waits = Some (k - length p.steps) }
 
 -- over instructions one after another
@@ -84,7 +84,7 @@ abbrev pub walk_shown : Walk → WalkState
 walk_shown w = record { every = w.every; steps = w.steps; waits = w.waits; frame = w.propagation; turns = map turn_shown w.turns.items }
 
 -- a walk on n qubits, which no pivot is known for
-pub record IsWalk (n : ℕ) (w : Walk) : Type 0 where
+pub record IsWalkOn (n : ℕ) (w : Walk) : Type 0 where
   pub size : length w.propagation.letters ≡ n
   pub placed : IsPlaced [] w.propagation
   pub coins : w.propagation.coin ≤ w.steps

@@ -6,7 +6,7 @@ use std::alloc::Global;
 
 // The qubit 0, or the last one.
 #[derive(Clone, Copy)]
-pub(super) enum Place {
+pub(super) enum EndQubit {
     First,
     Last,
 }
@@ -14,8 +14,8 @@ pub(super) enum Place {
 // A call.
 #[derive(Clone, Copy)]
 pub(super) enum Call {
-    One(Gate, Place),
-    Two(PairGate, Place, Place),
+    One(Gate, EndQubit),
+    Two(PairGate, EndQubit, EndQubit),
     // The measurement, with a coin, of the string with the two letters of a text, such as `-XZ`, on the first
     // and on the last qubit.
     Measure(&'static str, bool),
@@ -26,10 +26,10 @@ pub(super) enum Call {
     Copy,
 }
 
-fn qubit(tableau: &Tableau, place: Place) -> usize {
+fn qubit(tableau: &Tableau, place: EndQubit) -> usize {
     match place {
-        Place::First => 0,
-        Place::Last => tableau.len().saturating_sub(1),
+        EndQubit::First => 0,
+        EndQubit::Last => tableau.len().saturating_sub(1),
     }
 }
 

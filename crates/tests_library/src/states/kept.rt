@@ -1,6 +1,6 @@
 //! States that are kept in little memory, and frames from them to others.
 use super::calls::Call::{self, One, Two};
-use super::calls::Place::{First, Last};
+use super::calls::EndQubit::{First, Last};
 use super::{BELL, ENTANGLE, SIZES, TURN, state};
 use stab_pauli::{Letter, Pauli, Refusal};
 use stab_tableau::{CompactTableau, Gate, PairGate, Tableau};

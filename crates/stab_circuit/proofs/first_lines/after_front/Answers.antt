@@ -1,5 +1,5 @@
 use Rattle.stab_circuit.proofs.Names.{sym, ap, ◌∙◌, option_copied}
-use Rattle.stab_circuit.proofs.FrontLemmas.{line_alone}
+use Rattle.stab_circuit.proofs.FirstLineLemmas.{line_alone}
 use Rattle.stab_circuit.proofs.first_lines.after_front.Goals as goal
 
 pub returns-in-None : goal.returns-in-None

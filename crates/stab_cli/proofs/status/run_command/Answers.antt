@@ -1,6 +1,6 @@
 use Rattle.std.proofs.Common.{false, subst, sym}
 use Rattle.stab_report.specs.Questions.{EndsQuestion}
-use Rattle.stab_report.specs.FaultTables.{EndsFaults, fault_of}
+use Rattle.stab_report.specs.SingleErrorTables.{EndsFaults, fault_of}
 use Rattle.stab_cli.proofs.WarningLaws.{warned_alike, warned_by_question}
 use Rattle.stab_cli.proofs.status.run_command.Goals as goal
 

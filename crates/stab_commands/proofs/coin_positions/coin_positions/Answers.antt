@@ -1,5 +1,5 @@
 use Rattle.stab_commands.proofs.Names.{◌≡◌, [], ◌+◌, sym, ◌∙◌, ap, subst, refl, length, drop, ◌++◌, arith, length-append, unroll, steps_shown, circuit_items, coins_together, coins-few, check-steps}
-use Rattle.stab_commands.proofs.PlaceLemmas.{AreGathered, TakeCoins, together, few-together, drop-group, gathered-group, gathered-all}
+use Rattle.stab_commands.proofs.CoinPositionLemmas.{AreGathered, TakeCoins, together, few-together, drop-group, gathered-group, gathered-all}
 use Rattle.stab_commands.proofs.coin_positions.coin_positions.Goals as goal
 
 pub steps-init : goal.steps-init

@@ -1,5 +1,5 @@
 use Rattle.stab_commands.proofs.Names.{◌≡◌, ◌+◌, length, drop, unroll, circuit_items}
-use Rattle.stab_commands.proofs.PlaceLemmas.{AreGathered}
+use Rattle.stab_commands.proofs.CoinPositionLemmas.{AreGathered}
 use Rattle.stab_commands.proofs.coin_positions.coin_positions.Given as goal
 
 abbrev pub invariant-steps : goal.invariant-steps

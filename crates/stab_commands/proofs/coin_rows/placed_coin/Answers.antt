@@ -1,6 +1,6 @@
 use Rattle.stab_commands.proofs.Names.{◌≡◌, ◌<◌, ◌∙◌, ap, sym, subst, length, get_or, qubits_of, unroll, circuit_items, step_of_coin, path_at, coin_at}
 use Rattle.stab_commands.proofs.CoinRowLaws.{step_of_position, step_within}
-use Rattle.stab_report.proofs.FaultTextLaws.{path_here}
+use Rattle.stab_report.proofs.SingleErrorTextLaws.{path_here}
 use Rattle.stab_commands.proofs.coin_rows.placed_coin.Goals as goal
 
 pub item_of_step-path-requires-clause-in_range : goal.item_of_step-path-requires-clause-in_range

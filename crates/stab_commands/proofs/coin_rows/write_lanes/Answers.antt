@@ -1,4 +1,4 @@
-use Rattle.stab_commands.proofs.Names.{◌≡◌, ◌∙◌, ◌+◌, ◌*◌, ◌<◌, ap, sym, subst, length, arith, length-map, IsErrAnd, Took, OutOfMemory, whole, circuit_items, one_places, lane_bits, coin_text, texts_from, coin_at, positions_in, text_at}
+use Rattle.stab_commands.proofs.Names.{◌≡◌, ◌∙◌, ◌+◌, ◌*◌, ◌<◌, ap, sym, subst, length, arith, length-map, IsErrAnd, Took, OutOfMemory, whole, circuit_items, one_positions, lane_bits, coin_entry, texts_from, coin_at, positions_in, text_at}
 use Rattle.stab_commands.proofs.PlacedWordLaws.{ones-below}
 use Rattle.stab_report.proofs.SendingLaws.{sends_none, sent_shot, shots_break_off, cut_off_as, cut_off_here}
 use Rattle.stab_commands.proofs.coin_rows.write_lanes.Goals as goal
@@ -19,11 +19,11 @@ loop-lane-preserved g c =
     let flips = lane_bits g.W.Word.at (64 * c.args.part + lane) words in
     let less : lane < 64 = omega (arith, c.loop-lane-test.true, c.requires.in_range) in
     let count : length flips ≡ length c.loop-lane.bits = length-map words (λ w. g.W.Word.at w (64 * c.args.part + lane)) ∙ sym (ap length c.loop-lane.invariant.same ∙ c.requires.as_many) in
-    let ones : one_places flips ≡ c.as_slice-in-loop-lane.result.now = sym (c.as_slice-in-loop-lane.ensures.value ∙ c.in_ok-write_positions.ensures.value ∙ ap (positions_in lane) c.as_slice.ensures.value ∙ c.in_ok-find_words.ensures.ones lane less) in
+    let ones : one_positions flips ≡ c.as_slice-in-loop-lane.result.now = sym (c.as_slice-in-loop-lane.ensures.value ∙ c.in_ok-write_positions.ensures.value ∙ ap (positions_in lane) c.as_slice.ensures.value ∙ c.in_ok-find_words.ensures.ones lane less) in
     record {
       same = c.in_ok-write_coin.ensures.same ∙ c.loop-lane.invariant.same;
       took = λ have.
-          let same = ap (coin_text c.args.layout items (coin_at items (c.args.first + lane))) (have lane c.loop-lane-test.true) in
+          let same = ap (coin_entry c.args.layout items (coin_at items (c.args.first + lane))) (have lane c.loop-lane-test.true) in
           sent_shot (text_at c.args.layout items) c.args.first lane (c.loop-lane.invariant.took have)
           (subst (λ l. Took (g.O.Output.seen c.loop-lane.out) (g.O.Output.seen c.write_coin.new.out) l) same (c.in_ok-write_coin.ensures.writes flips count ones));
     }
@@ -36,8 +36,8 @@ returns-in_err-write_coin-clause-sends g c = λ have.
     let flips = lane_bits g.W.Word.at (64 * c.args.part + lane) words in
     let less : lane < 64 = omega (arith, c.loop-lane-test.true, c.requires.in_range) in
     let count : length flips ≡ length c.loop-lane.bits = length-map words (λ w. g.W.Word.at w (64 * c.args.part + lane)) ∙ sym (ap length c.loop-lane.invariant.same ∙ c.requires.as_many) in
-    let ones : one_places flips ≡ c.as_slice-in-loop-lane.result.now = sym (c.as_slice-in-loop-lane.ensures.value ∙ c.in_ok-write_positions.ensures.value ∙ ap (positions_in lane) c.as_slice.ensures.value ∙ c.in_ok-find_words.ensures.ones lane less) in
-    let same = ap (coin_text c.args.layout items (coin_at items (c.args.first + lane))) (have lane c.loop-lane-test.true) in
+    let ones : one_positions flips ≡ c.as_slice-in-loop-lane.result.now = sym (c.as_slice-in-loop-lane.ensures.value ∙ c.in_ok-write_positions.ensures.value ∙ ap (positions_in lane) c.as_slice.ensures.value ∙ c.in_ok-find_words.ensures.ones lane less) in
+    let same = ap (coin_entry c.args.layout items (coin_at items (c.args.first + lane))) (have lane c.loop-lane-test.true) in
     shots_break_off (text_at c.args.layout items) c.args.first lane c.args.lanes c.in_err-write_coin.field-0.0 c.from_residual-in_err-write_coin.result
     c.loop-lane-test.true (c.loop-lane.invariant.took have) (cut_off_as _ _ c.in_err-write_coin.field-0.0 same (c.in_err-write_coin.ensures.writes flips count ones)) c.from_residual-in_err-write_coin.ensures.1
 

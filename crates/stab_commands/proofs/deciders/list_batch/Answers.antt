@@ -1,4 +1,4 @@
-use Rattle.stab_commands.proofs.Names.{◌≡◌, ◌<◌, ◌∙◌, ◌+◌, ◌++◌, sym, ap, length, subst, arith, qubits_of, circuit_items, bits_in, listed, coin_at}
+use Rattle.stab_commands.proofs.Names.{◌≡◌, ◌<◌, ◌∙◌, ◌+◌, ◌++◌, sym, ap, length, subst, arith, qubits_of, circuit_items, bits_in, rows_listed, coin_at}
 use Rattle.stab_commands.proofs.CoinRowLaws.{checked_words}
 use Rattle.stab_commands.proofs.DeciderLaws.{batch_decides, lanes_are}
 use Rattle.stab_commands.proofs.deciders.list_batch.Goals as goal
@@ -38,6 +38,6 @@ returns-clause-value g c = λ i less.
     let first = lanes 0 (omega (arith, c.requires.some, c.requires.few)) (omega (arith, c.requires.some, c.requires.in_range, enough)) in
     let count : length words ≡ bits_in items = checked_words g.W.Word.at 0 (qubits_of items) items (coin_at items (c.args.first + 0)) words first in
     c.in_ok-push_all.ensures.value i (subst (λ m. i < m) (sym count) less)
-    ∙ ap (λ l. listed c.args.lists.now.items i ++ l)
+    ∙ ap (λ l. rows_listed c.args.lists.now.items i ++ l)
     (batch_decides g.W.Word.at items c.args.first c.args.end words i
     (λ l within. lanes l (omega (arith, within, c.requires.few)) (omega (arith, within, c.requires.in_range, enough))))

@@ -1,4 +1,4 @@
-use Rattle.stab_commands.proofs.Names.{◌∙◌, ◌+◌, ◌-◌, ◌++◌, ap, length, arith, circuit_items, numbers_where, listed, decides}
+use Rattle.stab_commands.proofs.Names.{◌∙◌, ◌+◌, ◌-◌, ◌++◌, ap, length, arith, circuit_items, numbers_where, rows_listed, decides}
 use Rattle.stab_items.proofs.CountLemmas.{detectors_counted}
 use Rattle.stab_commands.proofs.DeciderLaws.{numbers_more}
 use Rattle.stab_commands.proofs.deciders.list_batches.Goals as goal
@@ -10,7 +10,7 @@ loop-first-init g c =
     record {
       within = omega arith;
       size = omega (arith, c.in_ok-add_lists-2.ensures.size, c.in_ok-add_lists.ensures.size, ap length c.new-lists.ensures.items, detectors, c.observables.ensures.value);
-      listed_so_far = λ i less. c.in_ok-add_lists-2.ensures.value i ∙ c.in_ok-add_lists.ensures.value i ∙ ap (λ l. listed l i) c.new-lists.ensures.items;
+      listed_so_far = λ i less. c.in_ok-add_lists-2.ensures.value i ∙ c.in_ok-add_lists.ensures.value i ∙ ap (λ l. rows_listed l i) c.new-lists.ensures.items;
     }
 
 pub loop-first-preserved : goal.loop-first-preserved

@@ -1,4 +1,4 @@
-use Rattle.stab_commands.proofs.Names.{◌≡◌, ◌<◌, ◌∙◌, ◌++◌, length, arith, length-set, listed, listed-at, listed-set_other, ones_at}
+use Rattle.stab_commands.proofs.Names.{◌≡◌, ◌<◌, ◌∙◌, ◌++◌, length, arith, length-set, rows_listed, listed-at, listed-set_other, ones_at}
 use Rattle.stab_commands.proofs.DeciderLaws.{lists-more, ones_here}
 use Rattle.stab_commands.proofs.deciders.push_all.Goals as goal
 
@@ -13,7 +13,7 @@ loop-bit-preserved g c =
     let within : bit < length lists = omega (arith, less, c.loop-bit.invariant.size) in
     let before = listed-at lists bit c.index_mut.result.now within c.index_mut.ensures.value ∙ c.loop-bit.invariant.rest bit (omega arith) in
     let ones = ones_here g.W.Word.at words c.index-words-bit.result bit c.args.first c.args.end less c.index-words-bit.is in
-    let here : new.items ≡ listed old bit ++ ones_at g.W.Word.at words bit c.args.first c.args.end = c.in_ok-push_parts.ensures.value ∙ (λ i. before i ++ ones i) in
+    let here : new.items ≡ rows_listed old bit ++ ones_at g.W.Word.at words bit c.args.first c.args.end = c.in_ok-push_parts.ensures.value ∙ (λ i. before i ++ ones i) in
     record {
       size = length-set lists bit new ∙ c.loop-bit.invariant.size;
       before = lists-more g.W.Word.at words c.args.first c.args.end bit old lists new within c.loop-bit.invariant.before here;

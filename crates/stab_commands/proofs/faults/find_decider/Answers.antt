@@ -1,5 +1,5 @@
 use Rattle.stab_commands.proofs.Names.{◌≡◌, ◌<◌, ◌∙◌, ◌∷◌, All, ap, sym, subst, length, map, drop, get_or, arith, qubits_of, unroll, circuit_items, step_of_coin, AreCoinRuns, listed-at, IsFirstDecider, path_at, coin_at, decides}
-use Rattle.stab_report.proofs.FaultBitLaws.{below}
+use Rattle.stab_report.proofs.SingleErrorBitLaws.{below}
 use Rattle.stab_report.proofs.MemoryLaws.{memory_alone, passed_memory, passed_no_value}
 use Rattle.stab_commands.proofs.ReasonLaws.{first_found, some_found}
 use Rattle.stab_commands.proofs.faults.find_decider.Goals as goal

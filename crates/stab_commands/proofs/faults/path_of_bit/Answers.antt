@@ -1,5 +1,5 @@
 use Rattle.stab_commands.proofs.Names.{◌∙◌, sym, ap, circuit_items, path_at}
-use Rattle.stab_report.proofs.FaultTextLaws.{path_here}
+use Rattle.stab_report.proofs.SingleErrorTextLaws.{path_here}
 use Rattle.stab_commands.proofs.faults.path_of_bit.Goals as goal
 
 pub returns-clause-value : goal.returns-clause-value

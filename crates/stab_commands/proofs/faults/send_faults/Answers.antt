@@ -1,4 +1,4 @@
-use Rattle.stab_commands.proofs.Names.{◌≡◌, ◌<◌, ℕ, false, IfNone, refl, subst, Err, err_from_is_err_and, circuit_items, qubits_of, IsFaultTable, RowsAdd, IsDeterministic, bits_in, IsTableText, table_text}
+use Rattle.stab_commands.proofs.Names.{◌≡◌, ◌<◌, ℕ, false, IfNone, refl, subst, Err, err_from_is_err_and, circuit_items, qubits_of, IsSingleErrorTable, RowsAdd, IsDeterministic, bits_in, IsTableText, table_text}
 use Rattle.stab_commands.proofs.FoundLaws.{found_at_once}
 use Rattle.stab_commands.proofs.faults.send_faults.Goals as goal
 
@@ -11,7 +11,7 @@ returns-in_err-send_table-in-Ok-None g c =
     let is : IsTableText c.args.layout c.args.everywhere c.args.deterministic_only items text = record {
       deterministic = table.deterministic;
       rows = table.rows;
-      table = subst (λ n. IsFaultTable n c.args.everywhere items table.deterministic table.rows) c.qubits.ensures.value c.in_ok-table.ensures.table;
+      table = subst (λ n. IsSingleErrorTable n c.args.everywhere items table.deterministic table.rows) c.qubits.ensures.value c.in_ok-table.ensures.table;
       adds = subst (λ n. RowsAdd n c.args.everywhere items table.rows) c.qubits.ensures.value c.in_ok-table.ensures.adds;
       all_deterministic =
           subst (λ o. IfNone o (c.args.deterministic_only ≡ false → (i : ℕ) → i < bits_in items → IsDeterministic (qubits_of items) items i)) c.in-Ok-None.field-0-is c.in-Ok-None.ensures.none;

@@ -1,5 +1,5 @@
 use Rattle.stab_commands.proofs.Names.{qubits_of, circuit_items}
-use Rattle.stab_report.proofs.FaultBitLaws.{table_rows}
+use Rattle.stab_report.proofs.SingleErrorBitLaws.{table_rows}
 use Rattle.stab_commands.proofs.faults.send_lines.Goals as goal
 
 pub write_lines-requires-clause-rows : goal.write_lines-requires-clause-rows

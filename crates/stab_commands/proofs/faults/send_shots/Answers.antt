@@ -1,5 +1,5 @@
 use Rattle.stab_commands.proofs.Names.{◌≡◌, ◌∙◌, ◌<◌, All, length, sym, ap, subst, qubits_of, circuit_items, bits_in}
-use Rattle.stab_report.proofs.FaultBitLaws.{table_below}
+use Rattle.stab_report.proofs.SingleErrorBitLaws.{table_below}
 use Rattle.stab_commands.proofs.faults.send_shots.Goals as goal
 
 pub write_shots-requires-clause-in_range : goal.write_shots-requires-clause-in_range

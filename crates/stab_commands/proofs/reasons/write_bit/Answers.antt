@@ -1,5 +1,5 @@
 use Rattle.stab_commands.proofs.Names.{◌≡◌, ◌∙◌, sym, ap, [], ◌∷◌, ◌++◌, append_assoc, codes, decimal, subst, TookAndFailed, WritesAll, failed_on, failed_within, path_text, bit_name, texts_joined}
-use Rattle.stab_report.proofs.FaultTextLaws.{joined_three}
+use Rattle.stab_report.proofs.SingleErrorTextLaws.{joined_three}
 use Rattle.stab_report.proofs.WritingLaws.{writes_after}
 use Rattle.stab_commands.proofs.reasons.write_bit.Goals as goal
 

@@ -1,6 +1,6 @@
 use Rattle.stab_commands.proofs.Names.{◌<◌, ◌∙◌, All, ap, sym, subst, length, arith, Took, took_none, qubits_of, circuit_items, SendsUnflushed, bit_of, decides}
 use Rattle.stab_items.proofs.CountLemmas.{detectors_counted}
-use Rattle.stab_report.proofs.FaultBitLaws.{below}
+use Rattle.stab_report.proofs.SingleErrorBitLaws.{below}
 use Rattle.stab_commands.proofs.ReasonLaws.{is_random, no_positions, reason_found, reason_none, some_positions}
 use Rattle.stab_report.proofs.SendingLaws.{sends_written}
 use Rattle.stab_report.proofs.RandomLaws.{random_within}

@@ -1,5 +1,5 @@
 use Rattle.stab_error_model.proofs.Names.{following}
-use Rattle.stab_error_model.proofs.AddingLemmas.{products-at}
+use Rattle.stab_error_model.proofs.ErrorListLemmas.{products-at}
 use Rattle.stab_error_model.proofs.everywhere.add_after_two.Goals as goal
 
 pub returns : goal.returns

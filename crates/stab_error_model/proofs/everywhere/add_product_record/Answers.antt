@@ -1,4 +1,4 @@
-use Rattle.stab_error_model.proofs.Names.{◌≡◌, ◌∙◌, ◌<◌, ◌∷◌, [], false, sym, ap, subst, drop, length, arith, ◌==◌, nat_tests, drop_more, letter_of, flip_of, in_front, following, fault_on, wrong_product, wrong_record, fault_of_letter, Adds, HasFrom, Stands, factor_faults}
+use Rattle.stab_error_model.proofs.Names.{◌≡◌, ◌∙◌, ◌<◌, ◌∷◌, [], false, sym, ap, subst, drop, length, arith, ◌==◌, nat_tests, drop_more, letter_of, flip_of, in_front, following, single_error_on, wrong_product, wrong_record, single_error_of_letter, AddsErrors, HasFrom, Stands, factor_single_errors}
 use Rattle.stab_error_model.proofs.EverywhereLemmas.{record-at}
 use Rattle.stab_error_model.proofs.everywhere.add_product_record.Goals as goal
 
@@ -17,10 +17,10 @@ returns c =
     let some : 0 < length factors = grind (arith, nat_tests, empty, off) in
     let split : factors ≡ f ∷ drop 1 factors = drop_more factors 0 f some ∙ ap (λ y. y ∷ drop 1 factors) (sym c.index-factors-0.is) in
     record {
-      adds = subst (λ fs. Adds (HasFrom c.args.row (factor_faults t fs)) (wrong_product t m fs) old new) (sym split)
-          (record-at p r c.args.row t m f.qubit (flip_of (letter_of f.letter)) (factor_faults t (drop 1 factors)) old new c.in_front-front.ensures.row c.following-following.ensures.row
-          (λ l. c.in_front-front.ensures.value l ∙ ap (λ q. fault_on t (in_front q) l) c.number-qubit.ensures.value)
-          (λ l. c.following-following.ensures.value l ∙ ap (λ q. fault_on t (following q) l) c.number-qubit.ensures.value)
-          (subst (λ l. Adds (λ faults. Stands p faults × Stands r faults) (wrong_record m (fault_of_letter p (flip_of l)) (fault_of_letter r (flip_of l) ∷ []) ∷ []) old new)
+      adds = subst (λ fs. AddsErrors (HasFrom c.args.row (factor_single_errors t fs)) (wrong_product t m fs) old new) (sym split)
+          (record-at p r c.args.row t m f.qubit (flip_of (letter_of f.letter)) (factor_single_errors t (drop 1 factors)) old new c.in_front-front.ensures.row c.following-following.ensures.row
+          (λ l. c.in_front-front.ensures.value l ∙ ap (λ q. single_error_on t (in_front q) l) c.number-qubit.ensures.value)
+          (λ l. c.following-following.ensures.value l ∙ ap (λ q. single_error_on t (following q) l) c.number-qubit.ensures.value)
+          (subst (λ l. AddsErrors (λ single_errors. Stands p single_errors × Stands r single_errors) (wrong_record m (single_error_of_letter p (flip_of l)) (single_error_of_letter r (flip_of l) ∷ []) ∷ []) old new)
           c.letter.ensures.value c.in_ok-add_record.ensures.adds));
     }

@@ -9,8 +9,8 @@ returns c = record {
   law = λ n letters items number flip back i fits distinct has.
       let found = c.deterministic_parities.ensures.law in
       let bits = c.deterministic_parities.ensures.bits in
-      let sites = c.faults_flip_parities.ensures.sites in
-      let adds = c.faults_add.ensures.law in
+      let sites = c.single_errors_flip_parities.ensures.sites in
+      let adds = c.single_errors_add.ensures.law in
       All-contains (IsInverted n items fits found bits sites adds) (errors_of true letters items) (wrong_record number flip back)
       (errors-inverted n items fits found bits sites adds letters distinct) has
       (All-contains (Fits n items) (errors_of true letters items) (wrong_record number flip back) (errors-fit n items true letters fits) has) i;

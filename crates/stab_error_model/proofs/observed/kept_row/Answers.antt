@@ -1,4 +1,4 @@
-use Rattle.stab_error_model.proofs.Names.{◌≡◌, ◌∙◌, sym, ap, subst, rules, filter_same, IsAscending, is_kept, kept_row}
+use Rattle.stab_error_model.proofs.Names.{◌≡◌, ◌∙◌, sym, ap, subst, rules, filter_same, IsAscending, is_searched_number, kept_row}
 use Rattle.stab_error_model.proofs.ObservedLemmas.{ascends-left}
 use Rattle.stab_error_model.proofs.observed.kept_row.Goals as goal
 use Rattle.stab_error_model.proofs.observed.kept_row.Goals.{After-retain}
@@ -10,4 +10,4 @@ pub returns-clause-value : goal.returns-clause-value
 returns-clause-value c = numbers_are c
 
 pub returns-clause-ascending : goal.returns-clause-ascending
-returns-clause-ascending c = subst IsAscending (sym (numbers_are c)) (ascends-left (is_kept c.args.detectors c.args.observable) 0 c.args.row.now c.requires.ascending)
+returns-clause-ascending c = subst IsAscending (sym (numbers_are c)) (ascends-left (is_searched_number c.args.detectors c.args.observable) 0 c.args.row.now c.requires.ascending)

@@ -1,5 +1,5 @@
 use Rattle.stab_frames.proofs.Names.{◌≡◌, ◌+◌, ◌<◌, sym, ◌∙◌, ap, subst, length, map, take, arith, take-map, measured, GoesOver}
-use Rattle.stab_frames.proofs.FreeLemmas.{asks-later, asks-further, missing-later}
+use Rattle.stab_frames.proofs.RandomLemmas.{asks-later, asks-further, missing-later}
 use Rattle.stab_frames.proofs.GoesOverLemmas.{goes-same, goes-further, goes-measured, fits-mapped}
 use Rattle.stab_frames.proofs.instruction.propagate_each_measurement.Goals as goal
 

@@ -1,5 +1,5 @@
 use Rattle.stab_frames.proofs.Names.{◌<◌, refl, sym, ◌∙◌, ap, subst, length, All, list_any, touches_target}
-use Rattle.stab_frames.proofs.FreeLemmas.{asks-none}
+use Rattle.stab_frames.proofs.RandomLemmas.{asks-none}
 use Rattle.stab_frames.proofs.StillPropagationLemmas.{targets-fit, goes-still}
 use Rattle.stab_frames.proofs.instruction.propagate_few_measurements.Goals as goal
 

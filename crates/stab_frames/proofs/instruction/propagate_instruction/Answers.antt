@@ -1,5 +1,5 @@
-use Rattle.stab_frames.proofs.Names.{◌+◌, refl, sym, ◌∙◌, ap, subst, length, take, arith, length-map, IfOk-weaker, one, controlled_step, measured, detector, step_shown, steps_shown, lookbacks_of, all_coins_of, coins-measured, AsksFree, GoesOver, IsMissing}
-use Rattle.stab_frames.proofs.FreeLemmas.{asks-none}
+use Rattle.stab_frames.proofs.Names.{◌+◌, refl, sym, ◌∙◌, ap, subst, length, take, arith, length-map, IfOk-weaker, one, controlled_step, measured, detector, step_shown, steps_shown, lookbacks_of, all_coins_of, coins-measured, AsksRandom, GoesOver, IsMissing}
+use Rattle.stab_frames.proofs.RandomLemmas.{asks-none}
 use Rattle.stab_frames.proofs.GoesOverLemmas.{all-mapped, goes-single}
 use Rattle.stab_frames.proofs.instruction.propagate_instruction.Goals as goal
 
@@ -29,7 +29,7 @@ returns-in_ok-propagate_detectors-in-Detectors-clause-goes g c =
 
 pub returns-in-Measurements-clause-asks : goal.returns-in-Measurements-clause-asks
 returns-in-Measurements-clause-asks g c =
-    subst (λ k. AsksFree c.args.known.free.now c.args.propagation.now.coin (c.args.propagation.now.coin + k) (g.C.Coins.asks c.args.coins.now) (g.C.Coins.asks c.propagate_measurements.new.coins))
+    subst (λ k. AsksRandom c.args.known.free.now c.args.propagation.now.coin (c.args.propagation.now.coin + k) (g.C.Coins.asks c.args.coins.now) (g.C.Coins.asks c.propagate_measurements.new.coins))
     (sym (ap all_coins_of (ap steps_shown c.in-Measurements.is) ∙ coins-measured c.in-Measurements.measurement c.in-Measurements.targets.now)) c.propagate_measurements.ensures.asks
 
 pub returns-in-Measurements-clause-missing : goal.returns-in-Measurements-clause-missing

@@ -1,5 +1,5 @@
 use Rattle.stab_frames.proofs.Names.{◌≤◌, ◌+◌, sym, ◌∙◌, ap, subst, length, take, arith, take-map, measured, GoesOver}
-use Rattle.stab_frames.proofs.FreeLemmas.{asks-further, missing-later}
+use Rattle.stab_frames.proofs.RandomLemmas.{asks-further, missing-later}
 use Rattle.stab_frames.proofs.GoesOverLemmas.{measured-coin, goes-same}
 use Rattle.stab_frames.proofs.TouchLemmas.{fits-part, goes-less}
 use Rattle.stab_frames.proofs.instruction.propagate_measurements.Goals as goal

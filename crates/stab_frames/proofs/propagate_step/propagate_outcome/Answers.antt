@@ -1,5 +1,5 @@
 use Rattle.stab_frames.proofs.Names.{◌≡◌, ◌<◌, refl, true, false, sym, ◌∙◌, ap, get_or, length, [], arith, string_product, PropagationState}
-use Rattle.stab_frames.proofs.FreeLemmas.{placed-next, missing-next, asks-none, asks-next}
+use Rattle.stab_frames.proofs.RandomLemmas.{placed-next, missing-next, asks-none, asks-next}
 use Rattle.stab_frames.proofs.MeasuredPropagatedLemmas.{equal-bits, other-bits, passed-alike, passed-times}
 use Rattle.stab_frames.proofs.propagate_step.propagate_outcome.Goals as goal
 

@@ -1,5 +1,5 @@
 use Rattle.stab_frames.proofs.Names.{refl, sym, ap, subst, length, ◌∷◌, [], IfOk-weaker, controlled, step_shown, GoesOver, Goes}
-use Rattle.stab_frames.proofs.GoesOverLemmas.{freely-letters, freely-detector, freely-observable}
+use Rattle.stab_frames.proofs.GoesOverLemmas.{no_coins-letters, no_coins-detector, no_coins-observable}
 use Rattle.stab_frames.proofs.propagate_step.propagate_step.Goals as goal
 
 pub returns-in-Controlled-clause-goes : goal.returns-in-Controlled-clause-goes
@@ -9,7 +9,7 @@ returns-in-Controlled-clause-goes g c =
     let draw = g.D.Draw.changes c.args.known.draw.now (g.C.Coins.sequence c.args.coins.now) in
     let over =
     subst (λ y. GoesOver n c.args.known.strings.now.strings c.args.known.free.now draw (y ∷ []) c.args.propagation.now c.propagate_controlled.new.propagation) (sym (ap step_shown c.in-Controlled.is))
-    (freely-letters n x c.args.propagation.now c.propagate_controlled.new.propagation _ c.propagate_controlled.ensures.value c.propagate_controlled.ensures.length (λ pivots. refl) (λ pivots. refl) refl
+    (no_coins-letters n x c.args.propagation.now c.propagate_controlled.new.propagation _ c.propagate_controlled.ensures.value c.propagate_controlled.ensures.length (λ pivots. refl) (λ pivots. refl) refl
     c.args.known.strings.now.strings c.args.known.free.now draw c.requires.placed) in
     record { went = λ is. over; same = λ other. cc; missing = λ other. cc }
 
@@ -20,7 +20,7 @@ returns-in_ok-propagate_detector-in-Detector-clause-goes g c =
     let draw = g.D.Draw.changes c.args.known.draw.now (g.C.Coins.sequence c.args.coins.now) in
     let over =
     subst (λ y. GoesOver n c.args.known.strings.now.strings c.args.known.free.now draw (y ∷ []) c.args.propagation.now c.propagate_detector.new.propagation) (sym (ap step_shown c.in-Detector.is))
-    (freely-detector n ks c.args.propagation.now c.propagate_detector.new.propagation (c.in_ok-propagate_detector-in-Detector.ensures {u = tt}).value (ap length c.propagate_detector.ensures.letters)
+    (no_coins-detector n ks c.args.propagation.now c.propagate_detector.new.propagation (c.in_ok-propagate_detector-in-Detector.ensures {u = tt}).value (ap length c.propagate_detector.ensures.letters)
     c.args.known.strings.now.strings c.args.known.free.now draw c.requires.placed) in
     record { went = λ is. over; same = λ other. cc; missing = λ other. cc }
 
@@ -32,7 +32,7 @@ returns-in_ok-propagate_observable-in-Observable-clause-goes g c =
     let draw = g.D.Draw.changes c.args.known.draw.now (g.C.Coins.sequence c.args.coins.now) in
     let over =
     subst (λ y. GoesOver n c.args.known.strings.now.strings c.args.known.free.now draw (y ∷ []) c.args.propagation.now c.propagate_observable.new.propagation) (sym (ap step_shown c.in-Observable.is))
-    (freely-observable n j ks c.args.propagation.now c.propagate_observable.new.propagation (c.in_ok-propagate_observable-in-Observable.ensures {u = tt}).value
+    (no_coins-observable n j ks c.args.propagation.now c.propagate_observable.new.propagation (c.in_ok-propagate_observable-in-Observable.ensures {u = tt}).value
     (ap length c.propagate_observable.ensures.letters) c.args.known.strings.now.strings c.args.known.free.now draw c.requires.placed) in
     record { went = λ is. over; same = λ other. cc; missing = λ other. cc }
 

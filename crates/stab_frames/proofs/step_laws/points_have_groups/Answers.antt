@@ -1,4 +1,4 @@
-use Rattle.stab_frames.proofs.FrontLemmas.{group-origin}
+use Rattle.stab_frames.proofs.TwoCircuitLemmas.{group-origin}
 use Rattle.stab_frames.proofs.step_laws.points_have_groups.Goals as goal
 
 pub returns : goal.returns

@@ -1,4 +1,4 @@
-use Rattle.stab_frames.proofs.AgainLemmas.{come-conjugated}
+use Rattle.stab_frames.proofs.RepeatedStepLemmas.{come-conjugated}
 use Rattle.stab_frames.proofs.step_laws.steps_come_propagated.Goals as goal
 
 pub returns : goal.returns

@@ -1,4 +1,4 @@
-use Rattle.stab_recording.proofs.AgainOverLemmas.{repeat-at}
+use Rattle.stab_recording.proofs.RepeatedRunLemmas.{repeat-at}
 use Rattle.stab_recording.proofs.checkpoint_positions.block_at.Goals as goal
 
 pub returns-then-repeat-step : goal.returns-then-repeat-step

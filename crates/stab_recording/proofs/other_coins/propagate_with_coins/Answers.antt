@@ -23,8 +23,8 @@ returns-clause-asks g c =
     let count = all_coins_of (take c.args.most c.args.cursor.now.left) in
     omega (arith, c.propagate.ensures.asks, ones-split c.args.propagation.now.coin count c.args.free.now, ones-within count (drop c.args.propagation.now.coin c.args.free.now))
 
-pub returns-clause-asks_free : goal.returns-clause-asks_free
-returns-clause-asks_free g c =
+pub returns-clause-asks_random : goal.returns-clause-asks_random
+returns-clause-asks_random g c =
     omega (arith, c.propagate.ensures.asks, ones-split c.args.propagation.now.coin (all_coins_of (take c.args.most c.args.cursor.now.left)) c.args.free.now)
 
 -- no pivot is missing

@@ -48,7 +48,7 @@ loop-left-preserved g c =
       sized = record { string = done.string ∙ inv.sized.string; scratch = done.pivots_length ∙ inv.qubits; strings = done.strings_length ∙ inv.qubits };
       same_coins = done.same_coins ∙ inv.same_coins;
       asks = omega (arith, asked, done.asks, inv.asks);
-      asks_free = omega (arith, done.asks_free, inv.asks_free);
+      asks_random = omega (arith, done.asks_random, inv.asks_random);
       kept = record { most = done.most ∙ inv.kept.most; raised = omega (arith, done.raised, inv.kept.raised) };
       has_pivots = λ window new kept le rest. inv.has_pivots window new kept (omega (arith, done.raised, le))
           (pivots-steps c.args.tableau.now.qubits c.loop-left.tableau.qubits (g.C.Coins.sequence c.args.coins.now) (g.C.Coins.sequence c.loop-left.coins)
@@ -64,7 +64,7 @@ returns-clause-recorded g c =
     record {
       left = sym (drop-none c.loop-left.left c.loop-left.cursor.left c.loop-left-test.false) ∙ inv.rest;
       counted = omega (arith, ap length none, inv.counted);
-      asks_free = inv.asks_free;
+      asks_random = inv.asks_random;
       steps = pivots-all none inv.has_pivots;
     }
 
@@ -79,7 +79,7 @@ returns-in_default-clause-recorded g c =
     record {
       left = empty.1 ∙ sym (drop-empty c.loop-left.left c.loop-left.cursor.left empty.0) ∙ inv.rest;
       counted = omega (arith, ap length none, inv.counted);
-      asks_free = inv.asks_free;
+      asks_random = inv.asks_random;
       steps = pivots-all none inv.has_pivots;
     }
 

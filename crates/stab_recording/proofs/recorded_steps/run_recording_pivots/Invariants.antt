@@ -13,7 +13,7 @@ invariant-loop-left g l = record {
   sized : AreOnQubits l.initial.tableau.qubits l.string l.pivots;
   same_coins : g.C.Coins.sequence l.coins ≡ g.C.Coins.sequence l.initial.coins;
   asks : g.C.Coins.asks l.coins + all_coins_of (take l.left l.cursor.left) ≤ g.C.Coins.asks l.initial.coins + all_coins_of (take l.most l.initial.cursor.left);
-  asks_free : g.C.Coins.asks l.coins + ones l.initial.outputs.free.items ≤ g.C.Coins.asks l.initial.coins + ones l.outputs.free.items;
+  asks_random : g.C.Coins.asks l.coins + ones l.initial.outputs.free.items ≤ g.C.Coins.asks l.initial.coins + ones l.outputs.free.items;
   kept : KeepsRecorded l.initial.pivots l.pivots;
   has_pivots : (window : ℕ) (new : ProgramState) (kept : PivotsState) → l.pivots.window ≤ window
       → PivotsSteps l.initial.tableau.qubits (g.C.Coins.sequence l.initial.coins) (take l.left l.cursor.left) window l.pivots.strings kept

@@ -1,5 +1,5 @@
 use Rattle.stab_recording.proofs.Names.{◌≡◌, ◌*◌, ◌<◌, ◌≤◌, ◌/◌, sym, subst, arith, div-mul-le_self, mul-le-mul_right, div_ceil_times}
-use Rattle.stab_recording.proofs.TogetherLemmas.{some-factor, taken-together}
+use Rattle.stab_recording.proofs.JoinedRoundLemmas.{some-factor, taken-together}
 use Rattle.stab_recording.proofs.round_grouping.taken_together.Goals as goal
 
 pub returns-clause-repeat : goal.returns-clause-repeat

@@ -1,6 +1,5 @@
-use Rattle.stab_regions.proofs.Names.{◌≡◌, ◌-◌, ◌≤◌, refl, sym, ap, subst, ◌∙◌, ◌++◌, [], List, length, take, drop, map, arith, All, drop_all, Step, unroll, observables_of, detectors_of, circuit_items, step_shown, StepFits, check-fits, check-whole, check-steps, IsSwept, MayPass}
-use Rattle.stab_regions.proofs.SweepLemmas.{detectors-exact, piece, passes-piece}
-use Rattle.stab_regions.proofs.BelowLemmas.{names-below}
+use Rattle.stab_regions.proofs.Names.{◌≡◌, ◌-◌, ◌≤◌, refl, sym, ap, subst, ◌∙◌, ◌++◌, [], List, length, take, drop, map, arith, All, drop_all, Step, unroll, circuit_items, step_shown, StepFits, check-fits, check-whole, check-steps, Counts, numbers_before, MayPass, IsSwept}
+use Rattle.stab_regions.proofs.SweepLemmas.{detectors-exact, records-exact, piece, passes-piece}
 use Rattle.stab_regions.proofs.sweep.sweep_back.Goals as goal
 use Rattle.stab_regions.proofs.sweep.sweep_back.Goals.{After-items, After-steps-end, After-as_slice}
 
@@ -15,15 +14,23 @@ counted c =
 pub pieces-init : goal.pieces-init
 pieces-init c =
     let at = goal.at.pieces-init c in
-    let xs : List Step = unroll (circuit_items c.args.circuit.now) in
+    let items = circuit_items c.args.circuit.now in
+    let xs : List Step = unroll items in
+    let checked = check-whole c.args.qubits items c.requires.checked in
     let none : drop c.steps-end.result xs ≡ [] = drop_all c.steps-end.result xs (omega (arith, counted at.After-steps-end)) in
     record {
       within = omega (arith, counted at.After-steps-end);
+      numbered = c.in_ok-sweep.ensures.numbered;
       swept =
-          subst (λ (ys : List Step). IsSwept c.args.qubits (detectors_of xs) (observables_of (circuit_items c.args.circuit.now)) c.args.asked ys c.in_ok-sweep.sweep) (sym none)
-          (subst (λ count. IsSwept c.args.qubits (detectors_of xs) count c.args.asked [] c.in_ok-sweep.sweep) c.observables-2.ensures.value
-          (subst (λ D. IsSwept c.args.qubits D c.observables-2.result c.args.asked [] c.in_ok-sweep.sweep) (detectors-exact (circuit_items c.args.circuit.now) c.detectors-detectors.result (check-whole c.args.qubits (circuit_items c.args.circuit.now) c.requires.checked) c.detectors-detectors.ensures.value)
-          (c.in_ok-sweep.ensures.swept c.args.asked)));
+          subst (IsSwept c.args.asked c.in_ok-sweep.sweep (numbers_before c.args.qubits items)) (sym none)
+          (subst (λ (k : Counts). IsSwept c.args.asked c.in_ok-sweep.sweep k [])
+          (λ i. record {
+            qubits = c.args.qubits;
+            records = records-exact items c.records.result checked c.records.ensures.value i;
+            detectors = detectors-exact items c.detectors.result checked c.detectors.ensures.value i;
+            observables = c.observables.ensures.value i;
+          })
+          (c.in_ok-sweep.ensures.swept c.args.asked));
     }
 
 -- the steps of this piece
@@ -31,25 +38,20 @@ taken : (c : After-as_slice) → map step_shown c.as_slice.result.now ≡ take (
 taken c = ap (map step_shown) c.as_slice.ensures.value ∙ c.in_ok-steps.ensures.value
 
 passes : (c : After-as_slice) → All (StepFits c.args.qubits) (unroll (circuit_items c.args.circuit.now)) →
-    MayPass c.args.qubits (detectors_of (unroll (circuit_items c.args.circuit.now))) (observables_of (circuit_items c.args.circuit.now)) (map step_shown c.as_slice.result.now)
-    (drop c.pieces.end (unroll (circuit_items c.args.circuit.now)))
+    MayPass (numbers_before c.args.qubits (circuit_items c.args.circuit.now)) (map step_shown c.as_slice.result.now) (drop c.pieces.end (unroll (circuit_items c.args.circuit.now)))
 passes c all_fit =
-    let xs : List Step = unroll (circuit_items c.args.circuit.now) in
-    subst (λ (ys : List Step). MayPass c.args.qubits (detectors_of xs) (observables_of (circuit_items c.args.circuit.now)) ys (drop c.pieces.end xs)) (sym (taken c))
-    (passes-piece c.args.qubits (observables_of (circuit_items c.args.circuit.now)) c.saturating_sub-begin.result c.pieces.end xs (omega (arith, c.saturating_sub-begin.ensures))
-    all_fit c.items.ensures.distinct (names-below (circuit_items c.args.circuit.now)))
+    let items = circuit_items c.args.circuit.now in
+    subst (λ (ys : List Step). MayPass (numbers_before c.args.qubits items) ys (drop c.pieces.end (unroll items))) (sym (taken c))
+    (passes-piece c.args.qubits c.saturating_sub-begin.result c.pieces.end items (omega (arith, c.saturating_sub-begin.ensures)) all_fit c.items.ensures.distinct)
 
 pub before_all-requires : goal.before_all-requires
 before_all-requires c =
     let at = goal.at.before_all-requires c in
-    let xs : List Step = unroll (circuit_items c.args.circuit.now) in
     record {
       site = record {
-        n = c.args.qubits;
-        D = detectors_of xs;
-        count = observables_of (circuit_items c.args.circuit.now);
-        back = drop c.pieces.end xs;
-        swept = c.pieces.invariant.swept;
+        counts = numbers_before c.args.qubits (circuit_items c.args.circuit.now);
+        back = drop c.pieces.end (unroll (circuit_items c.args.circuit.now));
+        at = c.pieces.invariant.swept;
         passes = passes at.After-as_slice (fits at.After-items);
       };
     }
@@ -57,22 +59,26 @@ before_all-requires c =
 pub pieces-preserved : goal.pieces-preserved
 pieces-preserved c =
     let at = goal.at.pieces-preserved c in
-    let xs : List Step = unroll (circuit_items c.args.circuit.now) in
+    let items = circuit_items c.args.circuit.now in
+    let xs : List Step = unroll items in
     let order : c.saturating_sub-begin.result ≤ c.pieces.end = omega (arith, c.saturating_sub-begin.ensures) in
     record {
       within = omega (arith, order, c.pieces.invariant.within);
+      numbered = c.before_all.ensures.numbered ∙ c.pieces.invariant.numbered;
       swept =
-          subst (λ (ys : List Step). IsSwept c.args.qubits (detectors_of xs) (observables_of (circuit_items c.args.circuit.now)) c.args.asked ys c.before_all.new.self)
+          subst (IsSwept c.args.asked c.before_all.new.self (numbers_before c.args.qubits items))
           (ap (λ (ys : List Step). ys ++ drop c.pieces.end xs) (taken at.After-as_slice) ∙ piece c.saturating_sub-begin.result c.pieces.end xs order)
-          (c.in_ok-before_all.ensures.sweeps c.args.qubits (detectors_of xs) (observables_of (circuit_items c.args.circuit.now)) (drop c.pieces.end xs)
-          (passes at.After-as_slice (fits at.After-items)) c.pieces.invariant.swept);
+          (c.in_ok-before_all.ensures.passes (numbers_before c.args.qubits items) (drop c.pieces.end xs) (passes at.After-as_slice (fits at.After-items)) c.pieces.invariant.swept);
     }
+
+pub returns-clause-numbered : goal.returns-clause-numbered
+returns-clause-numbered c = c.pieces.invariant.numbered
 
 pub returns-clause-swept : goal.returns-clause-swept
 returns-clause-swept c =
-    let xs : List Step = unroll (circuit_items c.args.circuit.now) in
+    let items = circuit_items c.args.circuit.now in
     let none : c.pieces.end ≡ 0 = omega (arith, c.pieces-test.false) in
-    subst (λ k. IsSwept c.args.qubits (detectors_of xs) (observables_of (circuit_items c.args.circuit.now)) c.args.asked (drop k xs) c.pieces.sweep) none c.pieces.invariant.swept
+    subst (λ k. IsSwept c.args.asked c.pieces.sweep (numbers_before c.args.qubits items) (drop k (unroll items))) none c.pieces.invariant.swept
 
 pub returns-clause-fits : goal.returns-clause-fits
 returns-clause-fits c = let at = goal.at.returns-clause-fits c in fits at.After-items

@@ -1,5 +1,5 @@
 use Rattle.stab_report.proofs.Names.{◌≡◌, ap, ap₂, sym, subst, codes, ◌++◌, TookAndFailed, WritesAll, failed_on, failed_within, circuit_items, path_text, path_at}
-use Rattle.stab_report.proofs.FaultTextLaws.{path_here}
+use Rattle.stab_report.proofs.SingleErrorTextLaws.{path_here}
 use Rattle.stab_report.proofs.WritingLaws.{failed_second, writes_third}
 use Rattle.stab_report.specs.DoubtLines.{doubt_line, doubt_text}
 use Rattle.stab_report.proofs.doubt_lines.write_doubt.Goals as goal

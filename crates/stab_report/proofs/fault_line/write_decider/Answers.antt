@@ -1,5 +1,5 @@
 use Rattle.stab_report.proofs.Names.{◌≡◌, ◌∙◌, ap, [], ◌∷◌, ◌++◌, codes, decimal, subst, TookAndFailed, WritesAll, failed_on, failed_within, path_text, texts_joined}
-use Rattle.stab_report.proofs.FaultTextLaws.{joined_three}
+use Rattle.stab_report.proofs.SingleErrorTextLaws.{joined_three}
 use Rattle.stab_report.proofs.WritingLaws.{writes_after}
 use Rattle.stab_report.proofs.fault_line.write_decider.Goals as goal
 

@@ -1,5 +1,5 @@
 use Rattle.stab_report.proofs.Names.{◌∙◌, [], ◌∷◌, codes, subst, TookAndFailed, WritesAll, failed_on, failed_within, path_text, random_bit, texts_joined}
-use Rattle.stab_report.proofs.FaultTextLaws.{joined-random}
+use Rattle.stab_report.proofs.SingleErrorTextLaws.{joined-random}
 use Rattle.stab_report.proofs.WritingLaws.{writes_after}
 use Rattle.stab_report.proofs.fault_line.write_random_bit.Goals as goal
 

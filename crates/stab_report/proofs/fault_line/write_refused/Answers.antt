@@ -1,5 +1,5 @@
 use Rattle.stab_report.proofs.Names.{failed_on, reported_text}
-use Rattle.stab_report.proofs.FaultTextLaws.{failed_reported}
+use Rattle.stab_report.proofs.SingleErrorTextLaws.{failed_reported}
 use Rattle.stab_report.proofs.fault_line.write_refused.Goals as goal
 
 pub returns-in_err-write_fault : goal.returns-in_err-write_fault

@@ -1,5 +1,5 @@
 use Rattle.stab_report.proofs.Names.{◌∙◌, ◌++◌, [], ◌∷◌, codes, decimal, refl, subst, TookAndFailed, WritesAll, failed_on, failed_within, path_text, row_head, texts_joined}
-use Rattle.stab_report.proofs.FaultTextLaws.{joined-head}
+use Rattle.stab_report.proofs.SingleErrorTextLaws.{joined-head}
 use Rattle.stab_report.proofs.WritingLaws.{failed_second, writes_third}
 use Rattle.stab_report.proofs.writing.write_head.Goals as goal
 

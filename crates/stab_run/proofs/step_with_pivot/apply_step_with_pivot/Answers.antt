@@ -15,8 +15,8 @@ returns-in_ok-gather-in-Collapse-clause-run g c =
       output = search rules;
     })
 
-pub returns-in_ok-gather-in-Collapse-clause-asks_free : goal.returns-in_ok-gather-in-Collapse-clause-asks_free
-returns-in_ok-gather-in-Collapse-clause-asks_free g c =
+pub returns-in_ok-gather-in-Collapse-clause-asks_random : goal.returns-in_ok-gather-in-Collapse-clause-asks_random
+returns-in_ok-gather-in-Collapse-clause-asks_random g c =
     omega (arith, ap (λ o. ones o.free) c.in_ok-gather-in-Collapse.ensures.value, ones_more c.args.outputs.now.free.items c.measure_with_pivot-measured.result.free, c.measure_with_pivot-measured.ensures.asks)
 
 pub returns-in_ok-gather-in-Product-clause-run : goal.returns-in_ok-gather-in-Product-clause-run
@@ -27,6 +27,6 @@ returns-in_ok-gather-in-Product-clause-run g c =
     (program_state c.args.tableau.now (output_of c.args.outputs.now)) _ c.measure_string_with_pivot-measured.result.outcome (search rules)
     c.measure_string_with_pivot-measured.ensures.members (search rules)
 
-pub returns-in_ok-gather-in-Product-clause-asks_free : goal.returns-in_ok-gather-in-Product-clause-asks_free
-returns-in_ok-gather-in-Product-clause-asks_free g c =
+pub returns-in_ok-gather-in-Product-clause-asks_random : goal.returns-in_ok-gather-in-Product-clause-asks_random
+returns-in_ok-gather-in-Product-clause-asks_random g c =
     omega (arith, ap (λ o. ones o.free) c.in_ok-gather-in-Product.ensures.value, ones_more c.args.outputs.now.free.items c.measure_string_with_pivot-measured.result.free, c.measure_string_with_pivot-measured.ensures.asks)

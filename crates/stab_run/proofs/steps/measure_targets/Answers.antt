@@ -25,7 +25,7 @@ loop-target-preserved g c =
       string = done.string ∙ inv.string;
       same_coins = done.same_coins ∙ inv.same_coins;
       asks = omega (arith, ap coins_of c.measured_step-step.ensures.value, done.asks, inv.asks);
-      asks_free = omega (arith, done.asks_free, inv.asks_free);
+      asks_random = omega (arith, done.asks_random, inv.asks_random);
       run =
           run-target c.args.tableau.now.qubits c.loop-target.tableau.qubits (g.C.Coins.sequence c.args.coins.now) (g.C.Coins.sequence c.loop-target.coins)
           (measured c.args.measurement) c.args.targets.now c.loop-target.target-index c.target-item.result

@@ -1,4 +1,4 @@
-use Rattle.stab_sampler.proofs.Names.{◌≡◌, ◌+◌, ◌≤◌, arith, sym, ◌∙◌, ap, subst, All, length, take, drop, take-add, None, take_all, All-take, All-drop, unroll, check_within, circuit_items, ones, StepFits, coins-on, counted-steps, most_strings, PivotsState, pivot_at, pivots_of, IsSized, IsPartRecording, HasPivots, lane_difference, Follows, IsLane}
+use Rattle.stab_sampler.proofs.Names.{◌≡◌, ◌+◌, ◌≤◌, arith, sym, ◌∙◌, ap, subst, All, length, take, drop, take-add, None, take_all, All-take, All-drop, unroll, check_within, circuit_items, ones, StepFits, coins-on, counted-steps, most_strings, PivotsState, pivot_at, pivots_of, IsSized, IsPartRecording, HasPivots, lane_difference, DiffersAlong, IsLane}
 use Rattle.std.proofs.Common.{length-take}
 use Rattle.stab_sampler.proofs.RecordedLemmas.{kept-each}
 use Rattle.stab_sampler.proofs.LaneRunLemmas.{lane-further}
@@ -80,7 +80,7 @@ loop-from-preserved g c =
           let b = lane_difference g.W.Word.at j c.propagate_part.new.lanes in
           let advanced =
           subst (λ x. x)
-          (λ i. Follows (strings i) (pivots_of (pivot_at (ap (λ (k : PivotsState). k.strings) lent.strings i) (lent.free i)) (inv.same_coins i j)) (take count (drop from steps)) a b)
+          (λ i. DiffersAlong (strings i) (pivots_of (pivot_at (ap (λ (k : PivotsState). k.strings) lent.strings i) (lent.free i)) (inv.same_coins i j)) (take count (drop from steps)) a b)
           (went.goes.follow j lt) in
           subst (λ zs. IsLane n coins zs b) (sym (take-add from count steps))
           (lane-further n coins (take from steps) (take count (drop from steps)) (All-take (StepFits n) from steps fits)

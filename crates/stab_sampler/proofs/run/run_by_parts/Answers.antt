@@ -1,4 +1,4 @@
-use Rattle.stab_sampler.proofs.Names.{◌≡◌, ◌<◌, sym, ◌∙◌, ap, subst, [], length, None, unroll, check_within, circuit_items, most_strings, zero_coins, most_pivots, IsSized, IsPartRecording, given_by, lane_difference, IsLane}
+use Rattle.stab_sampler.proofs.Names.{◌≡◌, ◌<◌, sym, ◌∙◌, ap, subst, [], length, None, unroll, check_within, circuit_items, most_strings, zero_coins, most_pivots, IsSized, IsPartRecording, given_by_part, lane_difference, IsLane}
 use Rattle.stab_sampler.proofs.RecordedLemmas.{fewer-recorded_pivots, some-recorded_pivots}
 use Rattle.stab_sampler.proofs.RecordingLemmas.{shot-run}
 use Rattle.stab_sampler.proofs.LaneRunLemmas.{lane-first, as-long, lane-runs}
@@ -39,6 +39,6 @@ returns-clause-runs g c = λ l lt.
     let lane = subst (λ m. IsLane m coins (unroll items) following) q (done.lanes l lt) in
     let shot = c.in_ok-shot.shot in
     let made = c.in_ok-shot.ensures {u = tt} in
-    let is = shot-run n zero_coins items (given_by r) recorded.gave shot made.records made.free made.detectors made.observables in
+    let is = shot-run n zero_coins items (given_by_part r) recorded.gave shot made.records made.free made.detectors made.observables in
     lane-runs n coins items shot is c.observables.result c.observables.ensures.value following lane at l _
     (c.in_ok-shots.ensures.flipped l lt (as-long n coins items shot is c.observables.result c.observables.ensures.value following lane))

@@ -1,4 +1,4 @@
-use Rattle.stab_sampler.proofs.Names.{◌≡◌, refl, sym, ◌∙◌, ap, subst, All, [], length, take, replicate, None, All-nil, I, unroll, check_within, circuit_items, ones, StepFits, PivotsState, pivot_at, pivots_of, zero_coins, lane_pivots, no_difference, IsShot, lane_difference, Follows}
+use Rattle.stab_sampler.proofs.Names.{◌≡◌, refl, sym, ◌∙◌, ap, subst, All, [], length, take, replicate, None, All-nil, I, unroll, check_within, circuit_items, ones, StepFits, PivotsState, pivot_at, pivots_of, zero_coins, lane_pivots, no_difference, IsShot, lane_difference, DiffersAlong}
 use Rattle.stab_sampler.proofs.FollowLemmas.{follows-none}
 use Rattle.stab_sampler.proofs.LaneRunLemmas.{lane-first, lane-further, as-long, lane-runs}
 use Rattle.stab_sampler.proofs.run.run_by_reference.Goals as goal
@@ -18,7 +18,7 @@ propagate_all-requires g c =
           frames = c.in_ok-lanes.ensures.qubits ∙ sym q;
         };
         follow = λ l lt.
-            subst (Follows n (lane_pivots c.recorded_pivots-recorded_pivots.result (g.C.Draw.sequences c.args.coins.now l)) [] (no_difference n))
+            subst (DiffersAlong n (lane_pivots c.recorded_pivots-recorded_pivots.result (g.C.Draw.sequences c.args.coins.now l)) [] (no_difference n))
             (λ i. record {
               letters = (ap (λ m. replicate m I) q ∙ sym (c.in_ok-lanes.ensures.letters l lt)) i;
               flips = sym (c.in_ok-lanes.ensures.output l lt) i;
@@ -42,7 +42,7 @@ returns-clause-runs g c = λ l lt.
     let reference = c.args.reference.now in
     let advanced =
     subst (λ x. x)
-    (λ i. Follows (q i) (pivots_of (pivot_at (ap (λ (k : PivotsState). k.strings) lent.strings i) (lent.free i)) coins) (unroll items) (no_difference (q i)) following)
+    (λ i. DiffersAlong (q i) (pivots_of (pivot_at (ap (λ (k : PivotsState). k.strings) lent.strings i) (lent.free i)) coins) (unroll items) (no_difference (q i)) following)
     (done.advanced.follow l lt) in
     let lane =
     lane-further n coins [] (unroll items) (All-nil (StepFits n)) fits (pivot_at reference.strings.strings reference.shot.free.items) is.right (no_difference n) following

@@ -1,5 +1,5 @@
 use Rattle.stab_sampler.proofs.Names.{rules, ◌≡◌, ◌+◌, ℕ, List, [], ◌∷◌, slice_index_or, word_at}
-use Rattle.stab_sampler.proofs.PlaceLemmas.{four-and-more, none-more, from-zero}
+use Rattle.stab_sampler.proofs.PositionLemmas.{four-and-more, none-more, from-zero}
 use Rattle.stab_sampler.proofs.streams.next_block.Goals as goal
 
 pub returns-clause-each : goal.returns-clause-each

@@ -1,5 +1,5 @@
 use Rattle.stab_script.proofs.Names.{◌++◌, codes, refl, flat_map, entry, err_from_is_err_and, writes_as, writes_failed, writes_then, circuit_items}
-use Rattle.stab_report.specs.PlacedFaults.{fault_placed}
+use Rattle.stab_report.specs.PlacedSingleErrors.{single_error_placed}
 use Rattle.stab_report.specs.CoinTables.{whole_kinds}
 use Rattle.stab_script.specs.WayTexts.{left_line}
 use Rattle.stab_script.proofs.EachLemmas.{line_parts}
@@ -8,7 +8,7 @@ use Rattle.stab_script.proofs.each.write_error.Goals as goal
 pub returns-in_err-write_place : goal.returns-in_err-write_place
 returns-in_err-write_place g c =
     let items = circuit_items c.args.circuit.now in
-    let text = line_parts items (fault_placed c.args.fault) c.path_of-path.result (whole_kinds items) c.args.flipped.now c.args.left.now c.path_of-path.ensures.value refl in
+    let text = line_parts items (single_error_placed c.args.single_error) c.path_of-path.result (whole_kinds items) c.args.flipped.now c.args.left.now c.path_of-path.ensures.value refl in
     let p = err_from_is_err_and c.from_residual.result c.from_residual.ensures.1 in record {
       writes = writes_as (g.O.Output.seen c.args.out.now) (g.O.Output.seen c.write_place.new.out) c.from_residual.result text
           (writes_failed (flat_map (entry (whole_kinds items)) c.args.flipped.now ++ (codes " " ++ left_line c.args.left.now)) p.1 p.2 c.in_err-write_place.ensures.writes);
@@ -17,7 +17,7 @@ returns-in_err-write_place g c =
 pub returns-in_err-write_entries : goal.returns-in_err-write_entries
 returns-in_err-write_entries g c =
     let items = circuit_items c.args.circuit.now in
-    let text = line_parts items (fault_placed c.args.fault) c.path_of-path.result c.kinds_of_all.result c.args.flipped.now c.args.left.now c.path_of-path.ensures.value c.kinds_of_all.ensures.value in
+    let text = line_parts items (single_error_placed c.args.single_error) c.path_of-path.result c.kinds_of_all.result c.args.flipped.now c.args.left.now c.path_of-path.ensures.value c.kinds_of_all.ensures.value in
     let p = err_from_is_err_and c.from_residual-in_err-write_entries.result c.from_residual-in_err-write_entries.ensures.1 in record {
       writes = writes_as (g.O.Output.seen c.args.out.now) (g.O.Output.seen c.write_entries.new.out) c.from_residual-in_err-write_entries.result text
           (writes_then _ _ _ c.in_ok-write_place.ensures.writes (writes_failed (codes " " ++ left_line c.args.left.now) p.1 p.2 c.in_err-write_entries.ensures.writes));
@@ -26,7 +26,7 @@ returns-in_err-write_entries g c =
 pub returns-in_err-write_all : goal.returns-in_err-write_all
 returns-in_err-write_all g c =
     let items = circuit_items c.args.circuit.now in
-    let text = line_parts items (fault_placed c.args.fault) c.path_of-path.result c.kinds_of_all.result c.args.flipped.now c.args.left.now c.path_of-path.ensures.value c.kinds_of_all.ensures.value in
+    let text = line_parts items (single_error_placed c.args.single_error) c.path_of-path.result c.kinds_of_all.result c.args.flipped.now c.args.left.now c.path_of-path.ensures.value c.kinds_of_all.ensures.value in
     let p = err_from_is_err_and c.from_residual-in_err-write_all.result c.from_residual-in_err-write_all.ensures.1 in record {
       writes = writes_as (g.O.Output.seen c.args.out.now) (g.O.Output.seen c.write_all.new.out) c.from_residual-in_err-write_all.result text
           (writes_then _ _ _ c.in_ok-write_place.ensures.writes
@@ -37,7 +37,7 @@ returns-in_err-write_all g c =
 pub returns : goal.returns
 returns g c =
     let items = circuit_items c.args.circuit.now in
-    let text = line_parts items (fault_placed c.args.fault) c.path_of-path.result c.kinds_of_all.result c.args.flipped.now c.args.left.now c.path_of-path.ensures.value c.kinds_of_all.ensures.value in record {
+    let text = line_parts items (single_error_placed c.args.single_error) c.path_of-path.result c.kinds_of_all.result c.args.flipped.now c.args.left.now c.path_of-path.ensures.value c.kinds_of_all.ensures.value in record {
       writes = writes_as (g.O.Output.seen c.args.out.now) (g.O.Output.seen c.write_left.new.out) c.write_left.result text
           (writes_then _ _ _ c.in_ok-write_place.ensures.writes
           (writes_then {front = flat_map (entry c.kinds_of_all.result) c.args.flipped.now} _ _ _ c.in_ok-write_entries.ensures.writes

@@ -1,4 +1,4 @@
-use Rattle.stab_script.proofs.Names.{◌≡◌, ◌+◌, ◌-◌, ◌++◌, [], ◌∷◌, false, sym, ap, ◌∙◌, subst, arith, inr, length, length-take, take, drop, append-nil, take-append-drop, Gave, ScriptReader, begin, read, empty_reader, opened_in, Progress, Reported, ReportedSome, progress, Request, Answer, EndsScript}
+use Rattle.stab_script.proofs.Names.{◌≡◌, ◌+◌, ◌-◌, ◌++◌, [], ◌∷◌, false, sym, ap, ◌∙◌, subst, arith, inr, length, length-take, take, drop, append-nil, take-append-drop, Gave, ScriptReader, begin, read, empty_reader, opened_in, EditorState, Reported, ReportedSome, progress, Request, Answer, EndsScript}
 use Rattle.stab_script.proofs.ReadingLaws.{opened_read}
 use Rattle.stab_script.proofs.ReportLaws.{progress_with}
 use Rattle.std.specs.Prelude.{List, ℕ, Ok, Err}
@@ -19,7 +19,7 @@ returns-in_err-report_request g c =
     let ends : (P : List Request → Answer → Type 0) → ((xs : List Request) (a : Answer) → P xs a) → EndsScript (Said environment items P) s s o o' c.from_residual.result =
     λ P always.
     script_err f c.from_residual.result c.from_residual.ensures.1
-    (greeting_broke environment items P s f always (subst (λ (x : Progress). ReportedSome x (begin ∷ []) o o' f) at_first c.in_err-report_request.ensures.reports)) in
+    (greeting_broke environment items P s f always (subst (λ (x : EditorState). ReportedSome x (begin ∷ []) o o' f) at_first c.in_err-report_request.ensures.reports)) in
     record {
       ends = ends_as s s o o' c.from_residual.result (λ xs a said. said.0) (ends (λ xs a. Unit {0}) (λ xs a. tt));
       turns = unread_in_turn s o' (g.W.Watcher.log c.args.script.now) c.from_residual.result ends;
@@ -40,7 +40,7 @@ reads-init g c =
       few = omega arith;
       opened = omega arith;
       so_far = in_turn_at_first environment items now c.report_request.new.self.reader (g.S.Input.seen c.args.script.now) o o' (g.W.Watcher.log c.args.script.now)
-          (subst (λ (x : Progress). Reported x now (begin ∷ []) o o') at_first c.in_ok-report_request.ensures.reports) reader;
+          (subst (λ (x : EditorState). Reported x now (begin ∷ []) o o') at_first c.in_ok-report_request.ensures.reports) reader;
     }
 
 pub returns-in-Err : goal.returns-in-Err

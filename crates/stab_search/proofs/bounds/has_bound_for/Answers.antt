@@ -1,4 +1,4 @@
-use Rattle.stab_search.proofs.Names.{refl, subst, ap, ◌∙◌, ℕ, Bool, false, List, get_or, IfOk-weaker, Edge, AreBits, AreCovered, IsFar}
+use Rattle.stab_search.proofs.Names.{refl, subst, ap, ◌∙◌, ℕ, Bool, false, List, get_or, IfOk-weaker, Edge, RowsFlip, AreCovered, IsFar}
 use Rattle.stab_search.proofs.GraphLemmas.{at-least}
 use Rattle.stab_search.proofs.bounds.has_bound_for.Goals as goal
 
@@ -7,8 +7,8 @@ returns c =
     let g = c.args.graph.now in
     let bits = c.in_ok-bits.bits.items in
     let sources = c.in_ok-sources.sources.items in
-    let are_bits : AreBits g.table.rows c.args.o bits =
-    subst (λ (rows : List (List ℕ)). AreBits rows c.args.o bits) c.rows.ensures.value c.in_ok-bits.ensures.bits in
+    let are_bits : RowsFlip g.table.rows c.args.o bits =
+    subst (λ (rows : List (List ℕ)). RowsFlip rows c.args.o bits) c.rows.ensures.value c.in_ok-bits.ensures.bits in
     let covered : AreCovered g.edges bits sources =
     subst (λ (es : List Edge). AreCovered es bits sources) c.edges.ensures.value
     (subst (λ (bs : List Bool). AreCovered c.edges.result.now bs sources) c.as_slice-2.ensures.value

@@ -1,6 +1,13 @@
-use Rattle.stab_search.proofs.Names.{◌≡◌, ◌<◌, ◌+◌, ◌-◌, ◌*◌, ◌/◌, ℕ, List, true, has, subst, sym, arith, length, Each, refl, false≢true, div-mul-le_self}
+use Rattle.stab_search.proofs.Names.{◌≡◌, ◌<◌, ◌+◌, ◌-◌, ◌*◌, ◌/◌, ℕ, List, true, has, subst, ◌∙◌, sym, arith, length, ForEach, refl, false≢true, div-mul-le_self}
 use Rattle.stab_search.proofs.CoverLemmas.{meet-rarest, meet-covering, shared}
+use Rattle.stab_search.proofs.EndLemmas.{meet-last}
 use Rattle.stab_search.proofs.candidates.candidates.Goals as goal
+
+pub returns-then-left-eq1-clause-meet : goal.returns-then-left-eq1-clause-meet
+returns-then-left-eq1-clause-meet c =
+    meet-last c.args.errors.now.table c.args.errors.now.numbers c.args.errors.now.pairs c.args.first c.args.path.now c.args.flipped.now c.with_key.ensures.numbered
+    c.args.left c.in_ok-last.last.items c.if-left-eq1.true
+    (λ e inside same. subst (λ (xs : List ℕ). has e xs ≡ true) (sym c.in_ok-last.ensures.items) (c.with_key.ensures.complete e inside (same ∙ sym c.requires.key)))
 
 pub returns-then-left-eq-PLAIN-clause-meet : goal.returns-then-left-eq-PLAIN-clause-meet
 returns-then-left-eq-PLAIN-clause-meet c =
@@ -11,7 +18,7 @@ returns-then-left-eq-PLAIN-clause-meet c =
 pub returns-then-len-clause-inside : goal.returns-then-len-clause-inside
 returns-then-len-clause-inside c =
     let same : length c.leave_out.new.cover ≡ length c.args.errors.now.table.rows = omega (arith, c.requires.cover, c.count.ensures.length, c.leave_out.ensures.length) in
-    subst (λ n. Each (λ r. r < n) c.in_ok-by_rarest.by_rarest.items) same c.in_ok-by_rarest.ensures.inside
+    subst (λ n. ForEach (λ r. r < n) c.in_ok-by_rarest.by_rarest.items) same c.in_ok-by_rarest.ensures.inside
 
 pub returns-then-len-clause-meet : goal.returns-then-len-clause-meet
 returns-then-len-clause-meet c =
@@ -29,7 +36,7 @@ returns-then-len-clause-meet c =
 pub returns-else-len-clause-inside : goal.returns-else-len-clause-inside
 returns-else-len-clause-inside c =
     let same : length c.leave_out.new.cover ≡ length c.args.errors.now.table.rows = omega (arith, c.requires.cover, c.count.ensures.length, c.leave_out.ensures.length) in
-    subst (λ n. Each (λ r. r < n) c.in_ok-by_cover.by_cover.items) same c.in_ok-by_cover.ensures.inside
+    subst (λ n. ForEach (λ r. r < n) c.in_ok-by_cover.by_cover.items) same c.in_ok-by_cover.ensures.inside
 
 pub returns-else-len-clause-meet : goal.returns-else-len-clause-meet
 returns-else-len-clause-meet c =

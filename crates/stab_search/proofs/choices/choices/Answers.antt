@@ -1,4 +1,4 @@
-use Rattle.stab_search.proofs.Names.{◌≡◌, ◌<◌, ◌+◌, ◌-◌, ◌*◌, ◌/◌, ℕ, ◌∙◌, subst, sym, arith, length, Each, div-mul-le_self}
+use Rattle.stab_search.proofs.Names.{◌≡◌, ◌<◌, ◌+◌, ◌-◌, ◌*◌, ◌/◌, ℕ, ◌∙◌, subst, sym, arith, length, ForEach, div-mul-le_self}
 use Rattle.stab_search.proofs.ChoiceLemmas.{meet-keyed, meet-detector, meet-many}
 use Rattle.stab_search.proofs.choices.choices.Goals as goal
 
@@ -8,7 +8,7 @@ returns-then-left-eq1-clause-meet c =
     (λ e inside some same. c.in_ok-last.ensures.all e (c.with_key.ensures.complete e inside (same ∙ sym c.requires.key)) (omega (arith, inside, c.requires.weights)) some)
 
 pub returns-then-left-eq2-clause-inside : goal.returns-then-left-eq2-clause-inside
-returns-then-left-eq2-clause-inside c = subst (λ n. Each (λ r. r < n) c.in_ok-by_rarest.by_rarest.items) c.requires.weights c.in_ok-by_rarest.ensures.inside
+returns-then-left-eq2-clause-inside c = subst (λ n. ForEach (λ r. r < n) c.in_ok-by_rarest.by_rarest.items) c.requires.weights c.in_ok-by_rarest.ensures.inside
 
 pub returns-then-left-eq2-clause-meet : goal.returns-then-left-eq2-clause-meet
 returns-then-left-eq2-clause-meet c =
@@ -17,7 +17,7 @@ returns-then-left-eq2-clause-meet c =
     (λ e inside some flips. c.in_ok-by_rarest.ensures.all e (c.flipping-rarest.ensures.complete e inside flips) (omega (arith, inside, c.requires.weights)) some)
 
 pub returns-then-len-clause-inside : goal.returns-then-len-clause-inside
-returns-then-len-clause-inside c = subst (λ n. Each (λ r. r < n) c.in_ok-by_rarest.by_rarest.items) c.requires.weights c.in_ok-by_rarest.ensures.inside
+returns-then-len-clause-inside c = subst (λ n. ForEach (λ r. r < n) c.in_ok-by_rarest.by_rarest.items) c.requires.weights c.in_ok-by_rarest.ensures.inside
 
 pub returns-then-len-clause-meet : goal.returns-then-len-clause-meet
 returns-then-len-clause-meet c =
@@ -28,7 +28,7 @@ returns-then-len-clause-meet c =
 pub returns-else-len-clause-inside : goal.returns-else-len-clause-inside
 returns-else-len-clause-inside c =
     let same : length c.count_shares.new.cover ≡ length c.args.errors.now.table.rows = omega (arith, c.requires.cover, c.count_shares.ensures.length) in
-    subst (λ n. Each (λ r. r < n) c.in_ok-by_cover.by_cover.items) same c.in_ok-by_cover.ensures.inside
+    subst (λ n. ForEach (λ r. r < n) c.in_ok-by_cover.by_cover.items) same c.in_ok-by_cover.ensures.inside
 
 pub returns-else-len-clause-meet : goal.returns-else-len-clause-meet
 returns-else-len-clause-meet c =

@@ -1,8 +1,8 @@
-use Rattle.stab_search.proofs.Names.{◌≡◌, ℕ, ◌<◌, ◌⊎◌, true, length, drop, slice_index, Each, has}
+use Rattle.stab_search.proofs.Names.{◌≡◌, ℕ, ◌<◌, ◌⊎◌, true, length, drop, slice_index, ForEach, has}
 use Rattle.stab_search.proofs.choices.live.Given as goal
 
 abbrev pub invariant-loop-r : goal.invariant-loop-r
 invariant-loop-r l = record {
-  inside : Each (λ r. r < length l.weights) l.found.items;
+  inside : ForEach (λ r. r < length l.weights) l.found.items;
   all : (e : ℕ) → has e l.rows ≡ true → e < length l.weights → 0 < slice_index l.weights e → (has e (drop l.r-index l.rows) ≡ true) ⊎ (has e l.found.items ≡ true);
 }

@@ -1,4 +1,4 @@
-use Rattle.stab_search.proofs.Names.{◌≡◌, ◌<◌, ◌+◌, ◌-◌, ℕ, List, [], ◌∙◌, sym, ap, subst, arith, length, Each, has, ways, Reports}
+use Rattle.stab_search.proofs.Names.{◌≡◌, ◌<◌, ◌+◌, ◌-◌, ℕ, List, [], ◌∙◌, sym, ap, subst, arith, length, ForEach, has, ways, ReportsNumber}
 use Rattle.stab_search.proofs.CountLemmas.{count-nothing, groups-count, groups-none, groups-fewer, groups-reported}
 use Rattle.stab_search.proofs.TryLemmas.{part-whole, none-first}
 use Rattle.stab_search.proofs.count.count_least.Goals as goal
@@ -17,7 +17,7 @@ try_each-requires-clause-fewer c =
     c.in_ok-errors.ensures.table c.detectors.ensures.value c.in_ok-groups.ensures.groups c.args.size c.requires.least (c.args.size - 1 + 1) (omega (arith, c.if-size-eq0.false))
 
 pub try_each-requires-clause-inside : goal.try_each-requires-clause-inside
-try_each-requires-clause-inside c = subst (Each (λ e. e < length c.in_ok-errors.errors.table.rows)) (sym c.as_slice.ensures.value) c.in_ok-firsts.ensures.inside
+try_each-requires-clause-inside c = subst (ForEach (λ e. e < length c.in_ok-errors.errors.table.rows)) (sym c.as_slice.ensures.value) c.in_ok-firsts.ensures.inside
 
 pub returns-clause-count : goal.returns-clause-count
 returns-clause-count c =
@@ -32,7 +32,7 @@ returns-clause-count c =
     let count = groups-count t part c.detectors.result rows weights c.in_ok-errors.ensures.table c.detectors.ensures.value c.in_ok-groups.ensures.groups c.args.size c.requires.least in
     groups-reported t part c.detectors.result rows weights c.in_ok-errors.ensures.table c.detectors.ensures.value c.in_ok-groups.ensures.groups c.args.size c.requires.least
     left c.in_ok-count.count all
-    (subst (λ (ws : List ℕ). Reports (ways part.detectors part.rows ws left []) c.in_ok-count.count) c.as_mut_slice.ensures.value
+    (subst (λ (ws : List ℕ). ReportsNumber (ways part.detectors part.rows ws left []) c.in_ok-count.count) c.as_mut_slice.ensures.value
     (part-whole part before after [] left c.in_ok-count.count c.in_ok-count.ensures.count
     (none-first part before after left c.as_slice.result.now (c.in_ok-count.ensures.weights ∙ ap length c.as_mut_slice.ensures.value ∙ count)
     (λ e o lt le flips. ap (has e) c.as_slice.ensures.value ∙ c.in_ok-firsts.ensures.all e o lt le flips)

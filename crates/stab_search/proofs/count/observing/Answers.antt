@@ -1,4 +1,4 @@
-use Rattle.stab_search.proofs.Names.{◌≡◌, ◌<◌, ℕ, [], ◌∷◌, ◌++◌, ◌∙◌, sym, ap, subst, arith, length, odd, Each, has, false≢true, Vec}
+use Rattle.stab_search.proofs.Names.{◌≡◌, ◌<◌, ℕ, [], ◌∷◌, ◌++◌, ◌∙◌, sym, ap, subst, arith, length, odd, ForEach, has, false≢true, Vec}
 use Rattle.stab_search.proofs.ListLemmas.{each-push, has-push, has-before}
 use Rattle.stab_search.proofs.TryLemmas.{observed-more}
 use Rattle.stab_search.proofs.count.observing.Goals as goal
@@ -12,7 +12,7 @@ rows-preserved c =
       | then-end_of-detectors+in_ok-push w ↦
           let is : c.if-end_of-detectors.found.items ≡ c.rows.found.items ++ c.rows.r ∷ [] = ap (λ (v : Vec ℕ). v.items) w.found-is ∙ w.in_ok-push.ensures.items in
           record {
-            inside = subst (Each (λ q. q < n)) (sym is) (each-push (λ q. q < n) c.rows.found.items c.rows.r (omega (arith, c.rows-test.true, c.len-r-end.ensures.value)) c.rows.invariant.inside);
+            inside = subst (ForEach (λ q. q < n)) (sym is) (each-push (λ q. q < n) c.rows.found.items c.rows.r (omega (arith, c.rows-test.true, c.len-r-end.ensures.value)) c.rows.invariant.inside);
             all = observed-more t c.rows.found.items c.if-end_of-detectors.found.items c.rows.r c.rows.invariant.all
                 (λ q there. ap (has q) is ∙ has-before q c.rows.r c.rows.found.items there)
                 (λ o le flips. ap (has c.rows.r) is ∙ has-push c.rows.r c.rows.found.items);
@@ -20,7 +20,7 @@ rows-preserved c =
       | else-end_of-detectors w ↦
           let is : c.if-end_of-detectors.found.items ≡ c.rows.found.items = ap (λ (v : Vec ℕ). v.items) w.found-is in
           record {
-            inside = subst (Each (λ q. q < n)) (sym is) c.rows.invariant.inside;
+            inside = subst (ForEach (λ q. q < n)) (sym is) c.rows.invariant.inside;
             all = observed-more t c.rows.found.items c.if-end_of-detectors.found.items c.rows.r c.rows.invariant.all
                 (λ q there. ap (has q) is ∙ there)
                 (λ o le flips.

@@ -1,4 +1,4 @@
-use Rattle.stab_search.proofs.Names.{rules, ◌≡◌, ◌<◌, ◌≤◌, ◌⊎◌, [], ℕ, ◌+◌, ◌-◌, ◌*◌, List, ◌++◌, ◌∙◌, sym, ap, subst, arith, below_more, length, get_or, set, slice_index, bit_xor, ◌⊕◌, IsAscending, odd, row, Each, ways, Reports, HasNoFewer, MeetsEach}
+use Rattle.stab_search.proofs.Names.{rules, ◌≡◌, ◌<◌, ◌≤◌, ◌⊎◌, [], ℕ, ◌+◌, ◌-◌, ◌*◌, List, ◌++◌, ◌∙◌, sym, ap, subst, arith, below_more, length, get_or, set, slice_index, bit_xor, ◌⊕◌, IsAscending, odd, row, ForEach, ways, ReportsNumber, HasNoFewer, MeetsEach}
 use Rattle.stab_search.proofs.ChoiceLemmas.{none-after}
 use Rattle.stab_search.proofs.FlipLemmas.{key-sum}
 use Rattle.stab_search.proofs.ListLemmas.{each-has, has-at}
@@ -76,7 +76,7 @@ try_error-returns-clause-count t c =
     let next = c.as_slice.result.now in
     let x = row table.rows c.args.g in
     let weights = set c.args.weights.now c.args.g 0 in
-    subst (λ n. Reports (get_or c.args.weights.now c.args.g 0 * n) c.times.result)
+    subst (λ n. ReportsNumber (get_or c.args.weights.now c.args.g 0 * n) c.times.result)
     (ways-alike table.detectors table.rows weights c.args.rest next (x ++ s)
     (alike-after s next x (λ d. ap (odd d) c.as_slice.ensures.value ∙ c.in_ok-merge_into.ensures.odd d ∙ ap (λ (xs : List ℕ). odd d s ⊕ odd d xs) c.row.ensures.value)))
     (c.times.ensures.product (ways table.detectors table.rows weights c.args.rest next) c.in_ok-each.ensures.count)
@@ -97,8 +97,8 @@ ways-returns-then-left-eq0-clause-count t c =
 
 pub ways-weights_at-requires : goal.ways-weights_at-requires
 ways-weights_at-requires t c = record {
-  inside = subst (λ n. Each (λ e. e < n) c.as_slice-tried.result.now) (sym c.requires.weights)
-      (subst (Each (λ e. e < length c.args.errors.now.table.rows)) (sym c.as_slice-tried.ensures.value) c.in_ok-next.ensures.inside);
+  inside = subst (λ n. ForEach (λ e. e < n) c.as_slice-tried.result.now) (sym c.requires.weights)
+      (subst (ForEach (λ e. e < length c.args.errors.now.table.rows)) (sym c.as_slice-tried.ensures.value) c.in_ok-next.ensures.inside);
 }
 
 pub ways-try_each-requires : goal.ways-try_each-requires
@@ -114,7 +114,7 @@ ways-try_each-requires t c =
             (
               subst (HasNoFewer c.args.errors.now.table c.args.flipped.now) (sym back) c.requires.fewer,
               (
-                subst (Each (λ e. e < length c.args.errors.now.table.rows)) (sym c.as_slice-tried.ensures.value) c.in_ok-next.ensures.inside,
+                subst (ForEach (λ e. e < length c.args.errors.now.table.rows)) (sym c.as_slice-tried.ensures.value) c.in_ok-next.ensures.inside,
                 (c.requires.weights, omega (arith, c.requires.cover, c.in_ok-next.ensures.cover)),
               ),
             ),
@@ -125,8 +125,8 @@ ways-try_each-requires t c =
 
 pub ways-put_back-requires-clause-inside : goal.ways-put_back-requires-clause-inside
 ways-put_back-requires-clause-inside t c =
-    subst (λ n. Each (λ e. e < n) c.as_slice-tried.result.now) (sym (c.in_ok-sum.ensures.weights ∙ c.requires.weights))
-    (subst (Each (λ e. e < length c.args.errors.now.table.rows)) (sym c.as_slice-tried.ensures.value) c.in_ok-next.ensures.inside)
+    subst (λ n. ForEach (λ e. e < n) c.as_slice-tried.result.now) (sym (c.in_ok-sum.ensures.weights ∙ c.requires.weights))
+    (subst (ForEach (λ e. e < length c.args.errors.now.table.rows)) (sym c.as_slice-tried.ensures.value) c.in_ok-next.ensures.inside)
 
 pub ways-returns-clause-count : goal.ways-returns-clause-count
 ways-returns-clause-count t c =
@@ -136,7 +136,7 @@ ways-returns-clause-count t c =
     let after = c.try_each.new.weights in
     let tried = c.as_slice-tried.result.now in
     let back : c.args.left - 1 + 1 ≡ c.args.left = omega (arith, c.if-left-eq0.false) in
-    subst (λ n. Reports (ways table.detectors table.rows before n s) c.in_ok-sum.sum) back
+    subst (λ n. ReportsNumber (ways table.detectors table.rows before n s) c.in_ok-sum.sum) back
     (part-whole table before after s (c.args.left - 1 + 1) c.in_ok-sum.sum c.in_ok-sum.ensures.count
     (none-after table before after s (c.args.left - 1 + 1) tried (c.in_ok-sum.ensures.weights ∙ c.requires.weights)
     (subst (λ n. MeetsEach table before s n tried) (sym back)

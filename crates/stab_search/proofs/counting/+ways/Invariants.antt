@@ -1,4 +1,4 @@
-use Rattle.stab_search.proofs.Names.{◌≡◌, ℕ, ◌+◌, ◌*◌, ◌<◌, false, length, get_or, slice_index, has, IsPart}
+use Rattle.stab_search.proofs.Names.{◌≡◌, ℕ, ◌+◌, ◌*◌, ◌<◌, false, length, get_or, slice_index, has, IsWaysPart}
 use Rattle.stab_search.proofs.counting.+ways.Given as goal
 
 abbrev pub decreases-ways : goal.decreases-ways
@@ -14,7 +14,7 @@ abbrev pub invariant-try_each-tries : goal.invariant-try_each-tries
 invariant-try_each-tries l = record {
   weights : length l.weights ≡ length l.errors.table.rows;
   cover : length l.cover ≡ length l.errors.table.rows;
-  part : IsPart l.errors.table l.initial.weights l.weights (l.rest + 1) l.flipped l.sum;
+  part : IsWaysPart l.errors.table l.initial.weights l.weights (l.rest + 1) l.flipped l.sum;
   zero : (k : ℕ) → k < l.g-index → slice_index l.weights (get_or l.tried k 0) ≡ 0;
   others : (e : ℕ) → has e l.tried ≡ false → slice_index l.weights e ≡ slice_index l.initial.weights e;
 }

@@ -1,4 +1,4 @@
-use Rattle.stab_search.proofs.Names.{rules, ◌<◌, inl, inr, sym, subst, arith, Each}
+use Rattle.stab_search.proofs.Names.{rules, ◌<◌, inl, inr, sym, subst, arith, ForEach}
 use Rattle.stab_search.proofs.ListLemmas.{by-bit}
 use Rattle.stab_search.proofs.TryLemmas.{put-step, put-all}
 use Rattle.stab_search.proofs.counting.put_back.Goals as goal
@@ -10,7 +10,7 @@ pub errors-preserved : goal.errors-preserved
 errors-preserved c = record {
   back = λ was each others e.
       put-step c.args.errors.now c.args.before.now was c.errors.weights _ c.errors.k e c.errors-test.true
-      (subst (λ n. Each (λ g. g < n) c.args.errors.now) (sym c.errors.invariant.size) c.requires.inside)
+      (subst (λ n. ForEach (λ g. g < n) c.args.errors.now) (sym c.errors.invariant.size) c.requires.inside)
       (search rules) each (c.errors.invariant.back was each others e);
   size = search rules;
 }

@@ -1,10 +1,10 @@
-use Rattle.stab_search.proofs.Names.{ℕ, ◌<◌, List, [], ◌∷◌, ◌++◌, ◌∙◌, ap, arith, length, listed}
+use Rattle.stab_search.proofs.Names.{ℕ, ◌<◌, List, [], ◌∷◌, ◌++◌, ◌∙◌, ap, arith, length, rows_listed}
 use Rattle.stab_search.proofs.IndexLemmas.{listed-push, listed-set_here, listed-set_other, listed-at}
 use Rattle.stab_search.proofs.index.list.Goals as goal
 
 pub grow-preserved : goal.grow-preserved
 grow-preserved c = λ e.
-    ap (λ v. listed v e) c.in_ok-push.ensures.items ∙ listed-push c.grow.index.items c.new.result e c.new.ensures.items ∙ c.grow.invariant e
+    ap (λ v. rows_listed v e) c.in_ok-push.ensures.items ∙ listed-push c.grow.index.items c.new.result e c.new.ensures.items ∙ c.grow.invariant e
 
 pub returns-clause-here : goal.returns-clause-here
 returns-clause-here c =

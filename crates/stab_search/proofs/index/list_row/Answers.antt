@@ -1,4 +1,4 @@
-use Rattle.stab_search.proofs.Names.{◌≡◌, true, arith, subst, below_more, get_or, has, listed}
+use Rattle.stab_search.proofs.Names.{◌≡◌, true, arith, subst, below_more, get_or, has, rows_listed}
 use Rattle.stab_search.proofs.ListLemmas.{has-at}
 use Rattle.stab_search.proofs.IndexLemmas.{added-has, kept-has, kept-inside}
 use Rattle.stab_search.proofs.index.list_row.Goals as goal
@@ -20,4 +20,4 @@ pub returns-clause-each : goal.returns-clause-each
 returns-clause-each c = λ d h.
     let position = has-at d c.args.positions.now h in
     let lt = position.1.0 in
-    subst (λ e. has c.args.r (listed c.each.index.items e) ≡ true) position.1.1 (c.each.invariant.added position.0 (omega (arith, lt, c.each-test.false)))
+    subst (λ e. has c.args.r (rows_listed c.each.index.items e) ≡ true) position.1.1 (c.each.invariant.added position.0 (omega (arith, lt, c.each-test.false)))

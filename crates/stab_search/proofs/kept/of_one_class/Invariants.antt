@@ -3,6 +3,6 @@ use Rattle.stab_search.proofs.kept.of_one_class.Given as goal
 
 abbrev pub invariant-rows : goal.invariant-rows
 invariant-rows l = record {
-  rows : (rows : List (List ℕ)) → AreRowsOf rows l.errors.table.rows l.numbers → AreRowsOf rows l.chosen.rows.items l.chosen.numbers.items;
-  classes : HaveClasses (record { detectors = l.errors.table.detectors; rows = l.chosen.rows.items }) l.classes;
+  rows : (rows : List (List ℕ)) → AreRowsOf rows l.kept.errors.table.rows l.kept.numbers.items → AreRowsOf rows l.chosen.rows.items l.chosen.numbers.items;
+  classes : HaveClasses (record { detectors = l.kept.errors.table.detectors; rows = l.chosen.rows.items }) l.classes;
 }

@@ -1,6 +1,6 @@
-use Rattle.stab_search.proofs.Names.{rules, refl, ◌≡◌, ◌≢◌, ℕ, ◌+◌, ◌-◌, ◌∙◌, length, List, sym, ap, subst, arith, below_more, get_or, bit_xor, eqb-true, eqb-false, nil_from_length, ◌⊕◌, IsAscending, odd, row, EndsWithin, NoEnds, NoEndsBy, Meet}
+use Rattle.stab_search.proofs.Names.{rules, refl, ◌≡◌, ◌≢◌, ℕ, ◌+◌, ◌-◌, ◌∙◌, length, List, sym, ap, subst, arith, below_more, get_or, bit_xor, eqb-true, eqb-false, nil_from_length, ◌⊕◌, IsAscending, odd, row, CompletesSetWithin, NoEnds, NoEndsBy, Meet}
 use Rattle.stab_search.proofs.FlipLemmas.{key-sum}
-use Rattle.stab_search.proofs.EndLemmas.{no_ends-nothing, no_ends-over, no_ends-met, no_end-unkeyed, completes-observed, tried-none, tried-some}
+use Rattle.stab_search.proofs.EndLemmas.{no_ends-nothing, no_ends-over, no_ends-met, no_end-before, no_end-unkeyed, completes-observed, tried-none, tried-some}
 use Rattle.stab_search.proofs.searching.+search.Goals as goal
 
 pub search-returns-then-is_empty-clause-none : goal.search-returns-then-is_empty-clause-none
@@ -11,7 +11,7 @@ search-returns-then-is_empty-clause-none t c = λ none.
 pub search-returns-then-flipped-detectors-clause-some : goal.search-returns-then-flipped-detectors-clause-some
 search-returns-then-flipped-detectors-clause-some t c =
     let some : length c.args.flipped.now ≢ 0 = eqb-false (length c.args.flipped.now) 0 (sym c.if-is_empty.ensures) in
-    subst (EndsWithin c.args.errors.now.table c.args.flipped.now c.args.left) (sym c.new.ensures.items)
+    subst (CompletesSetWithin c.args.errors.now.table c.args.flipped.now c.args.left) (sym c.new.ensures.items)
     (record {
       ends = completes-observed c.args.errors.now.table c.args.flipped.now c.requires.ascending (omega (arith, some))
           (omega (arith, c.if-flipped-detectors.true, c.detectors.ensures.value));
@@ -25,7 +25,7 @@ search-returns-then-left-eq0-clause-none t c = λ none.
     (omega (arith, some)) (omega (arith, c.if-flipped-detectors.false, c.detectors.ensures.value)) c.if-left-eq0.true
 
 pub search-tries-init : goal.search-tries-init
-search-tries-init t c = record { cover = omega (arith, c.requires.cover, c.in_ok-next.ensures.cover); path = refl; tried = λ none k lt. absurd (omega arith) }
+search-tries-init t c = record { cover = omega (arith, c.requires.cover, c.in_ok-tried.ensures.cover); path = refl; tried = λ none k lt. absurd (omega arith) }
 
 pub search-tries-preserved : goal.search-tries-preserved
 search-tries-preserved t c =
@@ -43,12 +43,16 @@ search-returns-clause-none t c = λ none.
     no_ends-met c.args.errors.now.table c.args.errors.now.pairs c.args.first c.args.path.now.items c.args.flipped.now c.args.left c.as_slice-g-items.result.now
     (subst (λ (xs : List ℕ). Meet c.args.errors.now.table c.args.errors.now.pairs c.args.first c.args.path.now.items c.args.flipped.now c.args.left xs)
     (sym c.as_slice-g-items.ensures.value)
-    (subst (λ (xs : List ℕ). Meet c.args.errors.now.table c.args.errors.now.pairs c.args.first xs c.args.flipped.now c.args.left c.in_ok-next.next.items)
-    c.as_slice-2.ensures.value c.in_ok-next.ensures.meet))
+    (subst (λ (xs : List ℕ). Meet c.args.errors.now.table c.args.errors.now.pairs c.args.first xs c.args.flipped.now c.args.left c.in_ok-tried.tried.items)
+    c.as_slice.ensures.value c.in_ok-tried.ensures.meet))
     (λ k lt. c.tries.invariant.tried none k (omega (arith, lt, c.tries-test.false)))
 
 pub search-returns-clause-path : goal.search-returns-clause-path
 search-returns-clause-path t c = c.tries.invariant.path
+
+pub try_error-returns-then-g-first-clause-none : goal.try_error-returns-then-g-first-clause-none
+try_error-returns-then-g-first-clause-none t c = λ none.
+    no_end-before c.args.errors.now.table c.args.errors.now.pairs c.args.first c.args.path.now.items c.args.flipped.now (c.args.left + 1) c.args.g c.if-g-first.true
 
 pub try_error-returns-then-not-has_key-clause-none : goal.try_error-returns-then-not-has_key-clause-none
 try_error-returns-then-not-has_key-clause-none t c = λ none.
@@ -69,7 +73,7 @@ try_error-returns-in-None-clause-none t c = λ none.
 
 pub try_error-returns-in_ok-push-in-Some-clause-some : goal.try_error-returns-in_ok-push-in-Some-clause-some
 try_error-returns-in_ok-push-in-Some-clause-some t c =
-    subst (EndsWithin c.args.errors.now.table c.args.flipped.now (c.args.left + 1)) (sym c.in_ok-push-in-Some.ensures.items)
+    subst (CompletesSetWithin c.args.errors.now.table c.args.flipped.now (c.args.left + 1)) (sym c.in_ok-push-in-Some.ensures.items)
     (tried-some c.args.errors.now.table c.args.flipped.now c.as_slice.result.now c.args.g
     (λ d. ap (odd d) c.as_slice.ensures.value ∙ c.in_ok-merge_into.ensures.odd d ∙ ap (λ (xs : List ℕ). odd d c.args.flipped.now ⊕ odd d xs) c.row.ensures.value)
     c.args.left c.in-Some.rest.items c.requires.inside (rw c.in-Some.is at c.in_ok-search.ensures.some))

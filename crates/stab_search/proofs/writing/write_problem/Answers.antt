@@ -1,4 +1,4 @@
-use Rattle.stab_search.proofs.Names.{◌≡◌, ◌+◌, ◌++◌, arith, rules, subst, flat_map, length, clause_text, head_text, clauses_of, WritesAll, err_from_is_err_and, writes_failed, writes_then}
+use Rattle.stab_search.proofs.Names.{◌≡◌, ◌+◌, ◌++◌, arith, rules, subst, flat_map, length, clause_text, problem_head, clauses_of, WritesAll, err_from_is_err_and, writes_failed, writes_then}
 use Rattle.std.proofs.Common.{◌*◌}
 use Rattle.stab_search.proofs.TextLemmas.{text-counted}
 use Rattle.stab_search.proofs.writing.write_problem.Goals as goal

@@ -1,7 +1,7 @@
 use Rattle.stab_tableau.proofs.Names.{◌∙◌, refl, sym, ap, subst, length, Z, Signed, IsPivot, stabilises, observed}
 use Rattle.stab_tableau.proofs.ColumnLemmas.{length-column}
 use Rattle.stab_tableau.proofs.ExchangedOutcomeLemmas.{position-exchanges}
-use Rattle.stab_tableau.proofs.MeasureLemmas.{position-in, multiplier-length, determined-multiplier, measured-fixed, measured-free}
+use Rattle.stab_tableau.proofs.MeasureLemmas.{position-in, multiplier-length, determined-multiplier, measured-fixed, measured-random}
 use Rattle.stab_tableau.proofs.collapse.measure_with_pivot.Goals as goal
 
 pub write_multiplier-requires-clause-same_length : goal.write_multiplier-requires-clause-same_length
@@ -32,7 +32,7 @@ returns-in-None-clause-measured c =
 pub returns-in-Some-clause-measured : goal.returns-in-Some-clause-measured
 returns-in-Some-clause-measured c =
     rw c.write_multiplier.ensures.preimage
-    (measured-free (length c.args.table.now) c.args.table.now (record { x = c.args.preimage.now; z = c.args.multiplier.now }) c.requires.tableau
+    (measured-random (length c.args.table.now) c.args.table.now (record { x = c.args.preimage.now; z = c.args.multiplier.now }) c.requires.tableau
     (observed (length c.args.table.now) c.args.observable.now) c.requires.same_length c.requires.preimage
     c.in-Some.position c.in-Some.ensures.in_range c.in-Some.ensures.has_x c.args.coin
     _ c.write_multiplier.new.multiplier (length c.args.multiplier.now.letters) c.requires.tableau.size.z refl c.write_multiplier.ensures.multiplier

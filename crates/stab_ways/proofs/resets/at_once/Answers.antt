@@ -1,5 +1,5 @@
 use Rattle.stab_ways.proofs.Names.{sym, subst, length, map, one, controlled_step, detector, lookbacks_of, step_shown, steps_shown, EndsTogether}
-use Rattle.stab_ways.proofs.TogetherLemmas.{front-same, gates-leave, pairs-leave, detectors-leave, together-all, together-one}
+use Rattle.stab_ways.proofs.ResetLemmas.{front-same, gates-leave, pairs-leave, detectors-leave, together-all, together-one}
 use Rattle.stab_ways.proofs.resets.at_once.Goals as goal
 
 pub returns-in-Gates-clause-front : goal.returns-in-Gates-clause-front

@@ -1,5 +1,5 @@
 use Rattle.stab_ways.proofs.Names.{sym, subst, length, map, arith, measured, EndsTogether, IsFront}
-use Rattle.stab_ways.proofs.TogetherLemmas.{front-mapped, together-first}
+use Rattle.stab_ways.proofs.ResetLemmas.{front-mapped, together-first}
 use Rattle.stab_ways.proofs.resets.first_alone.Goals as goal
 
 pub returns-clause-front : goal.returns-clause-front

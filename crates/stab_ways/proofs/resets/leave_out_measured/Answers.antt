@@ -1,5 +1,5 @@
 use Rattle.stab_ways.proofs.Names.{◌∙◌, length}
-use Rattle.stab_ways.proofs.TogetherLemmas.{leave-more, fits-target}
+use Rattle.stab_ways.proofs.ResetLemmas.{leave-more, fits-target}
 use Rattle.stab_ways.proofs.resets.leave_out_measured.Goals as goal
 
 pub leave_out_target-requires : goal.leave_out_target-requires

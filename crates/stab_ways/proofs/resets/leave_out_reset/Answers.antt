@@ -1,5 +1,5 @@
 use Rattle.stab_ways.proofs.Names.{◌∙◌, sym, ap, length, map, one, controlled_step, detector, lookbacks_of, steps_shown, steps_leave}
-use Rattle.stab_ways.proofs.TogetherLemmas.{gates-leave, pairs-leave, detectors-leave, leave-all}
+use Rattle.stab_ways.proofs.ResetLemmas.{gates-leave, pairs-leave, detectors-leave, leave-all}
 use Rattle.stab_ways.proofs.resets.leave_out_reset.Goals as goal
 
 pub returns-in-Gates-clause-value : goal.returns-in-Gates-clause-value

@@ -1,5 +1,5 @@
 use Rattle.stab_ways.proofs.Names.{length, map, measured}
-use Rattle.stab_ways.proofs.TogetherLemmas.{front-same, some-mapped, measurements-leave, together-all}
+use Rattle.stab_ways.proofs.ResetLemmas.{front-same, some-mapped, measurements-leave, together-all}
 use Rattle.stab_ways.proofs.resets.without_resets.Goals as goal
 
 pub returns-clause-front : goal.returns-clause-front

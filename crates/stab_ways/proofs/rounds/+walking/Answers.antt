@@ -1,4 +1,4 @@
-use Rattle.stab_ways.proofs.Names.{◌≡◌, ◌∙◌, ◌+◌, ◌-◌, ◌*◌, inr, refl, sym, ap, subst, All, arith, length, append-nil, StepFits, listed, repeat, before, done, nested_in, depth_at, part_of, unroll, rounds, parts_of, walk_shown}
+use Rattle.stab_ways.proofs.Names.{◌≡◌, ◌∙◌, ◌+◌, ◌-◌, ◌*◌, inr, refl, sym, ap, subst, All, arith, length, append-nil, StepFits, listed, repeat, before, done, nested_in, depth_at, part_of, unroll, rounds, carried_parts, walk_shown}
 use Rattle.stab_ways.proofs.ItemLemmas.{block-steps, item-fits, item-steps, steps-within, walked-item, walked-round, body-steps, first-round, round-fits, round-steps, times-more, near-enough, walked-rounds}
 use Rattle.stab_items.specs.inner.Parts.{IsPart}
 use Rattle.stab_ways.specs.inner.Walks.{walked}
@@ -80,7 +80,7 @@ pub over_rounds-fold_rounds-requires-clause-came : goal.over_rounds-fold_rounds-
 over_rounds-fold_rounds-requires-clause-came t c =
     let n = length c.args.string.now.letters in
     let string = c.args.string.now.letters in
-    let parts = parts_of (listed c.args.body.now) in
+    let parts = carried_parts (listed c.args.body.now) in
     came-further n string parts c.rounds.checkpoint c.rounds.done 1 (c.rounds.done + 1) (walk_shown c.rounds.walk) (walk_shown c.over_items.new.walk) refl c.rounds.invariant.came
     (c.in_ok-over_items.ensures.over ∙ ap (λ ps. walked n string ps (walk_shown c.rounds.walk)) (sym (append-nil parts)))
 
@@ -112,7 +112,7 @@ over_rounds-rounds-preserved t c =
     record {
       walks = c.in_ok-done.ensures.walks;
       within = c.in_ok-done.ensures.within.1;
-      over = walked-rounds n (c.rounds.done + 1) (c.in_ok-done.done - (c.rounds.done + 1)) c.in_ok-done.done string (parts_of body) start mid (walk_shown c.fold_rounds.new.walk)
+      over = walked-rounds n (c.rounds.done + 1) (c.in_ok-done.done - (c.rounds.done + 1)) c.in_ok-done.done string (carried_parts body) start mid (walk_shown c.fold_rounds.new.walk)
           (omega (arith, c.in_ok-done.ensures.within.0)) one c.in_ok-done.ensures.over;
       came = c.in_ok-done.ensures.came;
       some = inr (omega (arith, c.if-walk-steps.false, body-steps n string body (walk_shown c.rounds.walk) mid c.in_ok-over_items.ensures.over));

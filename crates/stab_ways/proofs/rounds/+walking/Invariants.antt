@@ -1,4 +1,4 @@
-use Rattle.stab_ways.proofs.Names.{◌≡◌, ◌+◌, ◌-◌, ◌*◌, ◌<◌, ◌≤◌, ◌⊎◌, take, length, listed, depth, nested_in, unroll, parts_of, part_rounds, walked, walk_shown, IsWalk}
+use Rattle.stab_ways.proofs.Names.{◌≡◌, ◌+◌, ◌-◌, ◌*◌, ◌<◌, ◌≤◌, ◌⊎◌, take, length, listed, depth, nested_in, unroll, carried_parts, part_rounds, walked, walk_shown, IsWalkOn}
 use Rattle.stab_ways.specs.inner.Folds.{CameFrom}
 use Rattle.stab_ways.proofs.rounds.+walking.Given as goal
 
@@ -13,16 +13,16 @@ decreases-over_rounds l = 3 * depth (listed l.body.now) + 2
 
 abbrev pub invariant-over_items-items : goal.invariant-over_items-items
 invariant-over_items-items l = record {
-  walks : IsWalk (length l.string.letters) l.walk;
-  over : walk_shown l.walk ≡ walked (length l.string.letters) l.string.letters (parts_of (listed (take l.item-index l.items))) (walk_shown l.initial.walk);
+  walks : IsWalkOn (length l.string.letters) l.walk;
+  over : walk_shown l.walk ≡ walked (length l.string.letters) l.string.letters (carried_parts (listed (take l.item-index l.items))) (walk_shown l.initial.walk);
 }
 
 abbrev pub invariant-over_rounds-rounds : goal.invariant-over_rounds-rounds
 invariant-over_rounds-rounds l = record {
-  walks : IsWalk (length l.string.letters) l.walk;
+  walks : IsWalkOn (length l.string.letters) l.walk;
   within : l.done ≤ l.count;
-  over : walk_shown l.walk ≡ walked (length l.string.letters) l.string.letters (part_rounds l.done (parts_of (listed l.body))) (walk_shown l.fn.walk);
-  came : CameFrom (length l.string.letters) l.string.letters (parts_of (listed l.body)) l.checkpoint l.done (walk_shown l.walk);
+  over : walk_shown l.walk ≡ walked (length l.string.letters) l.string.letters (part_rounds l.done (carried_parts (listed l.body))) (walk_shown l.fn.walk);
+  came : CameFrom (length l.string.letters) l.string.letters (carried_parts (listed l.body)) l.checkpoint l.done (walk_shown l.walk);
   some : (l.done ≡ 0) ⊎ (0 < length (unroll (listed l.body)));
 }
 

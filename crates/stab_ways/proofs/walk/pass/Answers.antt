@@ -1,6 +1,6 @@
 use Rattle.stab_ways.proofs.Names.{◌≡◌, ◌+◌, ◌-◌, ◌++◌, sym, ◌∙◌, ap, subst, arith, All, length, take, drop, length-drop, steps_of, steps_shown, StepFits, fits-over, frame_at, EndsTogether, steps_leave}
 use Rattle.stab_ways.proofs.PassLemmas.{passed-next, front-next, none-missing, whole, coin-bound}
-use Rattle.stab_ways.proofs.TogetherLemmas.{front-fits, front-short}
+use Rattle.stab_ways.proofs.ResetLemmas.{front-fits, front-short}
 use Rattle.stab_ways.specs.inner.Walks.{passed}
 use Rattle.stab_ways.proofs.walk.pass.Goals as goal
 

@@ -1,5 +1,5 @@
 use Rattle.std.specs.Prelude.{◌≡◌, None}
-use Rattle.stab_circuit.specs.Steps.{unroll, check_of}
+use Rattle.stab_items.specs.Steps.{unroll, check_of}
 use Rattle.stab_items.specs.Views.{circuit_items}
 use Rattle.stab_items.specs.Repeats.{AreRepeats}
 use Rattle.tests_library.proofs.kept_rounds.left_after.Given as goal

@@ -1,4 +1,4 @@
-use Rattle.stab_circuit.specs.Steps.{unroll}
+use Rattle.stab_items.specs.Steps.{unroll}
 use Rattle.stab_items.specs.Views.{circuit_items}
 use Rattle.tests_library.proofs.SpanLemmas.{edit-of}
 use Rattle.tests_library.proofs.kept_rounds.left_of.Goals as goal

@@ -1,5 +1,5 @@
 use Rattle.stab_circuit.proofs.Names.{inl, refl, option_copied}
-use Rattle.stab_circuit.proofs.FrontLemmas.{some_first}
+use Rattle.stab_circuit.proofs.FirstLineLemmas.{some_first}
 use Rattle.stab_circuit.proofs.KnownLineLemmas.{begun_shorter}
 use Rattle.stab_circuit.proofs.reader.CircuitReader.take_first.Goals as goal
 

@@ -1,6 +1,6 @@
 use Rattle.stab_circuit.proofs.Names.{inl, subst, sym, ap, ◌∙◌, Ok, option_copied, err_from_is_err_and, content_of, meaning_of, IsOneLine}
 use Rattle.stab_instructions.specs.declared.operation.Line.TheVariants as line
-use Rattle.stab_circuit.proofs.FrontLemmas.{one_line_first, split_cut, some_first, some_reported}
+use Rattle.stab_circuit.proofs.FirstLineLemmas.{one_line_first, split_cut, some_first, some_reported}
 use Rattle.stab_circuit.proofs.KnownLineLemmas.{reported_good}
 use Rattle.stab_circuit.proofs.reader.CircuitReader.take_new.Goals as goal
 

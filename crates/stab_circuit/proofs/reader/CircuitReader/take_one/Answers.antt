@@ -1,4 +1,4 @@
-use Rattle.stab_circuit.proofs.Names.{ap, sym, ◌∙◌, ◌∷◌, ◌+◌, subst, option_copied, err_from_is_err_and, progress_of, IsShallowProgress, IsRun, reading_on}
+use Rattle.stab_circuit.proofs.Names.{ap, sym, ◌∙◌, ◌∷◌, ◌+◌, subst, option_copied, err_from_is_err_and, progress_of, IsShallowProgress, IsLineRun, reading_on}
 use Rattle.stab_circuit.proofs.ReaderLemmas.{one_taken_of, one_refused_of, stepped_shallow}
 use Rattle.stab_circuit.proofs.StretchLemmas.{runs_on}
 use Rattle.stab_circuit.proofs.reader.CircuitReader.take_one.Goals as goal
@@ -15,7 +15,7 @@ settle-requires-clause-run c =
     let s = progress_of c.args.self.now in
     let t = c.take_first.new.self in
     runs_on t.outer.items s c.args.line c.args.text.now g.0 (option_copied c.in_ok-after.after) c.run_at-run.result c.keep_run.new.stretches.run c.args.single t.open_blocks.items t.items.items
-    (subst (λ xs. IsRun xs s c.args.line c.args.text.now c.run_at-run.result) (sym c.in_ok-after.ensures.outer) c.run_at-run.ensures.run) (g.2 ∙ ap (λ ps. g.0 ∷ ps) g.3) g.4 c.keep_run.ensures.run
+    (subst (λ xs. IsLineRun xs s c.args.line c.args.text.now c.run_at-run.result) (sym c.in_ok-after.ensures.outer) c.run_at-run.ensures.run) (g.2 ∙ ap (λ ps. g.0 ∷ ps) g.3) g.4 c.keep_run.ensures.run
 
 pub returns-clause-gives : goal.returns-clause-gives
 returns-clause-gives c =

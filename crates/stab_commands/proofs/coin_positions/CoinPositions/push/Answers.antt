@@ -1,4 +1,4 @@
-use Rattle.stab_commands.proofs.PlaceLemmas.{positions-put}
+use Rattle.stab_commands.proofs.CoinPositionLemmas.{positions-put}
 use Rattle.stab_commands.proofs.coin_positions.CoinPositions.push.Goals as goal
 
 pub loop-taken-preserved : goal.loop-taken-preserved

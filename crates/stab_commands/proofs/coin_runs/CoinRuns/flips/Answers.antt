@@ -1,7 +1,7 @@
-use Rattle.stab_commands.proofs.Names.{◌≡◌, sym, ◌∙◌, ap, subst, ◌+◌, length, drop, get_or, circuit_items, run_of, AreAscending, unit_coin, coin_flipped, zero_coins, free_coins}
+use Rattle.stab_commands.proofs.Names.{◌≡◌, sym, ◌∙◌, ap, subst, ◌+◌, length, drop, get_or, circuit_items, run_of, AreAscending, unit_coin, coin_flipped, zero_coins, deciding_coins}
 use Rattle.stab_frames.specs.Flips.{flipped}
 use Rattle.stab_commands.proofs.BitLemmas.{flipped-either}
-use Rattle.stab_commands.proofs.PlaceLemmas.{ascending, ascending-rest, unit-flipped}
+use Rattle.stab_commands.proofs.CoinPositionLemmas.{ascending, ascending-rest, unit-flipped}
 use Rattle.stab_commands.proofs.RowLemmas.{alike-zero}
 use Rattle.stab_commands.proofs.coin_runs.CoinRuns.flips.Goals as goal
 
@@ -9,15 +9,15 @@ pub new-coins-requires : goal.new-coins-requires
 new-coins-requires g c =
     let n = c.args.n in
     let items = circuit_items c.args.circuit.now in
-    let left : c.split_at.result.1.now ≡ drop c.args.first (free_coins n items) = c.split_at.ensures.back ∙ ap (drop c.args.first) (c.as_slice.ensures.value ∙ c.requires.runs.numbers) in
-    record { ascending = subst AreAscending (sym left) (ascending-rest (free_coins n items) c.args.first (ascending (run_of n zero_coins items).free)) }
+    let left : c.split_at.result.1.now ≡ drop c.args.first (deciding_coins n items) = c.split_at.ensures.back ∙ ap (drop c.args.first) (c.as_slice.ensures.value ∙ c.requires.runs.numbers) in
+    record { ascending = subst AreAscending (sym left) (ascending-rest (deciding_coins n items) c.args.first (ascending (run_of n zero_coins items).free)) }
 
 pub returns-clause-flips : goal.returns-clause-flips
 returns-clause-flips g c = λ l lt within.
     let at = g.W.Word.at in
     let n = c.args.n in
     let items = circuit_items c.args.circuit.now in
-    let coins = free_coins n items in
+    let coins = deciding_coins n items in
     let t = get_or coins (c.args.first + l) 0 in
     let left : c.new-coins.result ≡ drop c.args.first coins =
     c.new-coins.ensures.value ∙ c.split_at.ensures.back ∙ ap (drop c.args.first) (c.as_slice.ensures.value ∙ c.requires.runs.numbers) in

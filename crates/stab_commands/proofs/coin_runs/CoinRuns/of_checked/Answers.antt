@@ -1,5 +1,5 @@
-use Rattle.stab_commands.proofs.Names.{◌≡◌, refl, ◌∙◌, ap, false, length, map, get_or, unroll, circuit_items, run_of, one_places, check-fits, Listed, list_coin, zero_coins, step_of_coin}
-use Rattle.stab_commands.proofs.PlaceLemmas.{flags-of-run}
+use Rattle.stab_commands.proofs.Names.{◌≡◌, refl, ◌∙◌, ap, false, length, map, get_or, unroll, circuit_items, run_of, one_positions, check-fits, Listed, list_coin, zero_coins, step_of_coin}
+use Rattle.stab_commands.proofs.CoinPositionLemmas.{flags-of-run}
 use Rattle.stab_commands.proofs.RowLemmas.{coins-have-rows}
 use Rattle.stab_commands.proofs.coin_runs.CoinRuns.of_checked.Goals as goal
 
@@ -27,7 +27,7 @@ returns-clause-runs c =
         detectors = ran.detectors ∙ ap (λ coins. (run_of n coins items).detectors) zero;
         observables = ran.observables ∙ ap (λ coins. (run_of n coins items).observables) zero;
       };
-      numbers = found.numbers ∙ ap one_places flags;
-      steps = found.steps ∙ ap (λ free. map (step_of_coin (unroll items)) (one_places free)) flags;
+      numbers = found.numbers ∙ ap one_positions flags;
+      steps = found.steps ∙ ap (λ free. map (step_of_coin (unroll items)) (one_positions free)) flags;
       reference = c.in_ok-reference.ensures.reference;
     }

@@ -8,7 +8,7 @@ invariant-loop-target g l = record {
   string : length l.string.letters ≡ length l.initial.string.letters;
   same_coins : g.C.Coins.sequence l.coins ≡ g.C.Coins.sequence l.initial.coins;
   asks : g.C.Coins.asks l.coins ≤ g.C.Coins.asks l.initial.coins + l.target-index;
-  asks_free : g.C.Coins.asks l.coins + ones l.initial.outputs.free.items ≤ g.C.Coins.asks l.initial.coins + ones l.outputs.free.items;
+  asks_random : g.C.Coins.asks l.coins + ones l.initial.outputs.free.items ≤ g.C.Coins.asks l.initial.coins + ones l.outputs.free.items;
   pivots_length : length l.self.string.letters ≡ l.initial.tableau.qubits;
   strings_length : l.self.strings.qubits ≡ l.initial.tableau.qubits;
   most : l.self.strings.most ≡ l.initial.self.strings.most;

@@ -5,7 +5,7 @@ abbrev pub invariant-walk : goal.invariant-walk
 invariant-walk l = record {
   walks : IsWalk l.self;
   few : l.left ≤ most_steps;
-  free : 0 < l.left → l.self.kind ≡ None;
+  no_kind : 0 < l.left → l.self.kind ≡ None;
   jumped : drop l.left (walk_left l.self) ≡ drop l.count (walk_left l.initial.self);
 }
 

@@ -3,8 +3,8 @@ use Rattle.stab_pauli.proofs.Lemmas.{view_of, length-view, counted_seen, seen_of
 use Rattle.stab_pauli.proofs.rows.PauliRows.multiply_by_block.Goals as goal
 use Rattle.stab_pauli.proofs.rows.PauliRows.multiply_by_block.Goals.{After-times_i}
 
-pub place_of-at-requires-clause-in_range : goal.place_of-at-requires-clause-in_range
-place_of-at-requires-clause-in_range c = counted_seen (seen_of c.self.invariant c.self.view_is) c.args.a c.len-2.result c.requires.in_range (omega (arith, c.self.inside.powers.ok.0))
+pub offset_of-at-requires-clause-in_range : goal.offset_of-at-requires-clause-in_range
+offset_of-at-requires-clause-in_range c = counted_seen (seen_of c.self.invariant c.self.view_is) c.args.a c.len-2.result c.requires.in_range (omega (arith, c.self.inside.powers.ok.0))
 
 -- the rows after the call
 seen_after : (c : After-times_i) → IsSeen c.self.inside.qubits c.self.inside.blocks
@@ -17,7 +17,7 @@ seen_after c =
     let view = view_of c.requires.string refl in
     let fit = fitting mine view (length-view view) in
     let one : 1 ≡ c.self.inside.blocks = sym fit.blocks in
-    let at : c.place_of-at.result ≡ 8 * c.self.inside.blocks * c.args.a = c.place_of-at.ensures.value ∙ ap (λ m. 8 * m * c.args.a) one in
+    let at : c.offset_of-at.result ≡ 8 * c.self.inside.blocks * c.args.a = c.offset_of-at.ensures.value ∙ ap (λ m. 8 * m * c.args.a) one in
     times_i_seen mine fit.view c.args.a la c.requires.anticommuting c.multiply_block_by-meet.new.words c.self.inside.words.len c.index.result.now c.args.power c.product_power.result c.times_i.result c.multiply_block_by-meet.result
     c.as_mut_slice.ensures.value refl
     (record {

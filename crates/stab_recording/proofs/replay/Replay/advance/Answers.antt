@@ -1,7 +1,7 @@
 use Rattle.stab_recording.proofs.Names.{ℕ, ◌≤◌, refl, Option, Some, None, arith, IfSome, IsOnWay}
 use Rattle.stab_recording.proofs.FollowedLemmas.{few-steps}
 use Rattle.stab_recording.proofs.ReplayLemmas.{position-following, on-stop}
-use Rattle.stab_recording.proofs.MovedLemmas.{ascending-from, way-past}
+use Rattle.stab_recording.proofs.DifferingReplayLemmas.{ascending-from, way-past}
 use Rattle.stab_recording.proofs.replay.Replay.advance.Given.{Over}
 use Rattle.stab_recording.proofs.replay.Replay.advance.Goals as goal
 use Rattle.stab_recording.proofs.replay.Replay.advance.Goals.{After-skip_differing-next}

@@ -1,4 +1,4 @@
-use Rattle.stab_recording.proofs.Names.{◌≡◌, ℕ, ◌∙◌, sym, ap, subst, Bool, false, List, length, drop, arith, Checkpoint, Plan, Replay, IsFound, MayRecur, IsFolding, IsOnWay, with_state, with_cursor}
+use Rattle.stab_recording.proofs.Names.{◌≡◌, ℕ, ◌∙◌, sym, ap, subst, Bool, false, List, length, drop, arith, Checkpoint, Plan, Replay, AreRoundsFound, MayRecur, IsFolding, IsOnWay, with_state, with_cursor}
 use Rattle.std.proofs.Common.{IfSome}
 use Rattle.stab_recording.proofs.FoldedReplayLemmas.{own-checkpoints, folding-begins}
 use Rattle.stab_recording.proofs.ProgressLemmas.{further-named, costs-named}
@@ -20,7 +20,7 @@ folding : (g : Over) (c : In-Some g) (begin : ℕ) (p : Plan) (checkpoints : Lis
 folding g c begin p checkpoints old next may =
     folding-begins c.args.self.now.tableau.qubits (g.C.Coins.sequence c.args.coins.now) begin p c.args.self.now.cursor.all checkpoints old next c.args.block c.args.end
     c.args.self.now c.in-Some.recurrence may
-    (subst (λ o. IfSome o (IsFound c.args.block c.args.self.now)) c.in-Some.is (c.in_ok-recurrence.ensures {u = tt}).found)
+    (subst (λ o. IfSome o (AreRoundsFound c.args.block c.args.self.now)) c.in-Some.is (c.in_ok-recurrence.ensures {u = tt}).found)
 
 pub give_on-requires-clause-folding : goal.give_on-requires-clause-folding
 give_on-requires-clause-folding g c =

@@ -136,13 +136,13 @@ returns-clause-costs g c =
     let from = c.args.segment.from.free in
     let to = c.args.segment.to.free in
     let count = all_coins_of (take c.args.segment.steps c.args.self.now.cursor.left) in
-    let asked = (c.in_ok-propagate_with_coins.ensures {u = tt}).asks_free in
+    let asked = (c.in_ok-propagate_with_coins.ensures {u = tt}).asks_random in
     let flags = ap (λ bits. ones (take count (drop c.args.propagation.coin bits))) c.as_slice.ensures.value in
     let given = ap (λ (o : RunOutput). ones o.free) ((c.in_ok-append_propagated.ensures {u = tt}).value ∙ ap (λ o. joined (output_of c.args.self.now.outputs) (flipped_output o (flips_after c.lengths_propagated-gone.result c.propagate_with_coins.new.propagation))) (c.in_ok-part.ensures {u = tt}).value) in
     record {
       counted = omega (arith, few g at);
       asks = omega (arith, asked, flags, coins g at);
-      asks_free =
+      asks_random =
           omega (
             arith,
             asked,

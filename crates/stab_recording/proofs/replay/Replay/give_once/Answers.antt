@@ -49,7 +49,7 @@ returns-in_default-frame-clause-costs g c =
     record {
       counted = omega (arith, same, by_frame, step);
       asks = omega (arith, same);
-      asks_free = omega (arith, ap (λ (o : RunOutput). ones o.free) gave.output, ones-append old.outputs.free.items (between s.from s.to (output_of old.outputs)).free);
+      asks_random = omega (arith, ap (λ (o : RunOutput). ones o.free) gave.output, ones-append old.outputs.free.items (between s.from s.to (output_of old.outputs)).free);
     }
 
 pub returns-in_default-frame-clause-way : goal.returns-in_default-frame-clause-way

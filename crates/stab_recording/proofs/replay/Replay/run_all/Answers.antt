@@ -4,7 +4,7 @@ use Rattle.stab_recording.proofs.RunLemmas.{may-run-block, own-on, own-named}
 use Rattle.stab_recording.proofs.replay.Replay.run_all.Given.{Over}
 use Rattle.stab_recording.proofs.replay.Replay.run_all.Goals as goal
 use Rattle.stab_recording.proofs.replay.Replay.run_all.Goals.{After-steps}
-use Rattle.stab_recording.proofs.AgainOverLemmas.{repeat-at}
+use Rattle.stab_recording.proofs.RepeatedRunLemmas.{repeat-at}
 
 abbrev none : Repeat
 none = record { first = 0; length = 0; rounds = 0; window = 0 }

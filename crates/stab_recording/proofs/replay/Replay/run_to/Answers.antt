@@ -16,7 +16,7 @@ returns-clause-further g c =
 pub returns-clause-costs : goal.returns-clause-costs
 returns-clause-costs g c =
     let done = c.in_ok-run_recording_pivots.ensures {u = tt} in
-    costs-by-steps _ _ _ _ c.requires.order c.requires.within c.requires.begun.left done.recorded.counted refl done.asks done.recorded.asks_free
+    costs-by-steps _ _ _ _ c.requires.order c.requires.within c.requires.begun.left done.recorded.counted refl done.asks done.recorded.asks_random
 
 pub returns-clause-carried_out : goal.returns-clause-carried_out
 returns-clause-carried_out g c =

@@ -1,5 +1,5 @@
 use Rattle.stab_recording.proofs.Names.{◌≡◌, ◌-◌, refl, ap, true, length, slice_get, arith, slice_get_read, IfSome_then, Checkpoint, output_of}
-use Rattle.stab_recording.proofs.MovedLemmas.{all-missed}
+use Rattle.stab_recording.proofs.DifferingReplayLemmas.{all-missed}
 use Rattle.stab_recording.proofs.replay.Replay.skip_differing.Goals as goal
 
 pub returns-clause-missed : goal.returns-clause-missed

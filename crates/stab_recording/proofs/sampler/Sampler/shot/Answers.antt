@@ -24,6 +24,6 @@ returns g c =
           is;
       same_coins = search rules;
       asks = search rules;
-      asks_free = search rules;
+      asks_random = search rules;
       err = search rules;
     }

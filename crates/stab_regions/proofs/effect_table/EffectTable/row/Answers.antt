@@ -4,11 +4,11 @@ use Rattle.stab_regions.proofs.effect_table.EffectTable.row.Goals as goal
 pub returns : goal.returns
 returns c =
     let rows = c.self.inside.rows in
-    let inside : c.args.fault < length rows = omega (arith, c.requires.in_range, length-reverse rows, ap length c.self.view_is) in
+    let inside : c.args.single_error < length rows = omega (arith, c.requires.in_range, length-reverse rows, ap length c.self.view_is) in
     record {
       value =
           c.row.ensures.value
-          ∙ ap (λ k. get_or rows (k - 1 - c.args.fault) []) c.len.ensures.value
-          ∙ sym (get_or-reverse rows c.args.fault [] inside)
-          ∙ ap (λ t. get_or t c.args.fault []) c.self.view_is;
+          ∙ ap (λ k. get_or rows (k - 1 - c.args.single_error) []) c.len.ensures.value
+          ∙ sym (get_or-reverse rows c.args.single_error [] inside)
+          ∙ ap (λ t. get_or t c.args.single_error []) c.self.view_is;
     }

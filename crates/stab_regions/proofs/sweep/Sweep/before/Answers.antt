@@ -1,35 +1,48 @@
-use Rattle.stab_regions.proofs.Names.{◌<◌, ◌++◌, sym, subst, reverse, arith, All, flat_map, step_shown, Sides, step_qubits, sites_asked, inserted_by, inserted_from, HaveRows}
+use Rattle.stab_regions.proofs.Names.{◌<◌, ◌∷◌, ◌∙◌, sym, ap, subst, length, arith, All, Step, step_shown, step_qubits}
 use Rattle.stab_regions.proofs.SiteLemmas.{step-within}
+use Rattle.stab_regions.proofs.SiteRowLemmas.{kept-long}
 use Rattle.stab_regions.proofs.SweepLemmas.{swept-more}
+use Rattle.stab_regions.proofs.WalkRowLemmas.{walk-qubits, walk-sides}
 use Rattle.stab_regions.proofs.sweep.Sweep.before.Goals as goal
 
-pub keep_all-requires-clause-in_range : goal.keep_all-requires-clause-in_range
-keep_all-requires-clause-in_range c =
+pub keep_all-requires : goal.keep_all-requires
+keep_all-requires c =
     let p = c.requires.site in
+    let w = c.args.self.now.walk in
     let x = step_shown c.args.step in
-    subst (λ m. All (λ q. q < m) (step_qubits x)) (sym p.swept.regions.qubits) (step-within p.n x (p.passes.fits 0 x (omega arith)))
+    record {
+      in_range =
+          subst (λ m. All (λ q. q < m) (step_qubits x)) (sym (ap length c.as_slice.ensures.value ∙ walk-qubits w.numbered w p.counts p.back p.at.walk))
+          (step-within p.counts.qubits x (p.passes.fits.steps 0 x (omega arith)));
+      same_length = ap length c.as_slice-2.ensures.value ∙ walk-sides w.numbered w p.counts p.back p.at.walk ∙ sym (ap length c.as_slice.ensures.value);
+    }
 
-pub add_all-requires-clause-in_range : goal.add_all-requires-clause-in_range
-add_all-requires-clause-in_range c =
+pub before-requires : goal.before-requires
+before-requires c =
     let p = c.requires.site in
+    record { site = record { counts = p.counts; back = p.back; at = p.at.walk; passes = p.passes } }
+
+pub add_all-requires : goal.add_all-requires
+add_all-requires c =
+    let p = c.requires.site in
+    let w = c.before-2.new.self in
     let x = step_shown c.args.step in
-    let at = c.in_ok-before.ensures.state p.n p.D p.count p.back p.swept.regions in
-    subst (λ m. All (λ q. q < m) (step_qubits x)) (sym at.qubits) (step-within p.n x (p.passes.fits 0 x (omega arith)))
-
-pub add_all-requires-clause-same_length : goal.add_all-requires-clause-same_length
-add_all-requires-clause-same_length c =
-    let p = c.requires.site in
-    let at = c.in_ok-before.ensures.state p.n p.D p.count p.back p.swept.regions in
-    at.sized.rows
+    let at = c.in_ok-before.ensures.passes p.counts p.back p.passes p.at.walk in
+    record {
+      in_range =
+          subst (λ m. All (λ q. q < m) (step_qubits x)) (sym (ap length c.as_slice-3.ensures.value ∙ walk-qubits w.numbered w p.counts (x ∷ p.back) at))
+          (step-within p.counts.qubits x (p.passes.fits.steps 0 x (omega arith)));
+      same_length = ap length c.as_slice-4.ensures.value ∙ walk-sides w.numbered w p.counts (x ∷ p.back) at ∙ sym (ap length c.as_slice-3.ensures.value);
+      kept = λ following. ap length (c.in_ok-keep_all.ensures.value following) ∙ kept-long c.as_slice.result.now c.as_slice-2.result.now (step_qubits x);
+    }
 
 pub returns : goal.returns
 returns c = record {
-  sweeps = λ n D count back passes swept.
-      let x = step_shown c.args.step in
-      let at = c.in_ok-before.ensures.state n D count back swept.regions in
-      swept-more n D count c.args.asked x back _ at
-      (subst (λ (sides : Sides). HaveRows n D count (flat_map (inserted_by sides x back) (step_qubits x) ++ inserted_from (sites_asked c.args.asked) back) (reverse c.add_all.new.rows))
-      c.sides_at-sides.ensures.value
-      (c.in_ok-add_all.ensures.rows n D count back (inserted_from (sites_asked c.args.asked) back) at
-      (λ following. c.in_ok-keep_all.ensures.kept n D count back swept.regions following) swept.rows));
+  numbered = c.before-2.ensures.numbered;
+  passes = λ counts back passes swept.
+      let x : Step = step_shown c.args.step in
+      swept-more c.args.asked x counts back c.args.self.now _ c.before-2.ensures.numbered passes.fits swept (c.in_ok-before.ensures.passes counts back passes swept.walk)
+      c.sides_at-sides.result c.sides_at-sides.ensures.value c.as_slice-3.result.now c.as_slice-4.result.now c.as_slice.result.now c.as_slice-2.result.now
+      c.as_slice-3.ensures.value c.as_slice-4.ensures.value c.as_slice.ensures.value c.as_slice-2.ensures.value
+      c.in_ok-add_all.ensures.ascend c.in_ok-keep_all.ensures.ascend (c.in_ok-add_all.ensures.value _ _ c.in_ok-keep_all.ensures.value);
 }

@@ -1,13 +1,13 @@
 use Rattle.std.proofs.Common.{◌≡◌, ◌++◌, codes, ap}
-use Rattle.stab_results.specs.Formats.{one_places, hits_bytes}
+use Rattle.stab_results.specs.Formats.{one_positions, hits_bytes}
 use Rattle.stab_results.proofs.PutsLemmas.{begins, goes_on, breaks_off, ends}
 use Rattle.stab_results.proofs.HitLemmas.{separated, separated_none, next_hit}
 use Rattle.stab_results.proofs.byte_buffer.ByteBuffer.put_hits.Goals as goal
 
 pub loop-position-init : goal.loop-position-init
 loop-position-init g c =
-    let all : c.into_iter-position-iterator.result ≡ one_places c.args.bits.now = cc in
-    rw (all, separated_none (one_places c.args.bits.now)) (begins (g.O.Output.seen c.args.out.now) c.args.self.now (hits_bytes c.args.bits.now))
+    let all : c.into_iter-position-iterator.result ≡ one_positions c.args.bits.now = cc in
+    rw (all, separated_none (one_positions c.args.bits.now)) (begins (g.O.Output.seen c.args.out.now) c.args.self.now (hits_bytes c.args.bits.now))
 
 pub loop-position-preserved : goal.loop-position-preserved
 loop-position-preserved g c =

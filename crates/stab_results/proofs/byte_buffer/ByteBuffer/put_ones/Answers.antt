@@ -1,13 +1,13 @@
 use Rattle.std.proofs.Common.{◌≡◌, ap}
 use Rattle.std.specs.List.{flat_map}
-use Rattle.stab_results.specs.Formats.{one_places, entry}
+use Rattle.stab_results.specs.Formats.{one_positions, entry}
 use Rattle.stab_results.proofs.PutsLemmas.{begins, goes_on, breaks_off, ended}
 use Rattle.stab_results.proofs.byte_buffer.ByteBuffer.put_ones.Goals as goal
 
 pub loop-position-init : goal.loop-position-init
 loop-position-init g c =
-    let all : c.into_iter-position-iterator.result ≡ one_places c.args.bits.now = cc in
-    rw all (begins (g.O.Output.seen c.args.out.now) c.args.self.now (flat_map (entry c.args.kinds) (one_places c.args.bits.now)))
+    let all : c.into_iter-position-iterator.result ≡ one_positions c.args.bits.now = cc in
+    rw all (begins (g.O.Output.seen c.args.out.now) c.args.self.now (flat_map (entry c.args.kinds) (one_positions c.args.bits.now)))
 
 pub loop-position-preserved : goal.loop-position-preserved
 loop-position-preserved g c =

@@ -1,6 +1,6 @@
 use Rattle.stab_sampler.proofs.Names.{rules, ◌≡◌, arith, sym, ◌∙◌, ap, subst, All, [], ◌++◌, length, min, take, drop, take-add, All-drop, unroll, circuit_items, Listed, list_coin, ones, StepFits, IsRun, program_state, output_of, stabilises, check-fits, check-steps, check-whole, most_strings, PivotsState, KeepsTrue, PartRecording, zero_coins, IsPartRecording}
 use Rattle.std.proofs.Common.{length-drop}
-use Rattle.stab_sampler.proofs.RecordingLemmas.{arrives, gives, determined-free, others-not, free-few, strings-numbered, strings-right}
+use Rattle.stab_sampler.proofs.RecordingLemmas.{arrives, gives, determined-random, others-not, random-few, strings-numbered, strings-right}
 use Rattle.stab_sampler.proofs.part_recording.PartRecording.advance.Goals as goal
 
 pub run_recording_pivots-requires-clause-sized : goal.run_recording_pivots-requires-clause-sized
@@ -69,12 +69,12 @@ returns c =
             gave = gives n xs ys (stabilises old.tableau) (output_of old.outputs) zeros old.free.items new here size none ran _ determined c.requires.recorded.gave;
           });
       recorded_pivots = record {
-        determined = determined-free n xs ys (stabilises old.tableau) (output_of old.outputs) zeros old.free.items new here size none ran;
+        determined = determined-random n xs ys (stabilises old.tableau) (output_of old.outputs) zeros old.free.items new here size none ran;
         others = others-not n xs ys (stabilises old.tableau) (output_of old.outputs) zeros old.free.items new here size none ran;
         number =
             strings-numbered n xs ys (stabilises old.tableau) (output_of old.outputs) zeros old.free.items new here size none ran kept following empty keeps
             ∙ ap (min (ones after.outputs.free.items)) (c.run_recording_pivots.ensures.kept.most ∙ limit);
-        few = free-few n xs ys (stabilises old.tableau) (output_of old.outputs) zeros old.free.items new here size none ran;
+        few = random-few n xs ys (stabilises old.tableau) (output_of old.outputs) zeros old.free.items new here size none ran;
         right = strings-right n xs ys (stabilises old.tableau) (output_of old.outputs) zeros old.free.items new here size none ran kept following empty keeps;
       };
       err = tt;

@@ -1,4 +1,4 @@
-use Rattle.stab_session.proofs.Names.{All-drop, length-drop, StepFits, ◌≡◌, ℕ, Bool, ◌+◌, ◌-◌, ◌<◌, ◌≤◌, ◌∷◌, refl, sym, ◌∙◌, ap, subst, arith, Some, length, take, drop, get_or, All, IfSome, unroll, observables_of, circuit_items, Checkpoint, checkpoint_steps, Near, last_of, Point, outputs, lengths_of, check-fits, check-whole, check-steps, longer, IsCount, conjugated_end, StaysNear, IsPastPlaces, IsConjugating, HasConjugated}
+use Rattle.stab_session.proofs.Names.{All-drop, length-drop, StepFits, ◌≡◌, ℕ, Bool, ◌+◌, ◌-◌, ◌<◌, ◌≤◌, ◌∷◌, refl, sym, ◌∙◌, ap, subst, arith, Some, length, take, drop, get_or, All, IfSome, unroll, observables_of, circuit_items, Checkpoint, checkpoint_steps, Near, last_of, Point, outputs, lengths_of, check-fits, check-whole, check-steps, longer, IsCheckpointCount, conjugated_end, StaysNear, IsPastSites, IsConjugating, HasConjugated}
 use Rattle.std.specs.Prelude.{slice_get}
 use Rattle.stab_session.proofs.FollowLemmas.{some-at}
 use Rattle.stab_session.proofs.CourseLemmas.{count-of}
@@ -14,7 +14,7 @@ few c = check-steps (circuit_items c.args.circuit.now) (check-whole c.args.self.
 total-is : (c : After-as_slice-checkpoints) → length (unroll (circuit_items c.args.circuit.now)) ≤ 1048576 → c.steps-total.result ≡ length (unroll (circuit_items c.args.circuit.now))
 total-is c small = omega (arith, c.steps-total.ensures.value, small)
 
-counted : (c : After-count_before-before) → IsCount (c.args.span.first + 1) c.args.self.now.checkpoints.items c.count_before-before.result
+counted : (c : After-count_before-before) → IsCheckpointCount (c.args.span.first + 1) c.args.self.now.checkpoints.items c.count_before-before.result
 counted c =
     let count = c.count_before-before.ensures in
     count-of (c.args.span.first + 1) c.as_slice-checkpoints.result.now c.args.self.now.checkpoints.items c.count_before-before.result c.as_slice-checkpoints.ensures.value count.within count.before
@@ -31,22 +31,22 @@ inside c =
           c.as_slice-checkpoints.ensures.value count.among;
     }
 
-here : (c : After-index-checkpoints-before) → length (unroll (circuit_items c.args.circuit.now)) ≤ 1048576 → IsCount (c.args.span.first + 1) c.args.self.now.checkpoints.items c.count_before-before.result
+here : (c : After-index-checkpoints-before) → length (unroll (circuit_items c.args.circuit.now)) ≤ 1048576 → IsCheckpointCount (c.args.span.first + 1) c.args.self.now.checkpoints.items c.count_before-before.result
     → slice_get c.args.self.now.checkpoints.items (c.count_before-before.result - 1) ≡ Some c.index-checkpoints-before.result
 here c small count =
     let f = c.requires.follows.1 in
     checkpoint-is f.count f.kept f.span small count c.index-checkpoints-before.result
     (c.index-checkpoints-before.is ∙ ap (λ cs. get_or cs (c.count_before-before.result - 1) c.index-checkpoints-before.result) c.as_slice-checkpoints.ensures.value)
 
-passed : (c : In-Some) → IsPastPlaces (unroll (circuit_items c.args.circuit.now)) c.args.span c.count_before-before.result c.count_within-inside.result c.args.change.now c.args.self.now
+passed : (c : In-Some) → IsPastSites (unroll (circuit_items c.args.circuit.now)) c.args.span c.count_before-before.result c.count_within-inside.result c.args.change.now c.args.self.now
     c.in-Some.passed.from c.in-Some.passed.propagation c.in-Some.passed.checkpoints.items
 passed c =
-    subst (λ o. IfSome o (λ p. IsPastPlaces (unroll (circuit_items c.args.circuit.now)) c.args.span c.count_before-before.result c.count_within-inside.result c.args.change.now c.args.self.now
+    subst (λ o. IfSome o (λ p. IsPastSites (unroll (circuit_items c.args.circuit.now)) c.args.span c.count_before-before.result c.count_within-inside.result c.args.change.now c.args.self.now
     p.from p.propagation p.checkpoints.items)) c.in-Some.is c.in_ok-passed.ensures.passed
 
-pub past_places-requires-clause-counted : goal.past_places-requires-clause-counted
-past_places-requires-clause-counted c =
-    let at = goal.at.past_places-requires-clause-counted c in
+pub past_sites-requires-clause-counted : goal.past_sites-requires-clause-counted
+past_sites-requires-clause-counted c =
+    let at = goal.at.past_sites-requires-clause-counted c in
     let among = inside at.After-count_within-inside in
     record { first = counted at.After-count_before-before; order = among.order; within = among.within }
 
@@ -55,12 +55,12 @@ past_places-requires-clause-counted c =
 pub returns-in_default-2-clause-tried : goal.returns-in_default-2-clause-tried
 returns-in_default-2-clause-tried c =
     let order = c.requires.follows.1.span.new_order in
-    omega (arith, c.past_places.ensures.most, c.conjugating.ensures.most, order)
+    omega (arith, c.past_sites.ensures.most, c.conjugating.ensures.most, order)
 
 pub returns-clause-tried : goal.returns-clause-tried
 returns-clause-tried c =
     let order = c.requires.follows.1.span.new_order in
-    omega (arith, c.past_places.ensures.most, c.conjugating.ensures.most, order)
+    omega (arith, c.past_sites.ensures.most, c.conjugating.ensures.most, order)
 
 pub conjugating-requires-clause-may : goal.conjugating-requires-clause-may
 conjugating-requires-clause-may c =
@@ -87,7 +87,7 @@ conjugating-requires-clause-may c =
             from-few f.count f.kept f.span small count c.index-checkpoints-before.result d_here c.in-Some.passed.from counts c.args.span.first,
             from-few f.count f.kept f.span small count c.index-checkpoints-before.result d_here c.in-Some.passed.from counts c.args.span.new_end,
           );
-      few_passed = omega (arith, c.past_places.ensures.most, small, length-drop c.args.span.new_end ys);
+      few_passed = omega (arith, c.past_sites.ensures.most, small, length-drop c.args.span.new_end ys);
     }
 
 end-is : (c : After-end_place-end) → c.steps-total.result ≡ length (unroll (circuit_items c.args.circuit.now)) → c.end_place-end.result

@@ -32,7 +32,7 @@ returns-in-Some-2-clause-followed g c =
       way = done.way;
       tried = omega (arith, none);
       asks = omega arith;
-      asks_free = omega arith;
+      asks_random = omega arith;
     }
 
 pub returns-clause-followed : goal.returns-clause-followed

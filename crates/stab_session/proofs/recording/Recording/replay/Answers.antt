@@ -1,4 +1,4 @@
-use Rattle.stab_session.proofs.Names.{◌≡◌, ℕ, ◌+◌, ◌≤◌, refl, sym, ap, subst, length, drop, All, None, arith, Result, Ok, Err, OnErr, unroll, circuit_items, HasDistinctQubits, AreRepeats, Plan, Span, all_coins_of, StepFits, output_of, IsOldRun, IsRecording, Follows, Ascending, check-fits, check-whole, check-steps, IsCount}
+use Rattle.stab_session.proofs.Names.{◌≡◌, ℕ, ◌+◌, ◌≤◌, refl, sym, ap, subst, length, drop, All, None, arith, Result, Ok, Err, OnErr, unroll, circuit_items, HasDistinctQubits, AreRepeats, Plan, Span, all_coins_of, StepFits, output_of, IsOldRun, IsRecording, Follows, Ascending, check-fits, check-whole, check-steps, IsCheckpointCount}
 use Rattle.stab_session.specs.FollowedEdits.{AsksWithin}
 use Rattle.stab_session.proofs.CountLemmas.{coins-following}
 use Rattle.stab_session.proofs.CourseLemmas.{HasBegun, HasEnded, count-of, seen-end, seen-soon, some-before, checkpoint-within, has-begun, asked-following, ascending-here, old-run, has-ended}
@@ -18,20 +18,20 @@ fitting g c distinct =
     check-fits c.args.self.now.tableau.qubits (circuit_items c.args.circuit.now) (unroll (circuit_items c.args.circuit.now)) c.requires.checked refl distinct
 
 -- the checkpoints at or before the first step that changed
-first : (g : Over) (c : After-count_before-before g) → IsCount (c.args.span.first + 1) c.args.self.now.checkpoints.items c.count_before-before.result
+first : (g : Over) (c : After-count_before-before g) → IsCheckpointCount (c.args.span.first + 1) c.args.self.now.checkpoints.items c.count_before-before.result
 first g c =
     let count = c.count_before-before.ensures in
     count-of (c.args.span.first + 1) c.as_slice.result.now c.args.self.now.checkpoints.items c.count_before-before.result c.as_slice.ensures.value count.within count.before
     count.following
 
 -- and those before the end of what was changed
-following : (g : Over) (c : After-as_slice-3 g) → IsCount c.args.span.old_end c.args.self.now.checkpoints.items c.count_before.result
+following : (g : Over) (c : After-as_slice-3 g) → IsCheckpointCount c.args.span.old_end c.args.self.now.checkpoints.items c.count_before.result
 following g c =
     let count = c.count_before.ensures in
     count-of c.args.span.old_end c.as_slice-2.result.now c.args.self.now.checkpoints.items c.count_before.result c.as_slice-2.ensures.value count.within count.before count.following
 
 begun : (g : Over) (c : In_ok-replay g) → length (unroll (circuit_items c.args.circuit.now)) ≤ 1048576
-    → IsCount (c.args.span.first + 1) c.args.self.now.checkpoints.items c.count_before-before.result
+    → IsCheckpointCount (c.args.span.first + 1) c.args.self.now.checkpoints.items c.count_before-before.result
     → HasBegun c.args.self.now.tableau.qubits (g.C.Coins.sequence c.args.coins.now) c.args.stride (unroll (circuit_items c.args.circuit.now)) c.args.self.now
     c.count_before-before.result c.in_ok-replay.replay
 begun g c few first = has-begun c.requires.follows few first c.in_ok-replay.replay c.in_ok-replay.ensures.begins
@@ -41,7 +41,7 @@ planned total stride s next window = record { total = total; stride = stride; ol
 
 -- no more coins are asked for than there may be
 asked : (g : Over) (c : After-follow g) → length (unroll (circuit_items c.args.circuit.now)) ≤ 1048576
-    → IsCount (c.args.span.first + 1) c.args.self.now.checkpoints.items c.count_before-before.result
+    → IsCheckpointCount (c.args.span.first + 1) c.args.self.now.checkpoints.items c.count_before-before.result
     → HasBegun c.args.self.now.tableau.qubits (g.C.Coins.sequence c.args.coins.now) c.args.stride (unroll (circuit_items c.args.circuit.now)) c.args.self.now
     c.count_before-before.result c.in_ok-replay.replay
     → AsksWithin c.args.stride (unroll (circuit_items c.args.circuit.now)) c.args.span.first (g.C.Coins.asks c.args.coins.now) (g.C.Coins.asks c.follow.new.coins)
@@ -56,10 +56,10 @@ asked g c few first begins =
 end_of : (g : Over) (c : In_ok-end g)
     (f : Follows c.args.self.now.tableau.qubits (g.C.Coins.sequence c.args.coins.now) c.args.stride (unroll (circuit_items c.args.circuit.now)) c.args.span None c.args.self.now)
     → length (unroll (circuit_items c.args.circuit.now)) ≤ 1048576
-    → IsCount (c.args.span.first + 1) c.args.self.now.checkpoints.items c.count_before-before.result
+    → IsCheckpointCount (c.args.span.first + 1) c.args.self.now.checkpoints.items c.count_before-before.result
     → HasBegun c.args.self.now.tableau.qubits (g.C.Coins.sequence c.args.coins.now) c.args.stride (unroll (circuit_items c.args.circuit.now)) c.args.self.now
     c.count_before-before.result c.in_ok-replay.replay
-    → IsCount c.args.span.old_end c.args.self.now.checkpoints.items c.count_before.result
+    → IsCheckpointCount c.args.span.old_end c.args.self.now.checkpoints.items c.count_before.result
     → HasEnded c.args.self.now.tableau.qubits (g.C.Coins.sequence c.args.coins.now) c.args.stride (unroll (circuit_items c.args.circuit.now)) c.args.span c.args.self.now
     c.count_before-before.result f.old c.in_ok-replay.replay.step (planned c.steps.result c.args.stride c.args.span c.max.result c.args.self.now.window) c.follow.new.self
     c.in_ok-end.end
@@ -213,5 +213,5 @@ returns-clause-followed g c =
       };
       tried = omega (arith, c.requires.tried);
       asks = omega (arith, costs.asks, begins.applied);
-      asks_free = omega (arith, costs.asks_free, ready.flags c.prepare.new.self c.prepare.ensures.unchanged c.commit.new.self c.commit.ensures.committed);
+      asks_random = omega (arith, costs.asks_random, ready.flags c.prepare.new.self c.prepare.ensures.unchanged c.commit.new.self c.commit.ensures.committed);
     }

@@ -1,4 +1,4 @@
-use Rattle.stab_tableau.proofs.Names.{◌≡◌, ◌<◌, ◌∙◌, refl, sym, ap, length, arith, Signed, single, phased, string_preimage, extend, TableauState, IsMeasured}
+use Rattle.stab_tableau.proofs.Names.{◌≡◌, ◌<◌, ◌∙◌, refl, sym, ap, length, arith, Signed, single, phased, string_preimage, extend, TableauState, AreRowsMeasured}
 use Rattle.stab_tableau.proofs.TableRowLemmas.{table-row}
 use Rattle.stab_tableau.proofs.OneLetterLemmas.{length-one_letter}
 use Rattle.stab_tableau.proofs.TableauMeasureLemmas.{IsSeenMeasured, measure-tableau, measured-seen, letter-sent, measured-single}
@@ -41,7 +41,7 @@ seen c =
     let sent : phased c.copy_into.new.out ≡ extend (string_preimage (length rows) rows) (phased p) =
     letter-sent rows (record { x = c.self.inside.preimage; z = c.self.inside.multiplier }) c.self.invariant c.args.qubit lt c.args.letter c.copy_into.new.out c.copy_into.ensures.value
     c.args.self.now.qubits size in
-    let measured : IsMeasured (length rows) rows p c.args.coin c.measure_with_pivot.result.outcome c.measure_with_pivot.result.free c.measure_with_pivot.new.table (record { x = c.measure_with_pivot.new.preimage; z = c.measure_with_pivot.new.multiplier }) =
+    let measured : AreRowsMeasured (length rows) rows p c.args.coin c.measure_with_pivot.result.outcome c.measure_with_pivot.result.free c.measure_with_pivot.new.table (record { x = c.measure_with_pivot.new.preimage; z = c.measure_with_pivot.new.multiplier }) =
     measured-single (length rows) rows c.args.self.now.qubits size c.args.qubit c.args.letter _ _ _ _ _ c.measure_with_pivot.ensures.measured in
     measured-seen rows (record { x = c.self.inside.preimage; z = c.self.inside.multiplier }) c.self.invariant p lp c.copy_into.new.out sent c.args.self.now c.self.view_is
     c.args.coin c.measure_with_pivot.result.outcome c.measure_with_pivot.result.free c.measure_with_pivot.new.table (record { x = c.measure_with_pivot.new.preimage; z = c.measure_with_pivot.new.multiplier }) measured c.measure_with_pivot.ensures.size
@@ -53,7 +53,7 @@ pub returns-clause-outcome : goal.returns-clause-outcome
 returns-clause-outcome c = (seen (goal.at.returns-clause-outcome c).After-measure_with_pivot).outcome_is
 
 pub returns-clause-free : goal.returns-clause-free
-returns-clause-free c = (seen (goal.at.returns-clause-free c).After-measure_with_pivot).free_is
+returns-clause-free c = (seen (goal.at.returns-clause-free c).After-measure_with_pivot).random_is
 
 pub returns-clause-members : goal.returns-clause-members
 returns-clause-members c = (seen (goal.at.returns-clause-members c).After-measure_with_pivot).members

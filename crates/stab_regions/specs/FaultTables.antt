@@ -1,7 +1,0 @@
--- Fault tables: what contracts see of one.
-use Rattle.std.specs.Prelude.{ℕ, Bool, List}
-
--- which bits are deterministic, and the rows: for each fault the numbers of the deterministic bits that it flips
-pub record FaultTableState : Type 0 where
-  pub deterministic : List Bool
-  pub rows : List (List ℕ)
