@@ -13,7 +13,7 @@ def bits_of(text, sequence):
     return b"".join(parts).replace(b"\n", b"").decode()
 
 
-def free_coins(text):
+def deciding_coins(text):
     """The numbers of the coins that decide an outcome, in an editing session."""
     with tempfile.NamedTemporaryFile(suffix=".stim") as file:
         file.write(program.bytes_of(text))

@@ -6,7 +6,28 @@ import numpy as np
 import stabsim
 from stabsim import codes
 
-# Written out, in blocks, with measurements by products, and what the program does not read.
+# Many rounds, without gates that records control: a check that is reset in each, and a qubit that is never reset.
+ROUNDS = """R 0 1 2 3
+M 2 3 3
+REPEAT 9 {
+    DEPOLARIZE1(0.03) 0 1 2
+    REPEAT 2 {
+        CX 0 3
+        DEPOLARIZE2(0.125) 0 3
+        CX 1 3
+        MR(0.25) 3
+        DETECTOR(1) rec[-1]
+    }
+    X_ERROR(0.0625) 2
+    M(0.125) 2
+    DETECTOR(2, 3) rec[-1] rec[-4]
+    SHIFT_COORDS(1)
+}
+M(0.5) 0 2
+DETECTOR rec[-1]
+OBSERVABLE_INCLUDE(0) rec[-2]
+"""
+# Written out, in blocks, of few rounds and of many, with measurements by products, and what the program does not read.
 TEXTS = (
     codes.repetition_code(3, 4, noise=codes.Noise.uniform(0.02)), str(stabsim.Circuit(codes.surface_code(2, 4, noise=codes.Noise.uniform(0.01))).flattened()),
     codes.surface_code(3, 3, noise=codes.Noise.uniform(0.01)), codes.toric_code(2, 2, noise=codes.Noise.uniform(0.01)),
@@ -34,6 +55,7 @@ M(0.02) 0 2 4
 DETECTOR rec[-1] rec[-2]
 OBSERVABLE_INCLUDE(0) rec[-3]
 """,
+    ROUNDS, codes.repetition_code(3, 12, noise=codes.Noise.uniform(0.02)), codes.surface_code(3, 9, noise=codes.Noise.uniform(0.01)),
 )
 CHANNELS = ("X_ERROR(0.25) {0} {1}", "Z_ERROR(0.125) {0}", "Y_ERROR(0.0625) {0} {1} {2}", "DEPOLARIZE1(0.03) {0} {2}", "DEPOLARIZE2(0.015) {0} {1}", "E(0.25) X{0} Z{1}",
             "PAULI_CHANNEL_1(0.125, 0, 0) {1}", "I_ERROR(0.1) {0}", "X_ERROR(0) {0}", "TICK")

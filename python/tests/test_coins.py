@@ -6,7 +6,7 @@ import random
 import numpy as np
 import pytest
 import stabsim
-from coins_by_runs import bits_of, free_coins
+from coins_by_runs import bits_of, deciding_coins
 from stabsim import codes
 from stabsim.questions.random_bits import bit_of, coins_of
 
@@ -63,7 +63,7 @@ def test_tables_by_hand(name):
 def test_the_runs_of_all_coins_are_sums_of_rows(seed):
     circuit = random_circuit(seed)
     table, count = circuit.coins(), circuit.numbers().coins
-    assert table.numbers.tolist() == free_coins(circuit.text)
+    assert table.numbers.tolist() == deciding_coins(circuit.text)
     dice = random.Random(seed)
     sequences = list(itertools.product((0, 1), repeat=count))
     for sequence in dice.sample(sequences, min(32, len(sequences))):

@@ -61,6 +61,18 @@ def test_colours_stand_out_from_their_grounds(theme, kind):
     assert low == {}
 
 
+def colour_in(tone):
+    """How far a colour is from grey: by how much its greatest part is more than its least."""
+    parts = [int(tone[at:at + 2], 16) for at in (1, 3, 5)]
+    return max(parts) - min(parts)
+
+
+@pytest.mark.parametrize("theme", ["light", "dark"])
+def test_faces_of_checks_have_two_to_three_times_the_colour_of_regions(theme):
+    colours = themes()[theme]
+    assert all(2 <= colour_in(colours[f"{letter}-face"]) / colour_in(colours[f"{letter}-soft"]) <= 3 for letter in "xyz")
+
+
 def test_each_role_of_the_shapes_is_measured():
     shapes = json.loads((FOLDER / "shapes.json").read_text())
     solid = {role[0] for role in shapes["roles"].values()} - {"op"}

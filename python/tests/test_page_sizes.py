@@ -294,10 +294,12 @@ def test_a_click_on_a_face_chooses_its_detector(open_page):
     assert page.chosen() == []
 
 
-@pytest.mark.parametrize("code", ["toric", "bicycle"])
+ACROSS = {"toric": lambda: codes.toric_code(4, 2), "Bacon–Shor": lambda: codes.bacon_shor_code(4, 2), "bicycle": lambda: codes.bivariate_bicycle_code(6, 6, *SEVENTY_TWO, rounds=2)}
+
+
+@pytest.mark.parametrize("code", ACROSS)
 def test_checks_that_lie_across_each_other_have_no_faces(open_page, code):
-    text = codes.toric_code(4, 2) if code == "toric" else codes.bivariate_bicycle_code(6, 6, *SEVENTY_TWO, rounds=2)
-    page = open_page(text)
+    page = open_page(ACROSS[code]())
     page.wait(lambda: page.ask("page.shown.state.deterministic !== null"))
     page.choose_qubit(*page.ask("[[...page.shown.state.placement.places.keys()][0]]"))
     page.wait(lambda: page.texts("#about-errors .error") and "not known yet" not in page.find("about-errors").text)

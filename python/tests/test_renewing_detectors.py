@@ -5,7 +5,7 @@ import random
 
 import pytest
 import stabsim
-from random_edits import told
+from random_edits import ROUNDS, told
 from stabsim import codes
 from stabsim.noise import renewing, renewing_detectors
 
@@ -25,27 +25,6 @@ REPEAT 3 {
     }
     M 1
     DETECTOR(2, 3) rec[-1]
-    SHIFT_COORDS(1)
-}
-M(0.5) 0 2
-DETECTOR rec[-1]
-OBSERVABLE_INCLUDE(0) rec[-2]
-"""
-# Many rounds, without gates that records control: a check that is reset in each, and a qubit that is never reset.
-ROUNDS = """R 0 1 2 3
-M 2 3 3
-REPEAT 9 {
-    DEPOLARIZE1(0.03) 0 1 2
-    REPEAT 2 {
-        CX 0 3
-        DEPOLARIZE2(0.125) 0 3
-        CX 1 3
-        MR(0.25) 3
-        DETECTOR(1) rec[-1]
-    }
-    X_ERROR(0.0625) 2
-    M(0.125) 2
-    DETECTOR(2, 3) rec[-1] rec[-4]
     SHIFT_COORDS(1)
 }
 M(0.5) 0 2

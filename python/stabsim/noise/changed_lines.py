@@ -9,6 +9,7 @@ from typing import NamedTuple
 import numpy as np
 
 from stabsim.formats.combining import Numbers
+from stabsim.text.names import MEASUREMENTS, NOISE
 from stabsim.text.profile import made_of
 from stabsim.text.reading import Item, Line, content_of, items_of, parts_of
 from stabsim.text.sizes import records_of, sizes_of
@@ -20,6 +21,7 @@ WITHOUT_PART = frozenset(("I", "X", "Y", "Z", "TICK", "QUBIT_COORDS"))
 # Lines that have no noise, and are as they are without it.
 ALWAYS_QUIET = ("DETECTOR", "OBSERVABLE_INCLUDE", "SHIFT_COORDS")
 DECLARING = ("DETECTOR", "OBSERVABLE_INCLUDE")
+PLACING = ("DETECTOR", "SHIFT_COORDS")
 LOOKBACK = re.compile(r"rec\[-(\d+)\]")
 OBSERVABLE = re.compile(r"OBSERVABLE_INCLUDE[^(]*\(\s*(\d+)")
 
@@ -164,14 +166,19 @@ def tally(lines: Sequence[str], opened: list[list[int]]) -> None:
     """Goes on over lines from some open lists, the outermost first: how many rounds each has, and how many detectors so far."""
     for line in lines:
         if line.endswith("{"):
-            parts = parts_of(content_of(line))
-            assert parts, "a block has a count"
-            opened.append([int(parts.targets[0]), 0])
+            opened.append([rounds_of(line), 0])
         elif line.endswith("}"):
             rounds, detectors = opened.pop()
             opened[-1][1] += rounds * detectors
         elif is_detector(line):
             opened[-1][1] += 1
+
+
+def rounds_of(line: str) -> int:
+    """How many rounds the block has that a line begins."""
+    parts = parts_of(content_of(line))
+    assert parts, "a block has a count"
+    return int(parts.targets[0])
 
 
 def blocks_around(lines: Sequence[str]) -> list[int]:
@@ -222,6 +229,37 @@ def observables_in(lines: Sequence[str]) -> set[int]:
     return {int(found[1]) for line in lines if (found := OBSERVABLE.match(line))}
 
 
+@functools.lru_cache(maxsize=1 << 16)
 def reach_of(line: str) -> int:
     """How far the lookbacks of a line go, 0 if it has none."""
     return max(map(int, LOOKBACK.findall(line)), default=0)
+
+
+def furthest(lines: Sequence[str]) -> int:
+    """How many records in front of some lines without noise they name at most."""
+    found, records = 0, 0
+    for line in lines:
+        if line.startswith(DECLARING):
+            found = max(found, reach_of(line) - records)
+        else:
+            records += records_of_line(line)
+    return found
+
+
+def without_targets(line: str) -> str:
+    """A line that places or declares without the records that it names."""
+    return line.partition(" rec[")[0]
+
+
+def placing(lines: Sequence[str]) -> list[str]:
+    """What places detectors in lines: coordinates, their shifts, and blocks."""
+    return [without_targets(line) for line in lines if line.lstrip().startswith(PLACING) or line.endswith(("{", "}"))]
+
+
+@functools.lru_cache(maxsize=1 << 16)
+def is_noisy(written: str) -> bool:
+    """Whether a line has noise. ValueError as of `quiet`."""
+    content = content_of(written)
+    if not content or content.startswith(ALWAYS_QUIET):
+        return False
+    return any(parts and (parts.name in NOISE or parts.arguments and parts.name in MEASUREMENTS) for parts in map(parts_of, noisy(content)))

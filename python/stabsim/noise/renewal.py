@@ -1,11 +1,11 @@
 """Mechanisms of an error model of which some errors flip something else: renewed in their order."""
 
-from bisect import bisect_left
-from collections.abc import Iterable, Sequence
+from collections.abc import Sequence
 from dataclasses import dataclass, replace
 from typing import TYPE_CHECKING
 
 import numpy as np
+from numpy.typing import NDArray
 
 from stabsim.formats.combining import Numbers, columns_of, odd_chances, starts_of
 from stabsim.noise.causes import Causes
@@ -15,9 +15,7 @@ from stabsim.noise.marking import Source
 if TYPE_CHECKING:
     from stabsim.noise.models import ErrorModel
 
-# What an error flips.
-Row = tuple[int, ...]
-# How many rows without a mechanism are sorted in one by one.
+# How many rows without a mechanism a model gets at most before it is made anew.
 MOST_NEW = 4000
 NONE: Numbers = np.zeros(0, dtype=np.int64)
 
@@ -44,17 +42,22 @@ class Renewal:
     @classmethod
     def of_rows(cls, model: "ErrorModel", indptr: Numbers, indices: Numbers) -> "Renewal | None":
         """Of the rows of errors; None if there are too many that the model does not have."""
-        rows = rows_as_tuples(indptr, indices)
-        found = places_of_rows(model, set(filter(None, rows)))
-        others = sorted(row for row, (_, is_known) in found.items() if not is_known)
-        if len(others) > MOST_NEW:
+        lengths = np.diff(indptr)
+        some = np.flatnonzero(lengths)
+        first, number = rows_apart(lengths[some], indices)
+        rows = some[first]
+        places, is_known = places_of_rows(model, lengths[rows], columns_of(rows, indptr, indices))
+        new = np.flatnonzero(~is_known)
+        if len(new) > MOST_NEW:
             return None
-        known = {row: place for row, (place, is_known) in found.items() if is_known}
-        known.update({row: len(model) + number for number, row in enumerate(others)})
-        mechanisms = np.array([known[row] if row else -1 for row in rows], dtype=np.int64)
-        ends = np.cumsum([len(row) for row in others], dtype=np.int64)
-        flat = np.array([it for row in others for it in row], dtype=np.int64)
-        return cls(model, mechanisms, ends, flat, np.array([found[row][0] for row in others], dtype=np.int64))
+        words = words_of_rows(lengths[rows[new]], columns_of(rows[new], indptr, indices), int(lengths.max(initial=1)))
+        new = new[np.argsort(words)]
+        known = places.copy()
+        known[new] = len(model) + np.arange(len(new))
+        mechanisms = np.full(len(lengths), -1, dtype=np.int64)
+        mechanisms[some] = known[number]
+        others = rows[new]
+        return cls(model, mechanisms, np.cumsum(lengths[others]), columns_of(others, indptr, indices), places[new])
 
     def model_of(self, mechanisms: Numbers, gone: Numbers, sources: Sequence[Source], text: str) -> "ErrorModel":
         """The model of a text with these sources; mechanisms: of all their errors, as those of this; gone: those that errors left."""
@@ -113,25 +116,56 @@ def moved_by(sources: Sequence[Source], lines: int) -> Sequence[Source]:
     return [source._replace(line=source.line + lines) for source in sources] if lines else sources
 
 
-def rows_as_tuples(indptr: Numbers, indices: Numbers) -> list[Row]:
-    """The rows of a CSR matrix."""
-    bounds, flat = indptr.tolist(), indices.tolist()
-    return [tuple(flat[first:last]) for first, last in zip(bounds, bounds[1:])]
+def rows_apart(lengths: Numbers, columns: Numbers) -> tuple[Numbers, Numbers]:
+    """Rows that are not empty, one after another: one row of each kind, and for each row which kind it is of."""
+    starts = starts_of(lengths)
+    # Rows of different keys differ, and almost all rows that differ have different keys.
+    mixed = (columns.astype(np.uint64) + np.uint64(1)) * np.uint64(0x9E3779B97F4A7C15)
+    mixed = (mixed ^ (mixed >> np.uint64(29))) * np.uint64(0xBF58476D1CE4E5B9)
+    sums = np.append(np.uint64(0), np.cumsum(mixed ^ (mixed >> np.uint64(32))))
+    _, first, number = np.unique(sums[starts[1:]] - sums[starts[:-1]], return_index=True, return_inverse=True)
+    like = first[number]
+    if not np.array_equal(lengths, lengths[like]) or not np.array_equal(columns, columns_of(like, starts, columns)):
+        _, first, number = np.unique(words_of_rows(lengths, columns, int(lengths.max(initial=1))), return_index=True, return_inverse=True)
+    return first, number
 
 
-def places_of_rows(model: "ErrorModel", rows: Iterable[Row]) -> dict[Row, tuple[int, bool]]:
-    """For each row the first mechanism that flips it, or else what comes after it in the order of what is flipped, and whether it does."""
-    by_first: dict[int, list[Row]] = {}
-    for row in rows:
-        by_first.setdefault(row[0], []).append(row)
-    # Mechanisms that flip the same first of all are side by side.
-    begins = model.indices[model.indptr[:-1]]
-    first = np.array(list(by_first), dtype=np.int64)
-    found: dict[Row, tuple[int, bool]] = {}
-    for some, low, high in zip(by_first.values(), np.searchsorted(begins, first).tolist(), np.searchsorted(begins, first, side="right").tolist()):
-        bounds = model.indptr[low : high + 1]
-        its = rows_as_tuples(bounds - bounds[0], model.indices[bounds[0] : bounds[-1]])
-        for row in some:
-            place = bisect_left(its, row)
-            found[row] = low + place, place < len(its) and its[place] == row
+def places_of_rows(model: "ErrorModel", lengths: Numbers, columns: Numbers) -> tuple[Numbers, Bits]:
+    """For each row that is not empty the first mechanism that flips it, or else what comes after it in the order of what is flipped, and
+    whether it does. lengths, columns: of the rows, one after another."""
+    begins, firsts = model.indices[model.indptr[:-1]], columns[starts_of(lengths)[:-1]]
+    is_first = np.zeros(model.num_detectors + model.num_observables, dtype=np.bool_)
+    is_first[firsts] = True
+    near = np.flatnonzero(is_first[begins])
+    # Mechanisms that flip the same two first of all are side by side.
+    theirs, wanted = first_two(model.indptr[near], model.indptr[near + 1], model.indices), first_two(*ends_of(lengths), columns)
+    low, high = np.searchsorted(theirs, wanted), np.searchsorted(theirs, wanted, side="right")
+    some = np.flatnonzero(np.cumsum(np.bincount(low, minlength=len(near) + 1) - np.bincount(high, minlength=len(near) + 1)))
+    its = near[some]
+    width = int(max(lengths.max(initial=1), (model.indptr[its + 1] - model.indptr[its]).max(initial=1)))
+    known = words_of_rows(model.indptr[its + 1] - model.indptr[its], columns_of(its, model.indptr, model.indices), width)
+    rows = words_of_rows(lengths, columns, width)
+    found = np.searchsorted(known, rows)
+    is_known = np.append(known, b"")[found] == rows
+    places = low + found - np.searchsorted(some, low) - np.searchsorted(begins[near], firsts) + np.searchsorted(begins, firsts)
+    return places, is_known
+
+
+def ends_of(lengths: Numbers) -> tuple[Numbers, Numbers]:
+    """Where rows of these lengths begin and end, one after another."""
+    starts = starts_of(lengths)
+    return starts[:-1], starts[1:]
+
+
+def first_two(begins: Numbers, ends: Numbers, indices: Numbers) -> Numbers:
+    """The first two columns of rows that begin and end at these places as a number, which is the greater the later a row is in their order."""
+    second = np.where(ends - begins > 1, indices[np.minimum(begins + 1, len(indices) - 1)] + 1, 0) if len(begins) else begins
+    found: Numbers = (indices[begins] << 32) + second
     return found
+
+
+def words_of_rows(lengths: Numbers, columns: Numbers, width: int) -> NDArray[np.bytes_]:
+    """Rows of columns, one after another, as words in the same order, with space for this many columns each."""
+    letters = np.zeros((len(lengths), width), dtype=">u4")
+    letters[np.repeat(np.arange(len(lengths)), lengths), np.arange(len(columns)) - np.repeat(starts_of(lengths)[:-1], lengths)] = columns + 1
+    return letters.view(f"S{4 * width}").ravel()

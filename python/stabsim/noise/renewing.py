@@ -3,8 +3,8 @@
 What an error flips is decided by where it is and by the steps after it alone: `parity_flips`, by which the program's table of faults is stated
 (`PlacesFlipDeterministicParities` in crates/stab_regions/specs/FaultLaws.antt), is asked of these steps. So errors after an edit flip what
 they did. Errors before it do so too if the regions of all detectors and observables just before the edit are what they were, since those
-further back are made of them alone (`region_before` in Regions.antt there): `renewing_circuit` asks the program for regions. If only noise
-changed, or what has no part in regions, as Pauli gates, all regions stay.
+further back are made of them alone (`region_before` in Regions.antt there): `renewing_circuit` asks the program for regions, and
+`renewing_blocks` for those in few rounds of a block. If only noise changed, or what has no part in regions, as Pauli gates, all regions stay.
 
 The program is asked for the errors of the lines that changed, which alone are marked in its text. Of mechanisms those are renewed that
 errors make or made which flip something else.
@@ -23,9 +23,9 @@ from stabsim.noise.flipped import Flipped
 from stabsim.noise.marked_faults import undetermined
 from stabsim.noise.marking import Marker, Source
 from stabsim.noise.renewal import NONE, Renewal, moved_by
+from stabsim.noise.renewing_blocks import renewed_block
 from stabsim.noise.renewing_circuit import renewed_circuit
 from stabsim.noise.renewing_detectors import renewed_detectors
-from stabsim.noise.renewing_rounds import in_blocks, renewed_in_rounds
 from stabsim.noise.sourced import rows_of_errors
 from stabsim.text.judging import judged
 from stabsim.text.reading import Line
@@ -50,7 +50,7 @@ def renewed(model: "ErrorModel", text: str, sure_only: bool, qubits: int | None 
         declared = renewed_detectors(model, causes, change, text, qubits)
         if declared is not None or causes.is_fed_back or is_fed_back("\n".join(change.new)):
             return declared
-        found = renewed_in_rounds(model, causes, change, text, qubits)
+        found = renewed_block(model, causes, change, text, qubits)
         return renewed_circuit(model, causes, change, text, qubits) if found is None else found
     except Refused as refused:
         # It is said of the whole text; of a circuit that coins decide by what the program said.
@@ -82,6 +82,15 @@ def after_change(model: "ErrorModel", causes: Causes, change: Change, text: str,
         return None
     mechanisms: Numbers = np.concatenate([causes.mechanisms[:start], renewal.mechanisms, causes.mechanisms[stop:]])
     return renewal.model_of(mechanisms, gone, (*causes.sources[:begin], *sources, *moved), text)
+
+
+def in_blocks(source: Source, opened: Sequence[int], each: int) -> Source:
+    """A source in blocks of these numbers of rounds, the outermost first; each: how many marks a round of the innermost has."""
+    blocks = []
+    for rounds in reversed(opened):
+        blocks.append((rounds, each))
+        each *= rounds
+    return source._replace(blocks=tuple(blocks))
 
 
 def are_alike(change: Change) -> bool:

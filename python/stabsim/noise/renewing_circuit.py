@@ -17,11 +17,11 @@ import numpy as np
 from stabsim.formats.combining import Numbers, columns_of
 from stabsim.noise.causes import Causes
 from stabsim.noise.changed_lines import (
-    DECLARING, Change, Counts, counts_of, counts_of_line, cut_with, list_begin, noisy_items, observables_in, quiet_lines, reach_of,
-    with_blocks,
+    DECLARING, Change, Counts, counts_of, counts_of_line, cut_with, list_begin, observables_in, placing, quiet_lines, reach_of, with_blocks,
 )
 from stabsim.noise.flipped import Bits, Flipped
-from stabsim.noise.marking import Marker, Source
+from stabsim.noise.marking import Source
+from stabsim.noise.pieces import Piece
 from stabsim.noise.renewal import Renewal, mechanisms_with, moved_by, renumbered
 from stabsim.noise.sourced import by_source, errors_at, rows_of_errors
 from stabsim.text.coordinates import detector_coordinates
@@ -29,7 +29,6 @@ from stabsim.text.coordinates import detector_coordinates
 if TYPE_CHECKING:
     from stabsim.noise.models import ErrorModel
 
-PLACING = ("DETECTOR", "SHIFT_COORDS")
 NUMBER = re.compile(r"\d+")
 # How many errors are asked for again, if that is not half of all or less, and how often the cut is moved further back.
 MOST_ASKED = 60_000
@@ -131,15 +130,14 @@ class Asked:
         """Asks the program about both texts at once."""
         first, mark = edit.change.first, " ".join(["I", *map(str, range(edit.qubits))])
         above, below = quiet_lines(edit.change.before[:cut]), edit.quiet[2]
-        marker = Marker(False)
-        between, number = marker.items(noisy_items(edit.change.after[cut:first], cut + 1), edit.qubits)
-        marker.lines.append(mark)
-        added, _ = marker.items(noisy_items(edit.change.new, first + 1), number + edit.qubits)
+        between = Piece.of(edit.change.after[cut:first], cut + 1, edit.qubits)
+        number = edit.qubits + between.marks
+        added = Piece.of(edit.change.new, first + 1, number + edit.qubits)
         old_lines = [*above, mark, *quiet_lines(edit.change.before[cut:first]), mark, *edit.quiet[0], *below]
         with ThreadPoolExecutor(1) as thread:
             old = thread.submit(Flipped.of, old_lines, edit.detectors, edit.observables)
-            new = Flipped.of([*above, mark, *marker.lines, *below], edit.detectors_after, edit.observables)
-        return cls(cut, old.result(), new, edit.qubits, number, between, added)
+            new = Flipped.of([*above, mark, *between.lines, mark, *added.lines, *below], edit.detectors_after, edit.observables)
+        return cls(cut, old.result(), new, edit.qubits, number, between.sources, added.sources)
 
     def is_as_before(self, edit: Edit) -> bool:
         """Whether all regions at the cut are as they were; in front of all lines nothing could be another."""
@@ -247,7 +245,7 @@ class Renewing:
         moved = moved_by(self.causes.sources[self.end :], len(change.new) - len(change.old))
         sources = (*self.causes.sources[: self.begin], *asked.added, *moved)
         found = renewal.model_of(np.concatenate([above, renewal.mechanisms[len(errors) :], below]), gone, sources, text)
-        if [it for it in change.old if it.lstrip().startswith(PLACING)] == [it for it in change.new if it.lstrip().startswith(PLACING)]:
+        if placing(change.old) == placing(change.new):
             return found
         return replace(found, coordinates=detector_coordinates("\n".join(quiet_lines(self.edit.change.after))))
 

@@ -20,13 +20,14 @@ from numpy.typing import NDArray
 
 from stabsim.errors import Refused
 from stabsim.formats.combining import Chances, Numbers, odd, rows_of, starts_of
-from stabsim.noise.causes import Causes, is_fed_back
+from stabsim.noise.causes import Causes
 from stabsim.noise.changed_lines import (
-    ALWAYS_QUIET, LOOKBACK, Change, counts_of, counts_of_line, cut_with, detector_numbers, is_detector, list_begin, list_end, noisy_items,
-    quiet_lines, tally,
+    ALWAYS_QUIET, LOOKBACK, Change, counts_of, counts_of_line, cut_with, detector_numbers, is_detector, list_begin, list_end, quiet_lines,
+    tally,
 )
 from stabsim.noise.flipped import Flipped
-from stabsim.noise.marking import Marker, Source
+from stabsim.noise.marking import Source
+from stabsim.noise.pieces import Piece
 from stabsim.noise.renewal import NONE, Renewal, mechanisms_with, renumbered
 from stabsim.noise.sourced import errors_at, flips_of
 from stabsim.text.coordinates import detector_coordinates
@@ -95,12 +96,12 @@ class Declared:
         """Where that block ends, or the edit itself."""
         return list_end(self.change.after, self.change.first + len(self.change.new))
 
-    @property
+    @cached_property
     def rounds(self) -> int:
         """How many rounds that block has, 1 if there is none."""
         return self.opened[1][0] if self.opened[1:] else 1
 
-    @property
+    @cached_property
     def new_each_round(self) -> int:
         """How many detectors of each of these rounds are new."""
         return len(self.new_numbers) // self.rounds
@@ -110,7 +111,7 @@ class Declared:
         if self.rounds <= FEWEST_ROUNDS:
             return self.rounds
         block = [line for line in self.change.after[self.begin + 1 : self.end - 1] if not line.lstrip().startswith(QUIET)]
-        if is_fed_back("\n".join(block)):
+        if any("rec[" in line for line in block):
             return self.rounds
         records = counts_of(quiet_lines(block)).records
         return min(self.rounds, max(FEWEST_ROUNDS, 1 - -self.reach // max(records, 1)))
@@ -259,15 +260,15 @@ class Part:
             lines[place - self.cut] = change.after[place]
         if self.rounds < edit.rounds:
             lines[begin] = f"REPEAT {self.rounds} {{"
-        marker, mark = Marker(False), " ".join(["I", *map(str, range(qubits))])
-        before, block_mark = marker.items(noisy_items(lines[:begin], self.cut + 1), qubits)
-        marker.lines.append(mark)
-        inside, _ = marker.items(noisy_items(lines[begin:], edit.begin + 1), block_mark + qubits)
+        mark = " ".join(["I", *map(str, range(qubits))])
+        before = Piece.of(lines[:begin], self.cut + 1, qubits)
+        block_mark = qubits + before.marks
+        inside = Piece.of(lines[begin:], edit.begin + 1, block_mark + qubits)
         try:
-            table = Flipped.of([mark, *marker.lines], self.rounds * edit.new_each_round, 0)
+            table = Flipped.of([mark, *before.lines, mark, *inside.lines], self.rounds * edit.new_each_round, 0)
         except Refused:
             return [], 0, None
-        return [*before, *inside], block_mark, table
+        return [*before.sources, *inside.sources], block_mark, table
 
     def times_in_all(self, source: Source, edit: Declared) -> int:
         """How often an error of it is met in all rounds of the block."""

@@ -5,7 +5,7 @@ from bisect import bisect_right
 from collections import defaultdict
 from collections.abc import Iterable, Iterator, Sequence
 from dataclasses import dataclass, field
-from itertools import accumulate
+from itertools import accumulate, count
 
 from stabsim.text.names import HERALDED, MEASURING, PAIRS
 from stabsim.text.reading import Block, Instruction, Item
@@ -50,23 +50,18 @@ class Level:
 
     old: list[Node] = field(default_factory=list)
     new: list[Node] = field(default_factory=list)
-    # How many records of the list are in front of each item, and of its end; the places of the nodes; where its records are.
+    # How many records of the list are in front of each item, and of its end, and all in all; the places of the nodes; where those of the list's
+    # records are that its own instructions made.
     had_before: list[int] = field(init=False)
     has_before: list[int] = field(init=False)
+    had: int = field(init=False)
+    has: int = field(init=False)
     place_was: dict[int, int] = field(init=False)
     place: dict[int, int] = field(init=False)
-    went: dict[tuple[int, int], int] = field(init=False)
+    went: dict[int, int] = field(init=False)
     follows: bool = field(init=False)
     # For each item that was there the run of items that moved alike, and by how many records they did, or None.
     runs: list[tuple[int, int | None]] = field(init=False)
-
-    @property
-    def had(self) -> int:
-        return self.had_before[-1]
-
-    @property
-    def has(self) -> int:
-        return self.has_before[-1]
 
     def settle(self) -> None:
         """Finds out where each record of the list went, and whether lookbacks in it follow."""
@@ -76,6 +71,7 @@ class Level:
                 node.inside.settle()
         self.had_before = list(accumulate((it.had for it in self.old), initial=0))
         self.has_before = list(accumulate((it.has for it in self.new), initial=0))
+        self.had, self.has = self.had_before[-1], self.has_before[-1]
         self.place_was = {id(node): place for place, node in enumerate(self.old)}
         self.place = {id(node): place for place, node in enumerate(self.new)}
         self.follows = any(it.inside.follows if it.inside else bool(it.following) for it in self.new)
@@ -107,11 +103,11 @@ class Level:
 
     def position(self, number: int) -> int | None:
         """How many records of the list are in front of one, of which `number` were; None if it is gone."""
+        if number in self.went:
+            return self.went[number]
         place = bisect_right(self.had_before, number) - 1
         node, offset = self.old[place], number - self.had_before[place]
-        if not node.inside:
-            return self.went.get((id(node), offset))
-        if id(node) not in self.place:
+        if not node.inside or id(node) not in self.place:
             return None
         # The last rounds stay the last, if there are more or fewer than there were.
         round_number, within = divmod(offset, node.inside.had)
@@ -173,25 +169,25 @@ def runs_of(level: Level) -> Iterator[tuple[int, int | None]]:
         yield number, shift
 
 
-def records_in_list(level: Level) -> dict[tuple[int, int], int]:
-    """Where each record that the list's own instructions made is now: (node, number in it) to how many of the list are in front. A record
+def records_in_list(level: Level) -> dict[int, int]:
+    """Where each record that the list's own instructions made is now: how many of the list were in front of it, to how many are. A record
     is of the same measurement if that has the same qubits and item, or, in another item, the same name too."""
-    went: dict[tuple[int, int], int] = {}
+    went: dict[int, int] = {}
     left: list[tuple[Node, int, str]] = []
     found: dict[tuple[int, str], list[int]] = defaultdict(list)
-    for node in level.new:
-        if node.now is node.was and not node.inside:
-            first = level.has_before[level.place[id(node)]]
-            went.update({(id(node), number): first + number for number in range(node.had)})
-        elif not node.inside:
-            first = level.has_before[level.place[id(node)]]
+    for node, first, end in zip(level.new, level.has_before, level.has_before[1:]):
+        if first == end or node.inside:
+            continue
+        if node.now is node.was:
+            went.update(zip(count(level.had_before[level.place_was[id(node)]]), range(first, end)))
+        else:
             for number, target in enumerate(measured(node.now)):
                 found[id(node), target].append(first + number)
-    for node in level.old:
+    for node, first in zip(level.old, level.had_before):
         is_known = node.inside or node.now is node.was and id(node) in level.place
-        for number, target in enumerate(() if is_known else measured(node.was)):
+        for number, target in enumerate(() if is_known else measured(node.was), start=first):
             if found[id(node), target]:
-                went[id(node), number] = found[id(node), target].pop(0)
+                went[number] = found[id(node), target].pop(0)
             else:
                 left.append((node, number, target))
     elsewhere: dict[tuple[str, str], list[int]] = defaultdict(list)
@@ -201,7 +197,7 @@ def records_in_list(level: Level) -> dict[tuple[int, int], int]:
     for node, number, target in left:
         same = elsewhere[node.was.name if node.was else "", target]
         if same:
-            went[id(node), number] = same.pop(0)
+            went[number] = same.pop(0)
     return went
 
 

@@ -209,12 +209,13 @@ def lookback(frames: Sequence[Frame], was_at: int, at: int, back: int) -> int | 
     far = 0
     for frame in reversed(frames):
         level = frame.level
-        before, far = level.had_before[was_at], far + level.has_before[at]
-        earlier = -(-(back - before) // level.had) if back > before and level.had else 0
-        if back <= before or earlier <= frame.round_number and level.had:
-            now = level.position(before - back + earlier * level.had if back <= before else earlier * level.had - (back - before))
+        back, far = back - level.had_before[was_at], far + level.has_before[at]
+        # In how many rounds before its own it is, if it is in this block.
+        earlier = -(-back // level.had) if back > 0 and level.had else 0
+        if back <= 0 or level.had and earlier <= frame.round_number:
+            now = level.position(earlier * level.had - back)
             return None if now is None else far + earlier * level.has - now
-        back -= before + frame.round_number * level.had
+        back -= frame.round_number * level.had
         far += frame.round_number * level.has
         was_at, at = frame.was_at, frame.at
     raise ValueError("a lookback reaches in front of the circuit")
@@ -249,7 +250,7 @@ def records_of(level: Level) -> NDArray[np.int64]:
         first = level.had_before[place]
         if not node.inside:
             for number in range(node.had):
-                found[first + number] = level.went.get((id(node), number), -1)
+                found[first + number] = level.went.get(first + number, -1)
         elif id(node) in level.place and node.inside.had:
             within = records_of(node.inside)
             rounds = np.arange(node.had // node.inside.had)[:, None] + node.more_rounds

@@ -26,6 +26,9 @@ export const code = (words) => element("code", "", words);
 export const quiet = (words, name = "p") => element(name, "none", words);
 export const title = (words, small) => element("h3", "", words, ...(small ? [" ", element("small", "", small)] : []));
 
+// What is said where there is room for it.
+export const wide = (words) => element("span", "wide", words);
+
 // A button that looks like a link.
 export function link(words, act) {
   const button = element("button", "link", words);

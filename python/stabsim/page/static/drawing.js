@@ -5,7 +5,7 @@
 // ways, neighbours, chosen}, with what is drawn for the pointer: {pending, spots, frame}; a view says where a place is seen: {scale, x, y, width, height,
 // near}. A drawing follows from both, wherever it is written. What gates look like says the table of shapes alone (marks.js).
 
-import { PITCH, circle, gates, table } from "./glyphs.js";
+import { circle, gates, sideAt, table } from "./glyphs.js";
 import { groundElements, gutterElements } from "./ground_drawing.js";
 import { PAULIS, actionsOf, isControlled, qubitsOf } from "./instructions.js";
 import { marksOf } from "./marks.js";
@@ -50,7 +50,7 @@ export class Kept {
 export function layersOf(scene, view, kept) {
   kept.take(scene, view);
   const pitch = view.scale * view.near;
-  const side = Math.max(3, Math.min(40, pitch * PITCH));
+  const side = sideAt(pitch);
   const at = (qubit) => {
     const place = scene.places.get(qubit);
     return place && [view.x + place[0] * view.scale, view.y + place[1] * view.scale];

@@ -87,7 +87,7 @@ export class EntryView {
     this.#find("#refusal").textContent = refused;
     this.#find("#fault").textContent = shown;
     this.#showCarets(this.#find("#fault"));
-    this.#find("#why").textContent = why;
+    this.#sayWhy(why);
     return why;
   }
 
@@ -104,11 +104,16 @@ export class EntryView {
     this.#form.classList.remove("bad");
     this.#find("#refusal").textContent = "";
     this.#find("#fault").textContent = "";
-    this.#find("#why").textContent = this.#path === null ? "Choose an item to change it." : HINT;
+    this.#sayWhy(this.#path === null ? "Choose an item to change it." : HINT);
     // An edit inside a block is one of each of its rounds; one round can be taken out first.
     this.#find("#rounds").hidden = this.#count < 2;
     this.#find("#rounds-said").textContent = `changes all ${this.#count} rounds;`;
     this.#find("#round").max = this.#count - 1;
+  }
+
+  #sayWhy(words) {
+    this.#find("#why").textContent = words;
+    this.#find("#why").classList.toggle("hint", words === HINT);
   }
 
   // With several lines there is more room for them.
@@ -153,6 +158,6 @@ export class EntryView {
     if (!found) return;
     event.preventDefault();
     this.#field.setRangeText(found.words, selectionStart - found.typed.length, selectionStart, "end");
-    this.#find("#why").textContent = found.names.length > 1 ? found.names.join(" ") : HINT;
+    this.#sayWhy(found.names.length > 1 ? found.names.join(" ") : HINT);
   }
 }

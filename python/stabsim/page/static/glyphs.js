@@ -11,6 +11,9 @@ export { table };
 export const { hatch } = table;
 export { drawn as gates } from "./instructions.js";
 export const PITCH = table.glyph_of_pitch;
+// The side of a glyph, by how far neighbouring qubits are seen from each other.
+/** @param {number} pitch */
+export const sideAt = (pitch) => Math.max(3, Math.min(40, pitch * PITCH));
 
 const WHOLE = 2 * Math.PI;
 

@@ -7,8 +7,11 @@ const ALL_FROM = 20;
 // How near numbers at the edges are at most, in pixels.
 const LEAST_STEP = 24;
 // How wide the gutters of the numbers are, at the left and at the top.
-const LEFT = 32;
-const TOP = 22;
+export const LEFT = 32;
+export const TOP = 22;
+// How far from its middle a letter of a number reaches across, and its lines down, in pixels.
+const HALF_LETTER = 4.5;
+const HALF_LINE = 8;
 
 const HINT = ["Press q, and click where a qubit shall be.", "A circuit may be dropped here, pasted or opened."];
 
@@ -38,8 +41,8 @@ export function gutterElements({ scene, view: { scale, x, y, width, height } }) 
   if (!scene.hasCoordinates) return [];
   const step = [1, 2, 5, 10, 20, 50].find((it) => it * scale >= LEAST_STEP) ?? 100;
   const said = { size: 12.5, fill: "quiet" };
-  const across = numbers(x, width, scale, step).filter(([, at]) => at > LEFT + 8).map(([words, at]) => ({ ...said, words, x: at, y: TOP / 2 }));
-  const down = numbers(y, height, scale, step).filter(([, at]) => at > TOP + 6).map(([words, at]) => ({ ...said, words, x: LEFT - 5, y: at, align: "right" }));
+  const across = numbers(x, width, scale, step).filter(([words, at]) => at > LEFT + 8 && at + words.length * HALF_LETTER < width).map(([words, at]) => ({ ...said, words, x: at, y: TOP / 2 }));
+  const down = numbers(y, height, scale, step).filter(([, at]) => at > TOP + 6 && at + HALF_LINE < height).map(([words, at]) => ({ ...said, words, x: LEFT - 5, y: at, align: "right" }));
   return [
     { boxes: [[0, 0, width, TOP], [0, 0, LEFT, height]], fill: "sheet" }, { boxes: [[LEFT, TOP, width, 1], [LEFT, TOP, 1, height]], fill: "hair" },
     ...across, ...down,

@@ -30,7 +30,7 @@ export class Inspector {
   qubit(about, where) {
     const { qubit, kind, at, name, path, count, noise, more } = about ?? {};
     fillOnce(this.#boxes.qubit, [about, where], () => {
-      if (!about) return [title("No qubit chosen", where)];
+      if (!about) return [title("No qubit chosen"), line(where)];
       const place = at ? ` at (${at.join(", ")})` : "";
       const item = name ? [code(name), " of item ", this.#itemButton(path)] : ["idle here"];
       return [title(`Qubit ${qubit}`, `${kind}${place}${more ? `, and ${more} more` : ""}`), line(where), line(...item), ...(count ? [line(saidOften(count))] : []), ...noise.map((it) => line(code(it.words), " of item ", this.#itemButton(it.path)))];

@@ -302,6 +302,8 @@ async function writtenText() {
 
 const share = () => writtenText().then(shared).then(say, (fault) => say(fault.message, true));
 
+const isCut = ({ scrollWidth, clientWidth, scrollHeight, clientHeight }) => scrollWidth > clientWidth || scrollHeight > clientHeight;
+
 function openKind(kind) {
   if (views.text.selected !== null) write(kind, pathOf(views.text.selected), views.text.item);
 }
@@ -330,6 +332,7 @@ const clicks = {
   smaller: () => views.layout.zoom(0.8),
   greater: () => views.layout.zoom(1.25),
   fit: () => views.layout.fit(),
+  message: () => isCut(by("message")) && menu.open(by("message"), by("message").getBoundingClientRect(), [[by("message").title, () => {}]]),
   drawer: () => menu.open(by("drawer"), by("drawer").getBoundingClientRect(), [[`without a place: ${shown.state.placement.drawer.join(" ")}`.slice(0, 200), () => {}]]),
 };
 for (const [id, act] of Object.entries(clicks)) by(id).addEventListener("click", act);

@@ -1,6 +1,7 @@
 // @ts-check
 // What is said of the moment that is shown, of a qubit there, and of a detector. Rounds are counted from 0, as all else is.
 
+import { wide } from "./boxes.js";
 import { by } from "./by_id.js";
 import { momentsOf, nameOf } from "./moments.js";
 import { saidOfRegion } from "./regions.js";
@@ -14,7 +15,9 @@ export function sayMoment({ state: { items }, moment, instructions }) {
   const block = path.slice(0, rounds.length).reduce((list, place) => (list.items ?? list)[place], items);
   const said = rounds.length ? saidOfRound(path.slice(0, rounds.length), rounds.at(-1), block.count) : "outside blocks";
   by("moment-said").textContent = `tick ${name}`;
-  by("round-said").textContent = rounds.length ? said : "";
+  const [round, more] = rounds.length ? said.split(/(?= of block)/) : ["", ""];
+  by("round-said").replaceChildren(round, wide(more));
+  by("round-said").title = rounds.length ? said : "";
   const slider = by("timeline");
   slider.ariaValueMax = String(momentsOf(items) - 1);
   slider.ariaValueNow = String(moment);

@@ -1,7 +1,14 @@
 // @ts-check
 // Where places of the grid are seen on a picture: all of them fitted in, or zoomed and panned.
 
-const MARGIN = { left: 48, right: 40, top: 44, bottom: 34 };
+import { sideAt } from "./glyphs.js";
+import { LEFT, TOP } from "./ground_drawing.js";
+
+// How much room there is beside the outermost places at least: at the edges where no gutter is; and for what is drawn of a qubit, as a ring with a letter
+// and the number of its layer, in sides of a glyph and some pixels, across and down.
+const MARGIN = { right: 40, bottom: 34 };
+const REACH = [1.15, 1];
+const RIM = 4;
 // How far apart neighbouring qubits are at most when all are fitted in, and at any zoom, in pixels.
 const MOST_FITTED = 104;
 const MOST = 200;
@@ -55,13 +62,18 @@ export class Sight {
     const [width, height] = this.#size;
     if (!this.#box || !width) return;
     const { left, right, top, bottom } = this.#box;
-    const end = MARGIN.bottom + this.#below;
-    const room = [width - MARGIN.left - MARGIN.right, height - MARGIN.top - end];
-    this.#fitted = Math.max(1e-3, Math.min(room[0] / (right - left || 1), room[1] / (bottom - top || 1), MOST_FITTED / this.#near));
+    const scaleIn = (room) => Math.max(1e-3, Math.min((width - room.left - room.right) / (right - left || 1), (height - room.top - room.bottom) / (bottom - top || 1), MOST_FITTED / this.#near));
+    // With more room at the edges glyphs are smaller, and so have enough.
+    const room = this.#roomBeside(sideAt(scaleIn(this.#roomBeside(0)) * this.#near));
+    this.#fitted = scaleIn(room);
     this.#scale = this.#fitted;
-    this.#at = [
-      (width + MARGIN.left - MARGIN.right - this.#fitted * (left + right)) / 2, (height + MARGIN.top - end - this.#fitted * (top + bottom)) / 2,
-    ];
+    this.#at = [(width + room.left - room.right - this.#fitted * (left + right)) / 2, (height + room.top - room.bottom - this.#fitted * (top + bottom)) / 2];
+  }
+
+  // The room beside the outermost places that glyphs of a side ask for.
+  #roomBeside(side) {
+    const [across, down] = REACH.map((part) => part * side + RIM);
+    return { left: LEFT + across, right: Math.max(MARGIN.right, across), top: TOP + down, bottom: Math.max(MARGIN.bottom, down) + this.#below };
   }
 
   // Zooms by a factor, so that the spot given stays where it is.

@@ -1,6 +1,7 @@
 // @ts-check
 // The circuit as a text that is edited as one. Ctrl-Enter has the circuit become what is written, as one entry of the history.
 
+import { element } from "./boxes.js";
 import { by, fieldBy } from "./by_id.js";
 import { commandOf } from "./keys.js";
 
@@ -40,6 +41,7 @@ export class SourceView {
     by("source-said").textContent = "";
     fieldBy("source-text").focus();
     fieldBy("source-text").setSelectionRange(0, 0);
+    fieldBy("source-text").scrollTo(0, 0);
   }
 
   close() {
@@ -82,10 +84,22 @@ export class SourceView {
     const lines = fieldBy("source-text").value.split("\n");
     const begin = lines.slice(0, Number(number[1]) - 1).reduce((sum, it) => sum + it.length + 1, 0);
     const from = begin + carets.indexOf("^") - number[0].length;
-    fieldBy("source-text").setSelectionRange(from, from + carets.lastIndexOf("^") + 1 - carets.indexOf("^"));
-    // A field scrolls to what is chosen in it when it gets the focus, and not when that is chosen.
-    fieldBy("source-text").blur();
     fieldBy("source-text").focus();
+    fieldBy("source-text").setSelectionRange(from, from + carets.lastIndexOf("^") + 1 - carets.indexOf("^"));
+    this.#bringIntoSight(from);
+  }
+
+  // Scrolls so that a letter is in the middle: where it is says a mirror of the text in front of it.
+  #bringIntoSight(place) {
+    const field = fieldBy("source-text");
+    const mirror = element("div", field.wrap === "soft" ? "mirror wrapped" : "mirror", field.value.slice(0, place));
+    mirror.style.width = field.wrap === "soft" ? `${field.clientWidth}px` : "max-content";
+    const mark = element("span", "", "|");
+    mirror.append(mark);
+    document.body.append(mirror);
+    field.scrollTop = mark.offsetTop - field.clientHeight / 2;
+    field.scrollLeft = mark.offsetLeft - field.clientWidth / 2;
+    mirror.remove();
   }
 
   #wrap() {

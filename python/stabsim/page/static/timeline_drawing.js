@@ -18,6 +18,9 @@ const TICKS = 30;
 // From where to where the marks of ticks reach, and from which width of a moment on they are drawn.
 export const MARKS = [20.5, 27];
 const MARKS_FROM = 10;
+// From which width on numbers of ticks are beside each other, and how far down a mark reaches above those that are not.
+const APART = 26;
+const ABOVE_NUMBERS = 24.5;
 export const OPERATIONS = 49;
 // The greatest glyph, so that its letter has 12.5 pixels.
 const OPERATION = 19;
@@ -69,7 +72,7 @@ function bands({ line, first, last, x, step, height }) {
 }
 
 function ticks({ line, shown, first, last, x, step }) {
-  const every = [1, 2, 5, 10, 20, 50, 100].find((it) => it * step >= 26) ?? 200;
+  const every = [1, 2, 5, 10, 20, 50, 100].find((it) => it * step >= APART) ?? 200;
   const side = Math.min(OPERATION, step * 0.84);
   const elements = [];
   for (let moment = first; moment <= last; moment += 1) {
@@ -89,8 +92,9 @@ function ticks({ line, shown, first, last, x, step }) {
 function tickMarks({ shown: { items }, first, last, x, step }) {
   if (step < MARKS_FROM) return [];
   const path = [];
+  const low = step < APART ? ABOVE_NUMBERS : MARKS[1];
   for (let moment = first; moment <= last; moment += 1) {
-    if (endsByTick(items, moment)) path.push(["M", x(moment + 0.5), MARKS[0]], ["L", x(moment + 0.5), MARKS[1]]);
+    if (endsByTick(items, moment)) path.push(["M", x(moment + 0.5), MARKS[0]], ["L", x(moment + 0.5), low]);
   }
   return path.length ? [{ path, stroke: "edge", width: 2 }] : [];
 }

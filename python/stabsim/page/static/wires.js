@@ -12,6 +12,8 @@ export const ROW = 34;
 export const STEP = 46;
 export const LEFT = 46;
 export const HEAD = 22;
+// How far the number of a partner reaches below its line.
+export const FOOT = 2;
 // So that two letters have 12.5 pixels; and of what has none.
 const SIDE = 24.1;
 const PAIR = 18;
@@ -87,7 +89,7 @@ function drawAct(layers, { places, glyphs, partners }, x, y, busy) {
   places.forEach((line, i) => layers.glyphs.push({ ...glyphs[i], x, y: y(line), side: glyphs[i].label ? SIDE : PAIR }));
   if (!partners.length) return;
   const words = partners.length > 1 ? `${partners[0]} …` : String(partners[0]);
-  layers.letters.push({ words, x: x + 3, y: y(bottom) + ROW / 2 - 4, size: 12.5, fill: "quiet", align: "left", halo: "sheet" });
+  layers.letters.push({ words, x, y: y(bottom) + ROW / 2 - 4, size: 12.5, fill: "quiet", halo: "sheet" });
 }
 
 // At the end of a moment the letters that marks have come to, those of several layers over each other, and a ring round what was put in there.

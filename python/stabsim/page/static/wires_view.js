@@ -2,7 +2,7 @@
 // The chosen qubits over time, below the picture: a click goes to a moment.
 
 import { CanvasPen } from "./canvas_pen.js";
-import { HEAD, LEFT, ROW, STEP, momentsIn, wiresOf } from "./wires.js";
+import { FOOT, HEAD, LEFT, ROW, STEP, momentsIn, wiresOf } from "./wires.js";
 
 // How many qubits have a line at most.
 const MOST_LINES = 12;
@@ -38,7 +38,7 @@ export class WiresView {
     const qubits = shown.qubits.slice(-MOST_LINES);
     this.#shown = { ...shown, qubits };
     this.#place.querySelector("p").hidden = qubits.length > 0;
-    const height = `${HEAD + Math.max(1, qubits.length) * ROW}px`;
+    const height = `${HEAD + Math.max(1, qubits.length) * ROW + FOOT}px`;
     if (this.#canvas.style.height !== height) this.#canvas.style.height = height;
     this.draw();
   }
