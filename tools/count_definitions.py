@@ -20,7 +20,7 @@ THEOREMS = {
     "stabilisers": ["stab_commands.Stabilisers.EndsStabilisers"],
     "deterministic": ["stab_report.Deterministic.EndsDeterministic"],
     "faults, coins and deterministic --explain": [
-        "stab_report.FaultTables.EndsFaults", "stab_report.CoinTables.EndsCoins", "stab_report.Reasons.EndsExplain"],
+        "stab_report.SingleErrorTables.EndsFaults", "stab_report.CoinTables.EndsCoins", "stab_report.Reasons.EndsExplain"],
     "distance": ["stab_report.Questions.EndsQuestion"],
     "errors everywhere": [
         "stab_error_model.EverywhereLaws.WrongRecordsAreInverted", "stab_error_model.EverywhereLaws.LettersAreErrors", "stab_error_model.EverywhereLaws.StringsAreErrors"],
@@ -33,7 +33,7 @@ THEOREMS = {
     "what an edit costs": ["stab_session::apply"],
     "laws": [
         "stab_tableau::gates_keep_sound", "stab_tableau::outcomes_keep_sound", "stab_tableau::members_are_a_group",
-        "stab_tableau::free_where_anticommuting", "stab_run::same_future", "stab_tableau::traces_have_one_list", "stab_search::parts_are_whole",
+        "stab_tableau::random_where_anticommuting", "stab_run::same_future", "stab_tableau::traces_have_one_list", "stab_search::parts_are_whole",
         "stab_circuit::printed_items_are_read_back"],
     "what the program calls": [
         "stab_args::parse_words", "stab_args::read_coins", "stab_cli::run_job_watched", "stab_cli::write_usage", "stab_report::write_fault"],

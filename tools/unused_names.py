@@ -17,8 +17,6 @@ WORD = re.compile(r"[^\s(){}\[\],;.:=→λ|&!*<>/?\"']+(?:'[^\s(){}\[\],;.:=→�
 ITEM = re.compile(r"\b(?:fn|struct|enum|trait|const|type)\s+(\w+)")
 SIGNED = re.compile(r"\s*(?:(?:abbrev|opaque|pub|record|data)\s+)*([^\s(){}\[\],;:=→λ]+)(?:\s+[({][^)}]*[)}])*\s*:(?!:)")
 RECORD = re.compile(r"\s*(?:abbrev\s+|pub\s+)*(?:record|data)\s+[^{]*where")
-# Lemmas that nothing uses, and that go with the next change of their crate.
-LEFT = ("numbers-there",)
 MODIFIERS = ("pub", "abbrev", "opaque", "record", "data")
 # What the first line of an equation has.
 HEAD = re.compile(r" =( |$)")
@@ -66,7 +64,7 @@ def unused() -> list[tuple[Path, str]]:
         used.update(words)
         if file.name not in ("Answers.antt", "Invariants.antt"):
             made += [(file, name) for name in names]
-    return [(file, name) for file, name in made if used[name] <= 0 and name not in LEFT]
+    return [(file, name) for file, name in made if used[name] <= 0]
 
 
 def main() -> int:

@@ -161,8 +161,8 @@ class Run:
             self.carry_out(step)
 
     def measure(self, factors: Factors, inverted: int, recorded: bool, resets: bool) -> None:
-        outcome, is_free = self.state.measure(factors, self.coin(len(self.free)))
-        self.free.append(is_free)
+        outcome, is_random = self.state.measure(factors, self.coin(len(self.free)))
+        self.free.append(is_random)
         if recorded:
             self.records.append(outcome ^ inverted)
         if resets:

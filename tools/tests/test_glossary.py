@@ -12,15 +12,18 @@ NOT_USED = tuple(word for cells in rows_below(text_of(GLOSSARY), "| Not | But |"
 # Those that some crates don't use, each with such a crate.
 NOT_USED_IN = {(word, crate) for words, _, crates in rows_below(text_of(GLOSSARY), "| Not | But | In |") for word in quoted(words) for crate in quoted(crates)}
 FILES = [name for name in files_of_git("-co", "--exclude-standard", "crates") if re.match(r"crates/\w+/(?:src|specs|proofs)/.*\.(?:rt|antt)$", name)]
+# A definition of specs/, in the first line of its type.
+DEFINED = re.compile(r"^(?:abbrev |opaque )?pub (?:record |data )?([\w'-]+)(?: \(.*?\)| \{.*?\})* :", re.MULTILINE)
 PART = re.compile(r"[A-Z]?[a-z]+|[A-Z]+(?![a-z])")
 NAME = re.compile(r"[A-Za-z_]\w*")
 # Names of the standard library.
-OF_LIBRARY = re.compile(r"\b(?:leb|eqb)_tells\b")
+OF_LIBRARY = re.compile(r"\b(?:(?:leb|eqb)_tells|is_simple_and_free)\b")
 # What is said of things that don't move, and the line of a script that makes a bookmark.
 OF_OTHER_MEANING = re.compile(r"\bin place\b|\"mark\"|`mark`")
 # Names that still have a word that their crate does not use: none is added here.
 NAMES_LEFT = {
-    "FaultPlace", "Place", "PlaceLemmas", "Places", "each_after_place", "first_place", "next_place", "one_places", "place_before", "place_of",
+    "Fault",
+    "Places", "each_after_place", "first_place", "next_place", "place_before",
 }
 # Words that are still where they are not to be used: no line is added here.
 STANDING = {
@@ -30,7 +33,7 @@ STANDING = {
     ("framed", "crates/stab_jobs/"),
     ("framed", "crates/tests_program/src/"),
     ("framed", "crates/stab_frames/specs/PropagatedTableaus.antt"),
-    ("apart", "crates/stab_ways/proofs/FrontLemmas.antt"),
+    ("apart", "crates/stab_ways/proofs/FirstStepLemmas.antt"),
     ("turned", "crates/stab_items/proofs/StepPathLemmas.antt"),
     ("copies of the state", "crates/stab_circuit/specs/Limits.antt"),
     ("copy of the state", "crates/stab_frames/src/run_laws.rt"),
@@ -89,6 +92,23 @@ def test_no_name_or_comment_of_a_crate_has_a_word_that_it_does_not_use() -> None
     assert {("place", "stab_run"), ("mark", "stab_script")} <= NOT_USED_IN
     found = [f"{name}:{line}: {word}" for name, word, line in in_their_crates()]
     assert not found, "\n".join(found)
+
+
+def test_free_is_a_name_by_itself_alone() -> None:
+    for name in FILES:
+        text = OF_LIBRARY.sub("", text_of(TOP / name))
+        longer = [it for it in set(NAME.findall(text)) if it.lower() != "free" and "free" in map(str.lower, PART.findall(it))]
+        comments = re.findall(r"^[ \t]*(?://|--).*\bfree\b.*", text, re.MULTILINE)
+        assert not longer + comments, name
+
+
+def test_no_two_definitions_have_one_name() -> None:
+    files: dict[str, set[str]] = {}
+    for name in FILES:
+        for it in DEFINED.findall(text_of(TOP / name)) if "/specs/" in name else ():
+            files.setdefault(it, set()).add(name)
+    assert len(files) > 1000
+    assert not {it: sorted(names) for it, names in files.items() if len(names) > 1}
 
 
 def test_each_name_that_is_left_is_there() -> None:

@@ -181,12 +181,8 @@ def comments_of(file: Path) -> str:
     return re.sub(r'^[ \t]+|"[^"\n]*"', "", "".join(comments), flags=re.MULTILINE)
 
 
-# A comment that goes with the next change of its crate.
-LEFT_IN_COMMENTS = "crates/stab_regions/proofs/LeftLemmas.antt:44: "
-
-
 def test_comments_have_no_phrase_that_has_a_plainer_form() -> None:
     phrases = {phrase.replace(" ", r"[ \n]"): better for phrase, better in PLAINER_IN_COMMENTS.items()}
     files = [TOP / name for name in FILES if name.startswith(COMMENTED)]
     found = (it for file in files if file.suffix in COMMENTS for it in plainer(name_of(file), comments_of(file), phrases, re.IGNORECASE))
-    expect_none(it for it in found if not it.startswith(LEFT_IN_COMMENTS))
+    expect_none(found)
