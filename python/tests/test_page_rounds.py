@@ -69,6 +69,15 @@ def test_ticks_are_chosen_on_the_timeline_copied_and_put_in(page):
     page.wait(lambda: page.circuit() == CODE)
 
 
+def exchange_lines(page, *paths):
+    """Clicks lines with Ctrl."""
+    page.settle()
+    chain = ActionChains(page.browser, duration=0).key_down(Keys.CONTROL)
+    for path in paths:
+        page.point_at(f"#text .row[data-path='{path}'] .name", chain=chain).click()
+    chain.key_up(Keys.CONTROL).perform()
+
+
 def test_lines_that_are_apart_are_chosen_by_ctrl_copied_and_taken_out(page):
     page.choose("0")
     exchange_lines(page, "2", "5", "7", "5")
@@ -186,11 +195,6 @@ def test_qubits_are_moved_and_turned_with_their_coordinates(open_page):
     page.wait(lambda: lines(page)[3:5] == ["QUBIT_COORDS(3, 1) 3", "QUBIT_COORDS(0, 1) 4"])
     page.press("z", held=[Keys.CONTROL])
     page.wait(lambda: lines(page)[3] == "QUBIT_COORDS(0, 1) 3 4")
-    # All that are chosen go with the one that is dragged.
-    page.choose_qubit(1, 2)
-    page.drag(page.spot(2), page.spot_of_place(3, 2), held=Keys.ALT)
-    page.wait(lambda: lines(page)[1:3] == ["QUBIT_COORDS(3, 1) 1", "QUBIT_COORDS(3, 2, 5) 2"])
-    assert page.chosen() == [1, 2]
 
 
 CORNER = "QUBIT_COORDS(0, 0) 0\nQUBIT_COORDS(3, 0, 5) 1\nQUBIT_COORDS(0, 1) 2\nQUBIT_COORDS(1, 2) 3\nR 0 1 2 3\n"
