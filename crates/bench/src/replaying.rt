@@ -13,7 +13,7 @@ use std::time::{CpuClock, Duration};
 /// The best of this many edits counts, since other programs disturb the rest.
 const EDITS: u32 = 5;
 
-/// Checkpoints are kept at most this many steps from each other.
+/// Checkpoints are stored at most this many steps from each other.
 const STRIDE: usize = 8192;
 
 /// What ends the line of a circuit, with the headings of the table of its edits.
@@ -100,13 +100,13 @@ fn print_opening<R: CpuClock + Files + AllocGlobal + Print>(
     before: f64,
 ) -> Result<(), Failure> {
     let open = clock::since(rt, start)? * 1e3;
-    let kept = resident(rt)? - before;
+    let preserved = resident(rt)? - before;
     let circuit = session.circuit();
     let parts = [
         ("", nearest_usize_to_f64(circuit.items().len()), 0),
         (" items, ", nearest_usize_to_f64(circuit.steps()), 0),
         (" steps, open ", open, 1),
-        (" ms, ", kept, 1),
+        (" ms, ", preserved, 1),
     ];
     print_sentence(rt, &parts, HEADINGS)
 }

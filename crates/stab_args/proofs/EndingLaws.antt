@@ -1,12 +1,12 @@
 -- How reading the words of a command line ends.
-use Rattle.stab_args.proofs.Names.{◌≡◌, List, Option, Some, None, option_map, IfOk, true, inl, inr, refl, sym, subst, ap, ap₂, Result, Ok, Err, IfErr, App, HasKind, Row, Text, found_of, is_simple, kind_of, rows_of, subcommand_name_of, subcommand_rows_of, fault_of, box_value, ArgMatches, out-ArgMatches, out-SubCommand, Error, OutOfMemory, KeptNames, stabsim, EndsBy, IsJob, IsReported, RefusesOptions, TakesCommand, Usage, Memory, Job}
+use Rattle.stab_args.proofs.Names.{◌≡◌, List, Option, Some, None, option_map, IfOk, true, inl, inr, refl, sym, subst, ap, ap₂, Result, Ok, Err, IfErr, App, HasKind, Row, Text, found_of, is_simple, kind_of, rows_of, subcommand_name_of, subcommand_rows_of, fault_of, box_value, ArgMatches, out-ArgMatches, out-SubCommand, Error, OutOfMemory, StoredNames, stabsim, EndsBy, IsJob, IsReported, RefusesOptions, TakesCommand, Usage, Memory, Job}
 use Rattle.clap.specs.Faults.{is_simple_and_free}
 
 -- the reader has its own account of these commands
-pub has_account : (names : KeptNames) → is_simple (stabsim names) ≡ true
+pub has_account : (names : StoredNames) → is_simple (stabsim names) ≡ true
 has_account names = refl
 
-pub has_whole_account : (names : KeptNames) → is_simple_and_free (stabsim names) ≡ true
+pub has_whole_account : (names : StoredNames) → is_simple_and_free (stabsim names) ≡ true
 has_whole_account names = refl
 
 -- a command's name and its options, found one after the other

@@ -1,5 +1,5 @@
 -- Names of commands: if the reader finds no fault, the command that the words name is one of the program's own, and not `help`.
-use Rattle.stab_args.proofs.Names.{⊤, ◌≡◌, refl, sym, ap, ◌∙◌, ℕ, Bool, true, false, ◌&&◌, ◌||◌, not, ◌⊎◌, inl, inr, List, [], ◌∷◌, map, find, fold, Option, Some, None, IfSome, option_map, codes, is_some, if◌then◌else◌, bytes_eq, bytes_eq-Decides, long_of, short_of, ErrorKind, Kinds, or_else, App, Row, Rule, Shape, Text, subcommand_of, Held, Names, Outcome, Step, Waiting, Walk, after_flag, after_step, answers_to, bundle, arg_by_index, arg_by_long, long_met, long_or_other, nothing_held, option, idle, positional, next, trailing, subcommand, value, done, waits, plain, refused, plain_word, short_or_plain, subcommand_met, subcommand_or_other, to_positional, walk, walk_from, walked, walked_from, word_met, argument_words, built, entered, label_of, names_of, rows_at, fault_of, other_fault, turn_fault, walk_fault, word_fault, KeptNames, stabsim, IsCommandName, IsOneOf}
+use Rattle.stab_args.proofs.Names.{⊤, ◌≡◌, refl, sym, ap, ◌∙◌, ℕ, Bool, true, false, ◌&&◌, ◌||◌, not, ◌⊎◌, inl, inr, List, [], ◌∷◌, map, find, fold, Option, Some, None, IfSome, option_map, codes, is_some, if◌then◌else◌, bytes_eq, bytes_eq-Decides, long_of, short_of, ErrorKind, Kinds, or_else, App, Row, Rule, Shape, Text, subcommand_of, Held, Names, Outcome, Step, Waiting, Walk, after_flag, after_step, answers_to, bundle, arg_by_index, arg_by_long, long_met, long_or_other, nothing_held, option, idle, positional, next, trailing, subcommand, value, done, waits, plain, refused, plain_word, short_or_plain, subcommand_met, subcommand_or_other, to_positional, walk, walk_from, walked, walked_from, word_met, argument_words, built, entered, label_of, names_of, rows_at, fault_of, other_fault, turn_fault, walk_fault, word_fault, StoredNames, stabsim, IsCommandName, IsOneOf}
 
 -- no command was met, or one that is not `help`
 abbrev pub IsNoHelp : Option (Text × List Text) → Type 0
@@ -14,14 +14,14 @@ MeetsNone value = ⊤
 
 -- a word for a positional meets no command
 taken : (c : List Rule) (a : Option Rule) (word : Text) (w : Walk) (h : Held) → IsNoHelp w.stopped → IsNoHelp (to_positional c a word w h).stopped
-taken c None word w h kept = kept
-taken c (Some a) word w h kept = tt
+taken c None word w h preserved = preserved
+taken c (Some a) word w h preserved = tt
 
 stepped : (c : List Rule) (word : Text) (w : Walk) (h : Held) (s : Step) → MeetsNone s → IsNoHelp w.stopped → IsNoHelp (after_step c word w h s).stopped
-stepped c word w h (next waiting) none kept = kept
-stepped c word w h (trailing place) none kept = kept
-stepped c word w h (subcommand name) none kept = absurd none
-stepped c word w h value none kept = taken c (arg_by_index c w.position) word w h kept
+stepped c word w h (next waiting) none preserved = preserved
+stepped c word w h (trailing place) none preserved = preserved
+stepped c word w h (subcommand name) none preserved = absurd none
+stepped c word w h value none preserved = taken c (arg_by_index c w.position) word w h preserved
 
 plain_meets_none : (c : List Rule) (waiting : Waiting) (word : Text) (h : Held) → MeetsNone (plain_word c waiting word h).1
 plain_meets_none c idle word h = tt
@@ -45,8 +45,8 @@ long_meets_none c waiting word (Some p) h = flag_meets_none c waiting word (long
 -- a word that ends the options, or is no command's name
 chosen : (c : List Rule) (word : Text) (h : Held) (r : Held × Step) (b : Bool) (place : ℕ) (w : Walk) → MeetsNone r.1 → IsNoHelp w.stopped
     → IsNoHelp (after_step c word w (if b then (h, trailing place) else r).0 (if b then (h, trailing place) else r).1).stopped
-chosen c word h r true place w none kept = kept
-chosen c word h r false place w none kept = stepped c word w r.0 r.1 none kept
+chosen c word h r true place w none preserved = preserved
+chosen c word h r false place w none preserved = stepped c word w r.0 r.1 none preserved
 
 -- a name without a fault is not `help`
 faultless_name : (b d : Bool) (kinds : Kinds) (k : ErrorKind) → d ≡ false → (if b && not d then k ∷ kinds else []) ≡ [] → b ≡ false
@@ -57,15 +57,15 @@ faultless_name false d kinds k allowed faultless = refl
 -- a word if no value is waited for
 named : (s : Shape) (waiting : Waiting) (place : ℕ) (word : Text) (h : Held) (w : Walk) (m : Option Text) → s.disable_help_subcommand ≡ false → other_fault s m word h ≡ [] → IsNoHelp w.stopped
     → IsNoHelp (after_step s.rules word w (subcommand_or_other s.rules m waiting place word h).0 (subcommand_or_other s.rules m waiting place word h).1).stopped
-named s waiting place word h w (Some name) allowed faultless kept = faultless_name (bytes_eq name (codes "help")) s.disable_help_subcommand _ _ allowed faultless
-named s waiting place word h w None allowed faultless kept =
-    chosen s.rules word h (long_or_other s.rules waiting word (long_of word) h) (bytes_eq word (45 ∷ 45 ∷ [])) place w (long_meets_none s.rules waiting word (long_of word) h) kept
+named s waiting place word h w (Some name) allowed faultless preserved = faultless_name (bytes_eq name (codes "help")) s.disable_help_subcommand _ _ allowed faultless
+named s waiting place word h w None allowed faultless preserved =
+    chosen s.rules word h (long_or_other s.rules waiting word (long_of word) h) (bytes_eq word (45 ∷ 45 ∷ [])) place w (long_meets_none s.rules waiting word (long_of word) h) preserved
 
 -- any word
 met : (s : Shape) (names : Names) (waiting : Waiting) (place : ℕ) (word : Text) (h : Held) (w : Walk) (b : Bool) → s.disable_help_subcommand ≡ false → word_fault s names b waiting word h ≡ [] → IsNoHelp w.stopped
     → IsNoHelp (after_step s.rules word w (word_met s.rules names b waiting place word h).0 (word_met s.rules names b waiting place word h).1).stopped
-met s names waiting place word h w true allowed faultless kept = stepped s.rules word w h value tt kept
-met s names waiting place word h w false allowed faultless kept = named s waiting place word h w (subcommand_met names waiting word) allowed faultless kept
+met s names waiting place word h w true allowed faultless preserved = stepped s.rules word w h value tt preserved
+met s names waiting place word h w false allowed faultless preserved = named s waiting place word h w (subcommand_met names waiting word) allowed faultless preserved
 
 -- what fails first of two that do not fail
 neither : (first second : Kinds) → or_else first second ≡ [] → (first ≡ []) × (second ≡ [])
@@ -76,23 +76,23 @@ neither (k ∷ ks) second e = cc
 negated : (s : Shape) (names : Names) (w : Walk) (word : Text) (stop : Option (Text × List Text)) (rest : Kinds) → s.disable_help_subcommand ≡ false
     → (if is_some stop then [] else or_else (word_fault s names w.is_trailing w.waiting word w.held) rest) ≡ [] → IsNoHelp stop → IsNoHelp w.stopped
     → IsNoHelp (walked_from s.rules names stop w word).stopped
-negated s names w word (Some p) rest allowed faultless kept before = kept
-negated s names w word None rest allowed faultless kept before =
+negated s names w word (Some p) rest allowed faultless preserved before = preserved
+negated s names w word None rest allowed faultless preserved before =
     met s names w.waiting w.position word w.held w w.is_trailing allowed (neither (word_fault s names w.is_trailing w.waiting word w.held) rest faultless).0 before
 
 -- one word of the walk
 walked_on : (s : Shape) (names : Names) (w : Walk) (word : Text) → s.disable_help_subcommand ≡ false → turn_fault s names w word ≡ [] → IsNoHelp w.stopped → IsNoHelp (walked s.rules names w word).stopped
 unfolding walked
-walked_on s names w word allowed faultless kept = negated s names w word w.stopped _ allowed faultless kept kept
+walked_on s names w word allowed faultless preserved = negated s names w word w.stopped _ allowed faultless preserved preserved
 
 -- the whole walk
 walks : (s : Shape) (names : Names) (w : Walk) (words : List Text) → s.disable_help_subcommand ≡ false → walk_fault s names w words ≡ [] → IsNoHelp w.stopped
     → IsNoHelp (fold (walked s.rules names) w words).stopped
 unfolding walk_fault
-walks s names w [] allowed faultless kept = kept
-walks s names w (word ∷ rest) allowed faultless kept =
+walks s names w [] allowed faultless preserved = preserved
+walks s names w (word ∷ rest) allowed faultless preserved =
     let both = neither (turn_fault s names w word) (walk_fault s names (walked s.rules names w word) rest) faultless in
-    walks s names (walked s.rules names w word) rest allowed both.1 (walked_on s names w word allowed both.0 kept)
+    walks s names (walked s.rules names w word) rest allowed both.1 (walked_on s names w word allowed both.0 preserved)
 
 -- the label of a command that was found
 labelled : (p : Text) (rest : List Text) (subs : List Shape) (name : Text) (options : List Row) → option_map (λ s. rows_at s rest) (find (λ s. answers_to p (label_of s)) subs) ≡ Some (name, options)
@@ -150,11 +150,11 @@ abbrev own_labels : Names
 own_labels = (codes "sample", []) ∷ (codes "detect", []) ∷ (codes "stabilisers", codes "stabilizers" ∷ []) ∷ (codes "edit", []) ∷ (codes "check", []) ∷ (codes "deterministic", []) ∷ (codes "faults", []) ∷ (codes "coins", []) ∷ (codes "distance", []) ∷ (codes "propagate", []) ∷ (codes "propagate_each", []) ∷ []
 
 -- If the reader finds no fault, the command that the words name is one of the program's own.
-pub own_name : (kept : KeptNames) (words : List Text) (name : Text) (options : List Row) → fault_of (stabsim kept) words ≡ [] → subcommand_of (stabsim kept) words ≡ Some (name, options)
+pub own_name : (preserved : StoredNames) (words : List Text) (name : Text) (options : List Row) → fault_of (stabsim preserved) words ≡ [] → subcommand_of (stabsim preserved) words ≡ Some (name, options)
     → IsCommandName name
-own_name kept words name options faultless named =
-    let app = built (stabsim kept) in
-    let given = argument_words (stabsim kept) words in
+own_name preserved words name options faultless named =
+    let app = built (stabsim preserved) in
+    let given = argument_words (stabsim preserved) words in
     let start = walk_from nothing_held in
     let walk_faultless = (neither (walk_fault app.top (names_of app) start given) _ faultless).0 in
     let other = walks app.top (names_of app) start given refl walk_faultless tt in

@@ -29,7 +29,7 @@ pub use Rattle.stab_jobs.specs.Limits.{ShotRange}
 pub use Rattle.stab_jobs.specs.declared.job.Job.{Job}
 pub use Rattle.stab_args.specs.Asked.{EndsBy, IsJob, IsReported, RefusesOptions, TakesCommand, IsWritten, beyond_fault}
 pub use Rattle.stab_args.specs.Coins.{IsFileEnd, StandsForCoins, coin_character, coin_text}
-pub use Rattle.stab_args.specs.Options.{KeptNames, stabsim, most_seed, format_names, letter_names}
+pub use Rattle.stab_args.specs.Options.{StoredNames, stabsim, most_seed, format_names, letter_names}
 pub use Rattle.stab_args.specs.declared.words.Usage.{Usage}
 pub use Rattle.stab_args.specs.declared.words.Usage.TheVariants.{Memory}
 pub use Rattle.stab_args.specs.inner.Parts.{BeginsWithNoCoin, IsApp, IsOption, IsCommandName, IsOneOf}

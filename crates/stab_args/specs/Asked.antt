@@ -10,11 +10,10 @@ use Rattle.clap.specs.Faults.{fault_of}
 use Rattle.clap.specs.declared.error.kind.ErrorKind.{ErrorKind}
 use Rattle.clap.specs.declared.error.kind.ErrorKind.TheVariants.{DisplayHelp, DisplayVersion}
 use Rattle.stab_gates.specs.Limits.{most_qubits}
-use Rattle.stab_circuit.specs.Limits.{most_stride}
 use Rattle.stab_search.specs.PartNumbers.{PartNumbers, most_parts}
-use Rattle.stab_jobs.specs.Limits.{ShotRange, last_shot, most_shots, shots_of_seed}
+use Rattle.stab_jobs.specs.Limits.{ShotRange, last_shot, most_shots, shots_of_seed, stride_at_most}
 use Rattle.stab_args.specs.Coins.{coin_text}
-use Rattle.stab_args.specs.Options.{KeptNames, format_names, last_observable, letter_names, most_errors, most_seed, stabsim}
+use Rattle.stab_args.specs.Options.{StoredNames, format_names, last_observable, letter_names, most_errors, most_seed, stabsim}
 use Rattle.stab_args.specs.declared.words.Usage.{Usage}
 use Rattle.stab_args.specs.declared.words.Usage.TheVariants.{Help, Fault, Memory}
 use Rattle.stab_jobs.specs.declared.job.Job.{Job}
@@ -164,7 +163,7 @@ IsCommand name options (Faults layout everywhere deterministic_only) =
 IsCommand name options (Coins layout) = (name ≡ codes "coins") × IsLayout (first_of (codes "out_format") options) layout
 IsCommand name options (Distance question asked) = (name ≡ codes "distance") × IsAskedDistance options asked × IsQuestion options asked question
 IsCommand name options (Edit framed qubits stride) =
-    (name ≡ codes "edit") × IsSet (one_of (codes "framed") options) framed × IsWrittenIfGiven 0 most_qubits (one_of (codes "qubits") options) qubits × IsWritten 1 most_stride (one_of (codes "stride") options) stride
+    (name ≡ codes "edit") × IsSet (one_of (codes "framed") options) framed × IsWrittenIfGiven 0 most_qubits (one_of (codes "qubits") options) qubits × IsWritten 1 stride_at_most (one_of (codes "stride") options) stride
 IsCommand name options (Propagate every) = (name ≡ codes "propagate") × IsSet (one_of (codes "every") options) every
 IsCommand name options (PropagateEach everywhere) = (name ≡ codes "propagate_each") × IsSet (one_of (codes "everywhere") options) everywhere
 
@@ -313,9 +312,9 @@ EndsBy app words (Err usage) = (usage ≡ Memory)
     ⊎ (((kind : ErrorKind) × IsAmong kind (fault_of app words) × IsReported kind usage)
     ⊎ ((command : Text × List Row) × TakesCommand app words command × RefusesOptions command.1 usage))
 
--- How reading the words of a command line ends, wherever the names that options take are kept.
+-- How reading the words of a command line ends, wherever the names that options take are stored.
 pub record EndsReading (words : List Text) (result : Result Job Usage) : Type 0 where
-  pub names : KeptNames
+  pub names : StoredNames
   pub formats : texts names.formats.now ≡ format_names
   pub letters : texts names.letters.now ≡ letter_names
   pub ends : EndsBy (stabsim names) words result

@@ -7,12 +7,11 @@ use Rattle.clap.specs.Simple.{new_shape, on_top}
 use Rattle.clap.specs.declared.builder.action.ArgAction.TheVariants.{SetTrue}
 use Rattle.clap.specs.declared.builder.value_parser.ValueParser.TheVariants.{Names, Unsigned}
 use Rattle.stab_gates.specs.Limits.{most_qubits}
-use Rattle.stab_circuit.specs.Limits.{most_stride}
-use Rattle.stab_jobs.specs.Limits.{last_shot, most_shots}
+use Rattle.stab_jobs.specs.Limits.{last_shot, most_shots, stride_at_most}
 
 -- names if the reader keeps them
-abbrev pub Kept : Type 0
-Kept = Bor (List (Bor Text))
+abbrev pub Stored : Type 0
+Stored = Bor (List (Bor Text))
 
 -- the names of the formats
 abbrev pub format_names : List Text
@@ -23,9 +22,9 @@ abbrev pub letter_names : List Text
 letter_names = codes "all" ∷ codes "XZ" ∷ []
 
 -- the names that options take, if the reader keeps them: of formats, and of letters
-pub record KeptNames : Type 0 where
-  pub formats : Kept
-  pub letters : Kept
+pub record StoredNames : Type 0 where
+  pub formats : Stored
+  pub letters : Stored
 
 -- an option `--id` with a value
 abbrev pub valued : Text → Rule
@@ -40,11 +39,11 @@ abbrev pub numbered : Text → (least most : ℕ) → Text → Rule
 numbered id least most default = record (ranged id least most) { defaults = default ∷ [] }
 
 -- an option whose value is one of these names
-abbrev pub one_name : Text → Kept → Rule
+abbrev pub one_name : Text → Stored → Rule
 one_name id names = record (valued id) { parser = Some (Names names) }
 
 -- an option whose value is one of these names, with its default
-abbrev pub named : Text → Kept → Text → Rule
+abbrev pub named : Text → Stored → Text → Rule
 named id names default = record (one_name id names) { defaults = default ∷ [] }
 
 -- an option `--id` without a value
@@ -76,7 +75,7 @@ abbrev pub common_options : List Rule
 common_options = numbered (codes "seed") 0 most_seed (codes "0") ∷ valued (codes "coins") ∷ valued (codes "coins_in") ∷ file_options
 
 -- a command that takes shots, such as `sample`, with its options in the order of the help
-abbrev pub shot_command : Text → Kept → Shape
+abbrev pub shot_command : Text → Stored → Shape
 shot_command name formats = record (new_shape name) {
   rules = numbered (codes "shots") 0 most_shots (codes "1") ∷ ranged (codes "first_shot") 0 last_shot ∷ named (codes "out_format") formats (codes "01") ∷ common_options;
 }
@@ -86,7 +85,7 @@ abbrev pub alone : Shape → App
 alone command = record { top = command; subs = [] }
 
 -- the command `detect`, which has one option more
-abbrev pub detect : Kept → Shape
+abbrev pub detect : Stored → Shape
 detect formats = let run = shot_command (codes "detect") formats in record run { rules = run.rules ++ flag (codes "append_observables") ∷ [] }
 
 -- the command `stabilisers`, which has another name
@@ -95,27 +94,27 @@ stabilisers = record (new_shape (codes "stabilisers")) { aliases = codes "stabil
 
 -- the command `edit`
 abbrev pub edit : Shape
-edit = record (new_shape (codes "edit")) { rules = ranged (codes "qubits") 0 most_qubits ∷ numbered (codes "stride") 1 most_stride (codes "8192") ∷ flag (codes "framed") ∷ common_options }
+edit = record (new_shape (codes "edit")) { rules = ranged (codes "qubits") 0 most_qubits ∷ numbered (codes "stride") 1 stride_at_most (codes "8192") ∷ flag (codes "framed") ∷ common_options }
 
 -- the command `check`, which takes no coins
 abbrev pub check : Shape
 check = record (new_shape (codes "check")) { rules = file_options }
 
 -- the command `deterministic`, which takes no coins
-abbrev pub deterministic : Kept → Shape
+abbrev pub deterministic : Stored → Shape
 deterministic formats =
     record (new_shape (codes "deterministic")) { rules = named (codes "out_format") formats (codes "01") ∷ flag (codes "explain") ∷ file_options }
 
 -- the command `faults`, which takes no coins, and has a layout of its own if no format is named
-abbrev pub faults : Kept → Shape
+abbrev pub faults : Stored → Shape
 faults formats = record (new_shape (codes "faults")) { rules = one_name (codes "out_format") formats ∷ flag (codes "everywhere") ∷ deterministic_only ∷ file_options }
 
 -- the command `coins`, which takes no coins, and has a layout of its own if no format is named
-abbrev pub coins : Kept → Shape
+abbrev pub coins : Stored → Shape
 coins formats = record (new_shape (codes "coins")) { rules = one_name (codes "out_format") formats ∷ file_options }
 
 -- the command `distance`, which takes no coins
-abbrev pub distance : Kept → Shape
+abbrev pub distance : Stored → Shape
 distance letters = record (new_shape (codes "distance")) {
   rules = flag (codes "everywhere") ∷ named (codes "letters") letters (codes "all") ∷ ranged (codes "most") 0 most_errors ∷ flag (codes "graphlike")
       ∷ ranged (codes "observable") 0 last_observable ∷ flag (codes "each") ∷ flag (codes "table") ∷ flag (codes "wcnf") ∷ flag (codes "count") ∷ valued (codes "part") ∷ deterministic_only ∷ flag (codes "progress") ∷ file_options;
@@ -147,10 +146,10 @@ with_commands app [] = app
 with_commands app (command ∷ commands) = with_commands (with_subcommand app command) commands
 
 -- the commands of the program, in the order of the help
-abbrev pub commands : KeptNames → List Shape
+abbrev pub commands : StoredNames → List Shape
 commands names =
     shot_command (codes "sample") names.formats ∷ detect names.formats ∷ stabilisers ∷ edit ∷ check ∷ deterministic names.formats ∷ faults names.formats ∷ coins names.formats ∷ distance names.letters ∷ propagate ∷ propagate_each ∷ []
 
 -- the program
-abbrev pub stabsim : KeptNames → App
+abbrev pub stabsim : StoredNames → App
 stabsim names = with_commands bare (commands names)

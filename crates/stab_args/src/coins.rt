@@ -1,46 +1,12 @@
 //! Coins that are written as characters 0 and 1, in a word or in a file.
-ghost use Rattle.std.specs.Prelude.{◌≡◌, ◌++◌, ◌∷◌, Bool, List, true, false, IfOk, IfSome, IfNone, OnOk};
-ghost use Rattle.stab_args.specs.Coins.{IsFileEnd, IsLineEnd, ReadsCoins, coin_character, coin_text};
+ghost use Rattle.std.specs.Prelude.{◌≡◌, ◌++◌, ◌∷◌, Bool, List, true, false, IfOk, IfSome, IfNone};
+ghost use Rattle.stab_args.specs.Coins.{IsFileEnd, IsLineEnd, StandsForCoins, coin_character, coin_text};
 ghost use Rattle.stab_args.specs.inner.Parts.{BeginsWithNoCoin};
 
-use stab_circuit::read_text;
-use stab_io::{Input, Refusal};
 use std::alloc::{AllocError, Global};
 
 /// What is said about coins that are no coins.
 pub const NO_COINS: &str = "stabsim: coins are 0 and 1\n";
-
-/// Why a file gave no coins.
-#[derive(Clone, Copy, Debug)]
-pub enum CoinsFault {
-    /// It was not read whole, by `TooLong` or `ReadFault`, or the answer is 20.
-    Unread(Refusal),
-    /// It has something other than characters 0 and 1 and a line end after them.
-    Wrong,
-}
-
-impl From<Refusal> for CoinsFault {
-    ghost use Rattle.std.specs.Prelude.{◌≡◌};
-    ghost use Rattle.stab_args.specs.declared.coins.CoinsFault.TheVariants.{Unread};
-
-    ghost from_gives = { λ r f. f ≡ Unread r };
-
-    fn from(refusal: Refusal) -> CoinsFault {
-        CoinsFault::Unread(refusal)
-    }
-}
-
-impl From<AllocError> for CoinsFault {
-    ghost use Rattle.std.specs.Prelude.{◌≡◌};
-    ghost use Rattle.stab_io.specs.declared.refusal.Refusal.TheVariants.{OutOfMemory};
-    ghost use Rattle.stab_args.specs.declared.coins.CoinsFault.TheVariants.{Unread};
-
-    ghost from_gives = { λ _ f. f ≡ Unread OutOfMemory };
-
-    fn from(_error: AllocError) -> CoinsFault {
-        CoinsFault::Unread(Refusal::OutOfMemory)
-    }
-}
 
 /// The coin that the first character of a text writes, and the text after it.
 fn first_coin(text: &[u8]) -> Option<(bool, &[u8])>
@@ -98,19 +64,16 @@ fn is_file_end(bytes: &[u8]) -> bool
     bytes.is_empty() || is_line_end(bytes)
 }
 
-/// Reads all of an input as the coins of a file: characters 0 and 1, coin 0 first, and at most one line
-/// end after them, in at most 16,777,216 bytes.
-///
-/// No coins if another byte is met (`CoinsFault::Wrong`), or if the input failed, has more bytes, or
-/// memory was refused (`CoinsFault::Unread`). At most 4,096 bytes past the limit are read.
-pub fn read_coins<I: Input>(alloc: Global, input: &mut I) -> Result<Vec<bool>, CoinsFault>
-    ensures reads { ReadsCoins (I.seen input.old) (I.seen input.new) result }
+/// The coins that the text of a file writes: characters 0 and 1, coin 0 first, and at most one line end after them. `None` if it writes
+/// something else.
+pub fn file_coins(alloc: Global, text: &[u8]) -> Result<Option<Vec<bool>>, AllocError>
+    ensures some { IfOk result (λ r. IfSome r (λ list. StandsForCoins text.now list.items)) }
+    ensures none { IfOk result (λ r. IfNone r ((list : List Bool) → StandsForCoins text.now list → ⊥)) }
 {
-    let text = read_text(alloc, input)?;
-    let (coins, rest) = coins_at_front(alloc, text.as_slice())?;
+    let (coins, rest) = coins_at_front(alloc, text)?;
     if is_file_end(rest) {
-        Ok(coins)
+        Ok(Some(coins))
     } else {
-        Err(CoinsFault::Wrong)
+        Ok(None)
     }
 }

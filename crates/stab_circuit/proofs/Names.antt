@@ -72,7 +72,7 @@ pub use Rattle.stab_circuit.specs.declared.reader.OpenBlock.{OpenBlock as Stored
 pub use Rattle.stab_circuit.specs.declared.stretches.Run.{Run}
 pub use Rattle.stab_circuit.specs.declared.stretches.Stretch.{Stretch}
 pub use Rattle.stab_circuit.specs.inner.KnownLines.{IsOneLine, IsCut, BeginsWithItem, IsKnownLine, IsMeant}
-pub use Rattle.stab_circuit.specs.inner.Readers.{Progress, is_whole, meaning_at, OpenBlock, closed, stepped, finished, read_on, is_some_items, pending, ReadsItems, IsShallowProgress, open_block_of, open_blocks_of, kept_progress, closing, progress_of, reading, before_reading}
+pub use Rattle.stab_circuit.specs.inner.Readers.{Progress, is_whole, meaning_at, OpenBlock, closed, stepped, finished, read_on, is_some_items, pending, ReadsItems, IsShallowProgress, open_block_of, open_blocks_of, stored_progress, closing, progress_of, reading, before_reading}
 pub use Rattle.stab_items.specs.Edits.{outermost, with_item, rebuilt, edited_inside, changed, edited_in, edited, taken_in, taken, list_verdict, verdict, inner, edit_path, taken_at, put_item, steps_in, steps_before, first_changed, after_taken, after_put}
 pub use Rattle.stab_circuit.specs.inner.Stretches.{Ran, reading_on, read_outside, ReadsAhead, items_of, IsLineStretch, KeepsStretches, IsRunOf, IsLineRun, IsEnded, RunsOn, AreLineStretches}
 pub use Rattle.stab_instructions.proofs.LackLemmas.{Each, each-append, Lacks, lacks-append, lacks_spaces, lacks_any, any_lacking, split_lacking}

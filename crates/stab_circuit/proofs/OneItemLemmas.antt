@@ -1,7 +1,7 @@
 -- One item's text: what is read of it is one item, or none if every line is blank.
 use Rattle.stab_circuit.proofs.Names.{◌≡◌, ◌≤◌, refl, ap, sym, ◌∙◌, subst, ℕ, ◌+◌, ◌-◌, suc, List, [], ◌∷◌, Bool, true, false, ◌==◌, nat_lt, length, map, None, Some, Result, Ok, Err, if◌then◌else◌, arith, list_all, nat_tests, Refusal, BadLine, TooDeep, Blank, Close, Open, Items, OneItem, operation, repeat, listed, done, next, block, join, meaning_of, is_close, Meaning, Joins, nothing, blank_line, operation_line, block_lines, at_line, fault_from, meaning_after, depth_after, ends_item, one_item, is_empty, OpenBlock, Progress, before_reading, closed, stepped, finished, read_on, is_whole, meaning_at, pending, chosen, passed, and_left, and_right, both}
 use Rattle.stab_circuit.proofs.LineLaws.{blank_is_empty}
-use Rattle.stab_circuit.proofs.ReaderLemmas.{pending_taken, pending_refused, not_one, not_none, whole_kept, some_joined, nothing_pending}
+use Rattle.stab_circuit.proofs.ReaderLemmas.{pending_taken, pending_refused, not_one, not_none, whole_preserved, some_joined, nothing_pending}
 use Rattle.stab_instructions.specs.declared.operation.Line.TheVariants as line
 use Rattle.stab_circuit.proofs.FaultLemmas.{state, open_block}
 use Rattle.stab_circuit.proofs.ReadingLemmas.{joined_read, choice_none, fault_opens}
@@ -96,7 +96,7 @@ small_step n (f ∷ fs) now (Ok (line.Operation op)) t w h e = let same : state 
 
 -- a line that is taken leaves at most one item
 small_taken : (n : ℕ) (s t : Progress) (c : List ℕ) (b : Bool) → is_whole s ≡ b → stepped n (if b then meaning_after c else meaning_of c) s ≡ Ok t → IsSmall s → IsSmall t
-small_taken n s t c true w e h = subst IsSmall (whole_kept n s.open_blocks s.now t (length c == 0) (is_close c) w e) h
+small_taken n s t c true w e h = subst IsSmall (whole_preserved n s.open_blocks s.now t (length c == 0) (is_close c) w e) h
 small_taken n s t c false w e h = small_step n s.open_blocks s.now (meaning_of c) t w (subst (λ b. size (outer s.open_blocks s.now) ≤ one_if b) w h) e
 
 one_if_small : (b : Bool) → one_if b ≤ 1

@@ -125,15 +125,15 @@ pieces_again : {X : Type 0} (text : X → List ℕ) (x : X) (xs : List X) → Ar
 pieces_again text x [] w = ap (slice_split is_spacing) (append-nil (text x)) ∙ split_last is_spacing (text x) w.0.0
 pieces_again text x (y ∷ ys) w = split_lacking is_spacing (text x) 32 (text y ++ spaced text ys) w.0.0 refl ∙ ap (λ l. text x ∷ l) (pieces_again text y ys w.1)
 
-all_kept : {X : Type 0} (text : X → List ℕ) (xs : List X) → AreWords text xs → filter is_some_word (map text xs) ≡ map text xs
-all_kept text [] w = refl
-all_kept text (x ∷ xs) w = ap (λ b. if b then text x ∷ filter is_some_word (map text xs) else filter is_some_word (map text xs)) w.0.1 ∙ ap (λ l. text x ∷ l) (all_kept text xs w.1)
+all_retained : {X : Type 0} (text : X → List ℕ) (xs : List X) → AreWords text xs → filter is_some_word (map text xs) ≡ map text xs
+all_retained text [] w = refl
+all_retained text (x ∷ xs) w = ap (λ b. if b then text x ∷ filter is_some_word (map text xs) else filter is_some_word (map text xs)) w.0.1 ∙ ap (λ l. text x ∷ l) (all_retained text xs w.1)
 
 -- the words of printed targets
 pub words_again : {X : Type 0} (text : X → List ℕ) (xs : List X) → AreWords text xs → words (spaced text xs) ≡ map text xs
 words_again text [] w = refl
 words_again text (x ∷ xs) w =
-    ap (filter is_some_word) (slice_split-cons_yes is_spacing 32 (text x ++ spaced text xs) refl ∙ ap (λ l. [] ∷ l) (pieces_again text x xs w)) ∙ all_kept text (x ∷ xs) w
+    ap (filter is_some_word) (slice_split-cons_yes is_spacing 32 (text x ++ spaced text xs) refl ∙ ap (λ l. [] ∷ l) (pieces_again text x xs w)) ∙ all_retained text (x ∷ xs) w
 
 pub same_map : (xs : List (List ℕ)) → map (λ x. x) xs ≡ xs
 same_map [] = refl

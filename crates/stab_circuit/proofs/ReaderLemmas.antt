@@ -49,19 +49,19 @@ abbrev after_step : ℕ → List Meaning → Result Progress Refusal → Result 
 after_step n ms r = elim r [ Ok t ↦ read_on (n + 1) t ms | Err x ↦ Err (at_line n x) ]
 
 -- after a whole item only a blank line is taken, and changes nothing
-pub whole_kept : (n : ℕ) (fs : List OpenBlock) (now : Items) (t : Progress) (b d : Bool) → is_whole (record { open_blocks = fs; now = now }) ≡ true
+pub whole_preserved : (n : ℕ) (fs : List OpenBlock) (now : Items) (t : Progress) (b d : Bool) → is_whole (record { open_blocks = fs; now = now }) ≡ true
     → stepped n (if b then Ok Blank else if d then Ok Close else Err BadLine) (record { open_blocks = fs; now = now }) ≡ Ok t → record { open_blocks = fs; now = now } ≡ t
-whole_kept n fs now t true d w e = cc
-whole_kept n [] now t false true w e = cc
-whole_kept n (f ∷ fs) now t false true w e = cc
-whole_kept n fs now t false false w e = cc
+whole_preserved n fs now t true d w e = cc
+whole_preserved n [] now t false true w e = cc
+whole_preserved n (f ∷ fs) now t false true w e = cc
+whole_preserved n fs now t false false w e = cc
 
 -- a line of one item's text that is taken
 one_taken : (n : ℕ) (s t : Progress) (c : List ℕ) (cs : List (List ℕ)) (b : Bool) → is_whole s ≡ b → stepped n (if b then meaning_after c else meaning_of c) s ≡ Ok t
     → read_on n s (if b then map meaning_after (c ∷ cs) else one_item (length s.open_blocks) (c ∷ cs)) ≡ read_on (n + 1) t (pending true t cs)
 one_taken n s t c cs true w e =
-    let kept : is_whole t ≡ true = sym (ap is_whole (whole_kept n s.open_blocks s.now t (length c == 0) (is_close c) w e)) ∙ w in
-    ap (after_step n (map meaning_after cs)) e ∙ ap (read_on (n + 1) t) (sym (chosen (is_whole t) _ _ kept))
+    let preserved : is_whole t ≡ true = sym (ap is_whole (whole_preserved n s.open_blocks s.now t (length c == 0) (is_close c) w e)) ∙ w in
+    ap (after_step n (map meaning_after cs)) e ∙ ap (read_on (n + 1) t) (sym (chosen (is_whole t) _ _ preserved))
 one_taken n s t c cs false w e =
     let f = follows n s.open_blocks s.now (meaning_of c) t w e in
     ap (after_step n (if ends_item (length s.open_blocks) (meaning_of c) then map meaning_after cs else one_item (depth_after (length s.open_blocks) (meaning_of c)) cs)) e

@@ -1,5 +1,5 @@
 -- Lines that put items after others if no block is open, and the runs and stretches of them.
-use Rattle.stab_circuit.proofs.Names.{◌≡◌, refl, ap, sym, ◌∙◌, subst, ℕ, ◌+◌, ◌-◌, List, [], ◌∷◌, ◌++◌, All, Bool, true, false, nat_lt, length, take, drop, map, Option, Some, None, MatchOption, Ok, Err, if◌then◌else◌, ◌⊎◌, inl, inr, arith, append_assoc, slice_split, map-append, take-append-le, take_all, All-weaker, All-push, TooDeep, Blank, Close, Open, is_byte, content_of, pieces_after, meaning_of, StoredBlock, Stretch, Run, Items, OneItem, done, next, block, join, listed, depth, Meaning, line_meanings, IsCut, Progress, kept_progress, stepped, read_on, meaning_at, IsShallowProgress, read_outside, ReadsAhead, items_of, IsLineStretch, KeepsStretches, IsRunOf, IsLineRun, IsEnded, RunsOn, reading_on, join_done, join_assoc, listed-append, depth-join, no_length}
+use Rattle.stab_circuit.proofs.Names.{◌≡◌, refl, ap, sym, ◌∙◌, subst, ℕ, ◌+◌, ◌-◌, List, [], ◌∷◌, ◌++◌, All, Bool, true, false, nat_lt, length, take, drop, map, Option, Some, None, MatchOption, Ok, Err, if◌then◌else◌, ◌⊎◌, inl, inr, arith, append_assoc, slice_split, map-append, take-append-le, take_all, All-weaker, All-push, TooDeep, Blank, Close, Open, is_byte, content_of, pieces_after, meaning_of, StoredBlock, Stretch, Run, Items, OneItem, done, next, block, join, listed, depth, Meaning, line_meanings, IsCut, Progress, stored_progress, stepped, read_on, meaning_at, IsShallowProgress, read_outside, ReadsAhead, items_of, IsLineStretch, KeepsStretches, IsRunOf, IsLineRun, IsEnded, RunsOn, reading_on, join_done, join_assoc, listed-append, depth-join, no_length}
 use Rattle.std.proofs.Common.{length-append}
 use Rattle.stab_instructions.specs.declared.operation.Line.TheVariants as line
 use Rattle.stab_circuit.proofs.FirstLineLemmas.{split_cut, one_line_first}
@@ -62,27 +62,27 @@ line_puts n l now t e none = by_meaning (meaning_of (content_of l)) refl e
         let same : read_outside (join now (next op done)) ≡ t = cc in
         (next op done, record { on = λ k at ms. ap (λ w. read_on k (read_outside at) (w ∷ ms)) q; flat = refl }, sym same)
 
--- what is kept if no block is open
-pub kept_outside : (xs : List OneItem) (fs : List StoredBlock) (ys : List OneItem) → length fs ≡ 0 → kept_progress xs fs ys ≡ read_outside (join (listed xs) (listed ys))
-kept_outside xs [] ys none = ap read_outside (listed-append xs ys)
-kept_outside xs (f ∷ fs) ys none = absurd (omega (arith, none))
+-- what is stored if no block is open
+pub stored_outside : (xs : List OneItem) (fs : List StoredBlock) (ys : List OneItem) → length fs ≡ 0 → stored_progress xs fs ys ≡ read_outside (join (listed xs) (listed ys))
+stored_outside xs [] ys none = ap read_outside (listed-append xs ys)
+stored_outside xs (f ∷ fs) ys none = absurd (omega (arith, none))
 
-pub kept_now : (xs : List OneItem) (fs : List StoredBlock) (ys : List OneItem) → length fs ≡ 0 → kept_progress xs fs ys ≡ read_outside (kept_progress xs fs ys).now
-kept_now xs fs ys none = kept_outside xs fs ys none ∙ ap (λ p. read_outside p.now) (sym (kept_outside xs fs ys none))
+pub stored_now : (xs : List OneItem) (fs : List StoredBlock) (ys : List OneItem) → length fs ≡ 0 → stored_progress xs fs ys ≡ read_outside (stored_progress xs fs ys).now
+stored_now xs fs ys none = stored_outside xs fs ys none ∙ ap (λ p. read_outside p.now) (sym (stored_outside xs fs ys none))
 
-pub kept_nothing : (xs : List OneItem) (fs : List StoredBlock) (ys : List OneItem) → length fs ≡ 0 → ys ≡ [] → kept_progress xs fs ys ≡ read_outside (listed xs)
-kept_nothing xs fs ys none empty = kept_outside xs fs ys none ∙ ap (λ l. read_outside (join (listed xs) (listed l))) empty ∙ ap read_outside (join_done (listed xs))
+pub stored_nothing : (xs : List OneItem) (fs : List StoredBlock) (ys : List OneItem) → length fs ≡ 0 → ys ≡ [] → stored_progress xs fs ys ≡ read_outside (listed xs)
+stored_nothing xs fs ys none empty = stored_outside xs fs ys none ∙ ap (λ l. read_outside (join (listed xs) (listed l))) empty ∙ ap read_outside (join_done (listed xs))
 
 -- a run begins, and goes on
 pub run_begins : (xs : List OneItem) (fs : List StoredBlock) (ys : List OneItem) (n : ℕ) (text : List ℕ) (run : Run) → length fs ≡ 0 → length ys ≡ 0 → run.front.now ≡ text → run.from ≡ n
-    → IsRunOf xs (kept_progress xs fs ys) n text run
+    → IsRunOf xs (stored_progress xs fs ys) n text run
 run_begins xs fs ys n text run none empty front from = record {
   lines = [];
   items = done;
   ran = front;
   count = omega (arith, from);
   reads = reads_none;
-  read = kept_nothing xs fs ys none (no_length ys empty) ∙ ap read_outside (sym (join_done (listed xs)));
+  read = stored_nothing xs fs ys none (no_length ys empty) ∙ ap read_outside (sym (join_done (listed xs)));
 }
 
 run_goes_on : (xs : List OneItem) (s t : Progress) (n : ℕ) (text rest first : List ℕ) (run : Run) → IsRunOf xs s n text run → slice_split (is_byte 10) text ≡ first ∷ slice_split (is_byte 10) rest
@@ -103,13 +103,13 @@ no_run xs s n None run e = tt
 no_run xs s n (Some rest) run e = subst (IsLineRun xs s n rest) (sym e) tt
 
 pub runs_on : (xs : List OneItem) (s : Progress) (n : ℕ) (text first : List ℕ) (after : Option (List ℕ)) (old new : Option Run) (single : Bool) (fs : List StoredBlock) (ys : List OneItem)
-    → IsLineRun xs s n text old → slice_split (is_byte 10) text ≡ first ∷ pieces_after 10 after → stepped n (meaning_at single s (content_of first)) s ≡ Ok (kept_progress xs fs ys)
-    → (new ≡ None) ⊎ ((new ≡ old) × (single ≡ false) × (length fs ≡ 0)) → RunsOn xs (kept_progress xs fs ys) (n + 1) after new
-runs_on xs s n text first after old new single fs ys r split e (inl none) = no_run xs (kept_progress xs fs ys) (n + 1) after new none
+    → IsLineRun xs s n text old → slice_split (is_byte 10) text ≡ first ∷ pieces_after 10 after → stepped n (meaning_at single s (content_of first)) s ≡ Ok (stored_progress xs fs ys)
+    → (new ≡ None) ⊎ ((new ≡ old) × (single ≡ false) × (length fs ≡ 0)) → RunsOn xs (stored_progress xs fs ys) (n + 1) after new
+runs_on xs s n text first after old new single fs ys r split e (inl none) = no_run xs (stored_progress xs fs ys) (n + 1) after new none
 runs_on xs s n text first None old new single fs ys r split e (inr k) = tt
 runs_on xs s n text first (Some rest) old new single fs ys r split e (inr k) =
-    let t = kept_progress xs fs ys in
-    let none : length t.open_blocks ≡ 0 = ap (λ p. length p.open_blocks) (kept_outside xs fs ys k.2) in
+    let t = stored_progress xs fs ys in
+    let none : length t.open_blocks ≡ 0 = ap (λ p. length p.open_blocks) (stored_outside xs fs ys k.2) in
     let taken : stepped n (meaning_of (content_of first)) s ≡ Ok t = ap (λ b. stepped n (meaning_at b s (content_of first)) s) (sym k.1) ∙ e in
     subst (IsLineRun xs t (n + 1) rest) (sym k.0) (goes_on t none taken old r)
   where
@@ -128,9 +128,9 @@ drop_first [] ys = refl
 drop_first (x ∷ xs) ys = drop_first xs ys
 
 run_ends_of : (xs all : List OneItem) (fs : List StoredBlock) (ys : List OneItem) (first n : ℕ) (rest : List ℕ) (run : Run) → length fs ≡ 0 → first ≡ length xs → all ≡ xs ++ ys
-    → IsRunOf xs (kept_progress xs fs ys) n rest run → IsEnded all first n rest run
+    → IsRunOf xs (stored_progress xs fs ys) n rest run → IsEnded all first n rest run
 run_ends_of xs all fs ys first n rest run none at same r =
-    let items : r.items ≡ listed ys = sym (join_cancel (listed xs) (listed ys) r.items (ap (λ p. p.now) (sym (kept_outside xs fs ys none) ∙ r.read))) in
+    let items : r.items ≡ listed ys = sym (join_cancel (listed xs) (listed ys) r.items (ap (λ p. p.now) (sym (stored_outside xs fs ys none) ∙ r.read))) in
     let stored : ys ≡ drop first all = sym ((λ i. drop (at i) (same i)) ∙ drop_first xs ys) in
     record {
       within = omega (arith, at, ap length same, length-append xs ys);
@@ -141,7 +141,7 @@ run_ends_of xs all fs ys first n rest run none at same r =
     }
 
 pub run_ends : (xs all : List OneItem) (fs : List StoredBlock) (ys : List OneItem) (first n : ℕ) (rest : List ℕ) (run : Option Run) → length fs ≡ 0 → first ≡ length xs → all ≡ xs ++ ys
-    → IsLineRun xs (kept_progress xs fs ys) n rest run → MatchOption run (Unit {0}) (IsEnded all first n rest)
+    → IsLineRun xs (stored_progress xs fs ys) n rest run → MatchOption run (Unit {0}) (IsEnded all first n rest)
 run_ends xs all fs ys first n rest None none at same r = tt
 run_ends xs all fs ys first n rest (Some run) none at same r = run_ends_of xs all fs ys first n rest run none at same r
 
@@ -177,12 +177,12 @@ copy_stretch xs all s t k same bytes lines at end =
       reads = subst (λ l. ReadsAhead (slice_split (is_byte 10) t.bytes.now) (listed l)) there (subst (λ l. ReadsAhead (slice_split (is_byte 10) l) (listed (items_of s xs))) (sym bytes) k.reads);
     }
 
-pub copy_put : (xs all d : List OneItem) (fs : List StoredBlock) (ys : List OneItem) → length fs ≡ 0 → ys ≡ [] → all ≡ xs ++ d → kept_progress all fs ys ≡ read_outside (join (kept_progress xs fs ys).now (listed d))
+pub copy_put : (xs all d : List OneItem) (fs : List StoredBlock) (ys : List OneItem) → length fs ≡ 0 → ys ≡ [] → all ≡ xs ++ d → stored_progress all fs ys ≡ read_outside (join (stored_progress xs fs ys).now (listed d))
 copy_put xs all d fs ys none empty same =
-    kept_nothing all fs ys none empty
+    stored_nothing all fs ys none empty
     ∙ ap (λ l. read_outside (listed l)) same
     ∙ ap read_outside (listed-append xs d)
-    ∙ ap (λ p. read_outside (join p.now (listed d))) (sym (kept_nothing xs fs ys none empty))
+    ∙ ap (λ p. read_outside (join p.now (listed d))) (sym (stored_nothing xs fs ys none empty))
 
 -- the lines of a stretch are read at once
 pub stretch_read : (xs : List OneItem) (s : Stretch) (n : ℕ) (text : List ℕ) (after : Option (List ℕ)) (now : Items) → IsLineStretch xs s → IsCut text s.bytes.now after

@@ -1,4 +1,4 @@
--- Limits: how many steps may lie between two copies of the state that are kept of a run.
+-- Limits: how many steps may lie between two checkpoints of a run.
 -- Source: this project's own.
 use Rattle.std.specs.Prelude.{ℕ}
 

@@ -134,7 +134,7 @@ pub fn read_product(alloc: Global, word: &[u8]) -> Result<Product, Refusal>
 pub struct ProductTargets;
 
 impl Target for ProductTargets {
-    type Kept = Product;
+    type Stored = Product;
 
     ghost meaning = { product_of };
 

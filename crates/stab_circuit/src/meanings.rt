@@ -22,7 +22,7 @@ use stab_io::Refusal;
 use std::alloc::Global;
 
 /// The targets of an instruction without arguments.
-fn targets_alone<T: Target>(alloc: Global, shape: &Shape) -> Result<Sequence<T::Kept>, Refusal>
+fn targets_alone<T: Target>(alloc: Global, shape: &Shape) -> Result<Sequence<T::Stored>, Refusal>
     ensures gives { Gives result (alone T.meaning (shape_shown shape.now)) }
 {
     if is_blank(shape.arguments) {

@@ -74,7 +74,7 @@ impl CircuitReader {
     }
 
     /// Whether a whole item was read.
-    #[tactic(auto, using(crate::proofs::ReadLineLemmas::is_whole_kept))]
+    #[tactic(auto, using(crate::proofs::ReadLineLemmas::is_whole_stored))]
     fn is_whole(&self) -> bool
         ensures value { result ≡ whole_of (progress_of self.now) }
     {
@@ -208,7 +208,7 @@ impl CircuitReader {
 
     /// Puts an item after the others.
     #[inline]
-    #[tactic(auto, using(crate::proofs::ReadLineLemmas::kept_pushed))]
+    #[tactic(auto, using(crate::proofs::ReadLineLemmas::stored_pushed))]
     fn put(&mut self, item: Item) -> Result<(), Refusal>
         ensures same { OnOk result (progress_of self.new ≡ with_read_item (progress_of self.old) item) }
         ensures fault { IfErr result (λ r. r ≡ OutOfMemory) }
@@ -252,8 +252,8 @@ impl CircuitReader {
                     before,
                 } = open_block;
                 let body = mem::replace(&mut self.items, before);
-                let kept = items_summary(body.as_slice());
-                let item = Item::repeat(self.alloc, count, tag, body, kept)?;
+                let stored = items_summary(body.as_slice());
+                let item = Item::repeat(self.alloc, count, tag, body, stored)?;
                 self.items.push(item)?;
                 Ok(())
             }

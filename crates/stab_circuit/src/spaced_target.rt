@@ -16,15 +16,15 @@ use std::alloc::Global;
 
 /// A kind of target that may be written as numbers alone.
 pub trait SpacedTarget {
-    /// What is kept of a target.
-    type Kept: Drop;
+    /// What is stored of a target.
+    type Stored: Drop;
 
     // What words mean as such targets.
-    ghost meaning: { List (List ℕ) → Result (List Self.Kept) Refusal };
+    ghost meaning: { List (List ℕ) → Result (List Self.Stored) Refusal };
 
     /// The target that is in front as numbers of few digits, with one space before each, and what
     /// follows it.
-    fn in_front(bytes: &[u8]) -> Option<(Self::Kept, &[u8])>
+    fn in_front(bytes: &[u8]) -> Option<(Self::Stored, &[u8])>
         ensures value { MatchOption result (Unit {0}) (λ p. AreSpacedTargets meaning bytes.now (p.0 ∷ []) p.1.now) }
         ensures shorter { MatchOption result (Unit {0}) (λ p. length p.1.now < length bytes.now) };
 }
@@ -66,7 +66,7 @@ fn spaced_pair(bytes: &[u8]) -> Option<(Pair, &[u8])>
 }
 
 impl SpacedTarget for QubitTargets {
-    type Kept = Qubit;
+    type Stored = Qubit;
 
     ghost meaning = { each qubit_of };
 
@@ -88,7 +88,7 @@ fn measured(qubit: Qubit) -> MeasureTarget
 }
 
 impl SpacedTarget for MeasureTargets {
-    type Kept = MeasureTarget;
+    type Stored = MeasureTarget;
 
     ghost meaning = { each measure_target_of };
 
@@ -105,7 +105,7 @@ impl SpacedTarget for MeasureTargets {
 pub struct PairTargets;
 
 impl SpacedTarget for PairTargets {
-    type Kept = Pair;
+    type Stored = Pair;
 
     ghost meaning = { paired_words };
 
@@ -127,7 +127,7 @@ fn controlled(pair: Pair) -> ControlledPair
 }
 
 impl SpacedTarget for ControlledTargets {
-    type Kept = ControlledPair;
+    type Stored = ControlledPair;
 
     ghost meaning = { controlled_of };
 
@@ -156,7 +156,7 @@ fn after_line_end(bytes: &[u8]) -> Option<Option<&[u8]>>
 pub fn targets_in_front<T: SpacedTarget>(
     alloc: Global,
     bytes: &[u8],
-) -> Result<Option<(Sequence<T::Kept>, Option<&[u8]>)>, Refusal>
+) -> Result<Option<(Sequence<T::Stored>, Option<&[u8]>)>, Refusal>
     ensures reports { ReadsTargets T.meaning bytes.now result }
 {
     let mut found = Vec::new(alloc);

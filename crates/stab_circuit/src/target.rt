@@ -21,19 +21,19 @@ pub const MOST_LOOKBACK: u64 = 16_777_215;
 
 /// A kind of target, which a word may mean.
 pub trait Target {
-    /// What is kept of a target.
-    type Kept: Drop;
+    /// What is stored of a target.
+    type Stored: Drop;
 
     // What the word means.
-    ghost meaning: { List ℕ → Result Self.Kept Refusal };
+    ghost meaning: { List ℕ → Result Self.Stored Refusal };
 
     /// What the word means as such a target.
-    fn of(alloc: Global, word: &[u8]) -> Result<Self::Kept, Refusal>
+    fn of(alloc: Global, word: &[u8]) -> Result<Self::Stored, Refusal>
         ensures gives { Gives result (meaning word.now) };
 
     /// What the first word means, and what follows it, if a look at its bytes is enough to see it.
     /// If it isn't, `of` says what the word means, or why it means nothing.
-    fn at_front(bytes: &[u8]) -> Option<(Self::Kept, &[u8])>
+    fn at_front(bytes: &[u8]) -> Option<(Self::Stored, &[u8])>
         ensures value { MatchOption result (Unit {0}) (λ p. BeginsWithTarget meaning bytes.now p.0 p.1.now) }
         ensures shorter { MatchOption result (Unit {0}) (λ p. length p.1.now < length bytes.now) };
 }
@@ -58,7 +58,7 @@ pub fn qubit(word: &[u8]) -> Result<Qubit, Refusal>
 pub struct QubitTargets;
 
 impl Target for QubitTargets {
-    type Kept = Qubit;
+    type Stored = Qubit;
 
     ghost meaning = { qubit_of };
 
@@ -89,7 +89,7 @@ pub fn qubit_at_front(bytes: &[u8]) -> Option<(Qubit, &[u8])>
 pub struct MeasureTargets;
 
 impl Target for MeasureTargets {
-    type Kept = MeasureTarget;
+    type Stored = MeasureTarget;
 
     ghost meaning = { measure_target_of };
 
@@ -146,7 +146,7 @@ pub fn record(word: &[u8]) -> Result<Lookback, Refusal>
 pub struct RecordTargets;
 
 impl Target for RecordTargets {
-    type Kept = u32;
+    type Stored = u32;
 
     ghost meaning = { lookback_of };
 
@@ -206,7 +206,7 @@ pub fn is_record(word: &[u8]) -> bool
 pub struct CountTargets;
 
 impl Target for CountTargets {
-    type Kept = Option<Count>;
+    type Stored = Option<Count>;
 
     ghost meaning = { count_of };
 
@@ -229,7 +229,10 @@ impl Target for CountTargets {
 }
 
 /// What the first word means, and what follows it; none if there is no word.
-fn first_target<T: Target>(alloc: Global, bytes: &[u8]) -> Result<Option<(T::Kept, &[u8])>, Refusal>
+fn first_target<T: Target>(
+    alloc: Global,
+    bytes: &[u8],
+) -> Result<Option<(T::Stored, &[u8])>, Refusal>
     ensures gives { GivesFirst T.meaning bytes.now result }
     ensures shorter { IsShorterRest bytes.now result }
 {
@@ -246,7 +249,7 @@ fn first_target<T: Target>(alloc: Global, bytes: &[u8]) -> Result<Option<(T::Kep
 }
 
 /// The targets of a word each.
-pub fn targets<T: Target>(alloc: Global, words_text: &[u8]) -> Result<Sequence<T::Kept>, Refusal>
+pub fn targets<T: Target>(alloc: Global, words_text: &[u8]) -> Result<Sequence<T::Stored>, Refusal>
     ensures gives { Gives result (each T.meaning (words words_text.now)) }
 {
     let mut found = Vec::new(alloc);

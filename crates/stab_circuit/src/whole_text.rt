@@ -111,7 +111,7 @@ impl CircuitReader {
         ensures same { OnOk result (progress_of self.new ≡ progress_of self.old) }
         ensures outside { OnOk result (length self.new.open_blocks.items ≡ 0) }
         ensures none { OnOk result (self.new.items.items ≡ []) }
-        ensures kept { OnOk result (KeepsStretches self.old.outer.items self.new.outer.items) }
+        ensures preserved { OnOk result (KeepsStretches self.old.outer.items self.new.outer.items) }
         ensures stretches { OnOk result (AreLineStretches self.new.outer.items stretches.new) }
         ensures fault { IfErr result (λ r. r ≡ OutOfMemory) }
     {
@@ -136,7 +136,7 @@ impl CircuitReader {
         ensures same { OnOk result (progress_of self.new ≡ progress_of self.old) }
         ensures outside { OnOk result (length self.new.open_blocks.items ≡ 0) }
         ensures none { OnOk result (self.new.items.items ≡ []) }
-        ensures kept { OnOk result (KeepsStretches self.old.outer.items self.new.outer.items) }
+        ensures preserved { OnOk result (KeepsStretches self.old.outer.items self.new.outer.items) }
         ensures stretches { OnOk result (AreLineStretches self.new.outer.items stretches.new) }
         ensures run { OnOk result (stretches.new.run ≡ None) }
         ensures fault { IfErr result (λ r. r ≡ OutOfMemory) }

@@ -1,2 +1,3 @@
+pub mod Coins
 pub mod Usages
 pub mod Jobs

@@ -4,6 +4,7 @@
 //! `stab_script`, passed on as far as the program and its callers take them; each crate says what is proved about them.
 //! Here is what answers the status of the program:
 //!
+//! - `coins`: the coins of a file.
 //! - `status`: running a job.
 //! - `usage`: reporting words that ask for no job.
 //!
@@ -11,13 +12,15 @@
 //!
 //! Proved: `run_job` carries what is proved of each command for a job, with its status and the lines that report its
 //! fault (`specs/Jobs.antt`). `write_usage` writes the text of words that ask for no job, with its status
-//! (`specs/Usages.antt`).
+//! (`specs/Usages.antt`). `read_coins` gives the coins of a file (`specs/Coins.antt`).
 #![tactic(auto)]
 
+mod coins;
 mod status;
 mod usage;
 
-pub use stab_args::{CoinsFault, NO_COINS, Usage, parse_words, read_coins};
+pub use coins::{CoinsFault, read_coins};
+pub use stab_args::{NO_COINS, Usage, parse_words};
 pub use stab_commands::{run_detect, run_sample, run_stabilisers};
 pub use stab_jobs::{
     Command, DistanceOptions, ErrorLetters, FaultLayout, Job, QubitCount, Question, Shots, Source,

@@ -13,8 +13,8 @@ round f a b = grind arith
 gone : (a b : Bool) → (b ⊕ b) ⊕ a ≡ a
 gone a b = grind arith
 
-kept : (f a b : Bool) → (b ⊕ (f ⊕ b)) ⊕ a ≡ f ⊕ a
-kept f a b = grind arith
+preserved : (f a b : Bool) → (b ⊕ (f ⊕ b)) ⊕ a ≡ f ⊕ a
+preserved f a b = grind arith
 
 either : (a b : Bool) → a ⊕ b ≡ b ⊕ a
 either a b = grind arith
@@ -39,12 +39,12 @@ flipped-none [] (y ∷ ys) e = absurd (omega (arith, e))
 flipped-none (x ∷ xs) [] e = absurd (omega (arith, e))
 flipped-none (x ∷ xs) (y ∷ ys) e = λ i. gone x y i ∷ flipped-none xs ys (omega (arith, e)) i
 
-flipped-kept : (fs xs ys : List Bool) → length xs ≡ length ys → flipped xs (flipped (flipped ys fs) ys) ≡ flipped xs fs
-flipped-kept [] xs ys e = ap (λ l. flipped xs (flipped l ys)) (flipped-empty ys) ∙ flipped-none xs ys e ∙ sym (flipped-empty xs)
-flipped-kept (f ∷ fs) [] [] e = refl
-flipped-kept (f ∷ fs) [] (y ∷ ys) e = absurd (omega (arith, e))
-flipped-kept (f ∷ fs) (x ∷ xs) [] e = absurd (omega (arith, e))
-flipped-kept (f ∷ fs) (x ∷ xs) (y ∷ ys) e = λ i. kept f x y i ∷ flipped-kept fs xs ys (omega (arith, e)) i
+flipped-preserved : (fs xs ys : List Bool) → length xs ≡ length ys → flipped xs (flipped (flipped ys fs) ys) ≡ flipped xs fs
+flipped-preserved [] xs ys e = ap (λ l. flipped xs (flipped l ys)) (flipped-empty ys) ∙ flipped-none xs ys e ∙ sym (flipped-empty xs)
+flipped-preserved (f ∷ fs) [] [] e = refl
+flipped-preserved (f ∷ fs) [] (y ∷ ys) e = absurd (omega (arith, e))
+flipped-preserved (f ∷ fs) (x ∷ xs) [] e = absurd (omega (arith, e))
+flipped-preserved (f ∷ fs) (x ∷ xs) (y ∷ ys) e = λ i. preserved f x y i ∷ flipped-preserved fs xs ys (omega (arith, e)) i
 
 pub flipped-either : (xs ys : List Bool) → length xs ≡ length ys → flipped xs ys ≡ flipped ys xs
 flipped-either [] [] e = refl
@@ -72,9 +72,9 @@ inverted-round a b flips alike = λ i. record {
   observables = flipped-round flips.observables a.observables b.observables alike.observables i;
 }
 
-pub inverted-kept : (a b flips : ShotBits) → AreAlike a b → inverted a (inverted (inverted b flips) b) ≡ inverted a flips
-inverted-kept a b flips alike = λ i. record {
-  records = flipped-kept flips.records a.records b.records alike.records i;
-  detectors = flipped-kept flips.detectors a.detectors b.detectors alike.detectors i;
-  observables = flipped-kept flips.observables a.observables b.observables alike.observables i;
+pub inverted-preserved : (a b flips : ShotBits) → AreAlike a b → inverted a (inverted (inverted b flips) b) ≡ inverted a flips
+inverted-preserved a b flips alike = λ i. record {
+  records = flipped-preserved flips.records a.records b.records alike.records i;
+  detectors = flipped-preserved flips.detectors a.detectors b.detectors alike.detectors i;
+  observables = flipped-preserved flips.observables a.observables b.observables alike.observables i;
 }

@@ -1,7 +1,7 @@
--- Positions of coins: those that flags show, one after another, and the steps that take them.
+-- Positions of coins: those that the randomness shows, one after another, and the steps that take them.
 use Rattle.stab_commands.proofs.Names.{◌≡◌, ℕ, zero, suc, ◌+◌, ◌-◌, ◌<◌, ◌≤◌, ◌==◌, refl, sym, ◌∙◌, ap, ap₂, subst, Bool, true, false, ◌&&◌, nat_lt, List, [], ◌∷◌, ◌++◌, append-nil, append_assoc, length, take, drop, map, get_or, inl, inr, arith, if◌then◌else◌, All, ◌⊎◌, nat_tests, length-map, map-append, length-drop, length-take, take_all, take-nil, get_or-drop, All-nil, All-cons, All-head, All-tail, All-map, Items, Step, one, detector, measured, controlled_step, unroll, observables_of, Steps, Gates, Pairs, Measurements, Detectors, Single, step_shown, steps_shown, lookbacks_of, Axis, ControlledPair, State, start, run_of, origin, coins_of, all_coins_of, run-state, coins-one, one_positions_from, one_positions, parity-false, AreAscending, unit_coin, run-items, coin_flipped, zero_coins, steps_before_coin, step_of_coin, coins_together}
 use Rattle.stab_instructions.specs.declared.control.ControlledPair.TheVariants as pair
-use Rattle.stab_recording.proofs.RestPropagatedLemmas.{flags-counted}
+use Rattle.stab_recording.proofs.RestPropagatedLemmas.{randomness-counted}
 
 -- the positions of 1 bits
 
@@ -223,9 +223,9 @@ gathered-group free xs ys rest number coin count numbers steps more further at (
 -- all are gathered when no step is left
 pub gathered-all : (free : List Bool) (xs : List Step) (number coin : ℕ) (numbers steps : List ℕ) → drop number xs ≡ [] → length free ≡ all_coins_of xs
     → AreGathered free xs number coin numbers steps → (numbers ≡ one_positions free) × (steps ≡ map (step_of_coin xs) (one_positions free))
-gathered-all free xs number coin numbers steps none' flags are =
+gathered-all free xs number coin numbers steps none' randomness are =
     let long : length xs ≤ number = omega (arith, length-drop number xs, ap length none') in
-    let all : take coin free ≡ free = take_all coin free (omega (arith, are.coin_is, flags, ap all_coins_of (take_all number xs long))) in
+    let all : take coin free ≡ free = take_all coin free (omega (arith, are.coin_is, randomness, ap all_coins_of (take_all number xs long))) in
     (are.numbers_are ∙ ap one_positions all, are.steps_are ∙ ap (λ l. map (step_of_coin xs) (one_positions l)) all)
 
 -- a coin that decides is one that a step takes
@@ -250,15 +250,15 @@ step-within t (x ∷ xs) lt = by_test (nat_lt t (coins_of x)) refl (step-within 
 
 pub free-step-within : (free : List Bool) (xs : List Step) (i : ℕ) → length free ≡ all_coins_of xs → i < length (one_positions free)
     → step_of_coin xs (get_or (one_positions free) i 0) < length xs
-free-step-within free xs i flags lt = step-within (get_or (one_positions free) i 0) xs (omega (arith, flags, positions-below 0 free i lt))
+free-step-within free xs i randomness lt = step-within (get_or (one_positions free) i 0) xs (omega (arith, randomness, positions-below 0 free i lt))
 
 -- a run has a flag for each coin that its steps take
 
-pub flags-of-run : (n : ℕ) (coins : ℕ → Bool) (items : Items) → length (run_of n coins items).free ≡ all_coins_of (unroll items)
-flags-of-run n coins items =
+pub randomness-of-run : (n : ℕ) (coins : ℕ → Bool) (items : Items) → length (run_of n coins items).free ≡ all_coins_of (unroll items)
+randomness-of-run n coins items =
     ap (λ (s : State). length s.free)
     (sym (run-items n coins items (unroll items) (observables_of items) refl refl) ∙ run-state n coins (unroll items) (start (observables_of items)))
-    ∙ flags-counted n coins (unroll items) origin
+    ∙ randomness-counted n coins (unroll items) origin
 
 -- the coin that is 1 in a lane
 pub unit-flipped : (numbers : List ℕ) (first l s : ℕ) → first + l < length numbers

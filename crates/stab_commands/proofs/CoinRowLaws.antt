@@ -1,6 +1,6 @@
 -- Laws of the rows of coins: the steps that take coins, and the rows of lanes and of a whole table.
 use Rattle.stab_commands.proofs.Names.{◌≡◌, refl, sym, ap, ap₂, ◌∙◌, subst, ℕ, zero, suc, ◌+◌, ◌*◌, ◌/◌, ◌%◌, ◌<◌, ◌≤◌, Bool, List, [], ◌∷◌, ◌++◌, append_assoc, append-nil, length, map, get_or, arith, flat_map, get_or-map, length-append, length-map, map-append, Items, qubits_of, unroll, detectors_of, observables_of, length-flipped, bits_in, run_of, kinds_detectors, lane_bits, ShotBits, flips_of, coin_flipped, zero_coins, step_of_coin, AreCoinRuns, deciding_coins, CoinRow, row_by, table_of, CoinRuns, FaultLayout, coin_entry, coins_text, whole_bits, whole_kinds, checked_bits, texts_from, HaveFlips, flips_at, text_at}
-use Rattle.stab_commands.proofs.CoinPositionLemmas.{flags-of-run, free-step-within}
+use Rattle.stab_commands.proofs.CoinPositionLemmas.{randomness-of-run, free-step-within}
 use Rattle.stab_commands.proofs.CountLaws.{numbers_of_runs}
 
 -- where coins decide
@@ -19,7 +19,7 @@ step_within n items r k are within =
     let inside = subst (λ l. k < length l) are.numbers within in
     subst (λ t. t < length (unroll items))
     (sym (ap (λ l. get_or l k 0) are.steps ∙ get_or-map (step_of_coin (unroll items)) (deciding_coins n items) k 0 0 inside))
-    (free-step-within (run_of n zero_coins items).free (unroll items) k (flags-of-run n zero_coins items) inside)
+    (free-step-within (run_of n zero_coins items).free (unroll items) k (randomness-of-run n zero_coins items) inside)
 
 -- lanes
 

@@ -112,7 +112,7 @@ pub use Rattle.stab_jobs.specs.declared.job.FaultLayout.{FaultLayout}
 pub use Rattle.stab_instructions.proofs.WriteLemmas.{writes_failed, writes_then, writes_as}
 pub use Rattle.stab_regions.specs.SingleErrors.{bits_in, numbers_where, IsSingleErrorTable, bit, IsDeterministic, RowsAdd}
 pub use Rattle.stab_run.proofs.CoinLemmas.{coins-steps, coins-one, coins-few}
-pub use Rattle.stab_run.proofs.FitLemmas.{check-fits, check-steps}
+pub use Rattle.stab_run.proofs.FitLemmas.{check-fits, check-steps, check-whole}
 pub use Rattle.stab_run.specs.Points.{all_coins_of, coins_of, Point, RunOutput, origin, next_point, point_after, with_additions}
 pub use Rattle.stab_run.specs.Records.{parity}
 pub use Rattle.stab_sampler.proofs.WordLemmas.{word_bit-zero}

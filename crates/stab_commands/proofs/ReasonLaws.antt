@@ -147,10 +147,10 @@ module _ (n : ℕ) (items : Items) (i : ℕ) where
   flips-counted : (t : ℕ) → Counted (flips_of n items zero_coins t)
   flips-counted t = inverted-counted (shot_bits_of (run_of n (coin_flipped t zero_coins) items)) (shot_bits_of (run_of n zero_coins items)) (run-counted (coin_flipped t zero_coins))
 
-  kept : (coins : ℕ → Bool) (ts : List ℕ) (bits : ShotBits) → Counted bits → deciders i (map (row_by n items zero_coins) ts) ≡ []
+  preserved : (coins : ℕ → Bool) (ts : List ℕ) (bits : ShotBits) → Counted bits → deciders i (map (row_by n items zero_coins) ts) ≡ []
       → get_or (checked_bits (with_rows coins (map (row_by n items zero_coins) ts) bits)) i false ≡ get_or (checked_bits bits) i false
-  kept coins [] bits counted none = refl
-  kept coins (t ∷ ts) bits counted none = by_coin (λ more are. kept coins ts more are split.1) (coins t)
+  preserved coins [] bits counted none = refl
+  preserved coins (t ∷ ts) bits counted none = by_coin (λ more are. preserved coins ts more are split.1) (coins t)
     where
       flips : ShotBits
       flips = flips_of n items zero_coins t
@@ -177,7 +177,7 @@ module _ (n : ℕ) (items : Items) (i : ℕ) where
       as_zero coins =
           ap (λ bits. get_or (checked_bits bits) i false) (table.adds coins)
           ∙ ap (λ l. get_or (checked_bits (with_rows coins l (shot_bits_of (run_of n zero_coins items)))) i false) (table.listed zero_coins)
-          ∙ kept coins all (shot_bits_of (run_of n zero_coins items)) (run-counted zero_coins) (ap (deciders i) (sym (table.listed zero_coins)) ∙ none)
+          ∙ preserved coins all (shot_bits_of (run_of n zero_coins items)) (run-counted zero_coins) (ap (deciders i) (sym (table.listed zero_coins)) ∙ none)
 
 pub deterministic-has-no-decider : DeterministicHasNoDecider
 deterministic-has-no-decider items rows i table within = (deterministic-has-none (qubits_of items) items i rows table, none-has-deterministic (qubits_of items) items i rows table)

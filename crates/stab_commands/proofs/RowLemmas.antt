@@ -1,6 +1,6 @@
 -- Rows: each coin flips the same bits whatever the others are, and each run is the sum of the rows of its coins.
 use Rattle.stab_commands.proofs.Names.{◌≡◌, ℕ, zero, suc, ◌+◌, ◌-◌, ◌<◌, ◌≤◌, ◌==◌, refl, sym, ◌∙◌, ap, subst, Bool, true, false, List, [], ◌∷◌, map, get_or, arith, inl, inr, All, ◌⊎◌, if◌then◌else◌, cases_eq, cases_lt, All-head, All-tail, ◌⊕◌, Items, unroll, State, run_of, StepFits, run_of-same, one_positions_from, one_positions, ShotBits, shot_bits_of, inverted, coin_flipped, flips_of, zero_coins, CoinRow, row_by, with_rows, IsCoinTable, table_of, CoinsHaveRows}
-use Rattle.stab_commands.proofs.BitLemmas.{AreAlike, inverted-alike, inverted-round, inverted-kept}
+use Rattle.stab_commands.proofs.BitLemmas.{AreAlike, inverted-alike, inverted-round, inverted-preserved}
 use Rattle.stab_commands.proofs.PropagatedPointLemmas.{flips_by, bits-changed, bits-zero, random-zero}
 
 same : (s t : ℕ) → s ≡ t → (s == t) ≡ true
@@ -36,7 +36,7 @@ module _ (n : ℕ) (items : Items) (fits : All (StepFits n) (unroll items)) wher
   row-inverts : (coins : ℕ → Bool) (t : ℕ) → inverted (shot_bits_of (run_of n coins items)) (flips_of n items zero_coins t) ≡ shot_bits_of (run_of n (coin_flipped t coins) items)
   row-inverts coins t =
       ap (inverted (shot_bits_of (run_of n coins items))) (row-is zero_coins t)
-      ∙ inverted-kept (shot_bits_of (run_of n coins items)) zeros (flips_by n items fits (λ s. s == t)) (alike-zero coins)
+      ∙ inverted-preserved (shot_bits_of (run_of n coins items)) zeros (flips_by n items fits (λ s. s == t)) (alike-zero coins)
       ∙ sym (bits-changed n items fits coins (λ s. s == t))
 
   -- a coin that decides nothing
@@ -48,34 +48,34 @@ module _ (n : ℕ) (items : Items) (fits : All (StepFits n) (unroll items)) wher
         where
           by_cases : (s ≡ t) ⊎ (s ≡ t → ⊥) → coins s ≡ coin_flipped t coins s
           by_cases (inl e) =
-              let not' : true ≡ false = sym free ∙ ap (λ flags. get_or flags s false) (random-zero n items fits coins) ∙ ap (λ k. get_or (run_of n zero_coins items).free k false) e ∙ fixed in
+              let not' : true ≡ false = sym free ∙ ap (λ randomness. get_or randomness s false) (random-zero n items fits coins) ∙ ap (λ k. get_or (run_of n zero_coins items).free k false) e ∙ fixed in
               absurd (cc)
           by_cases (inr ne) = sym (flipped-elsewhere t s coins ne)
 
-  absent : (k : ℕ) (flags : List Bool) (i : ℕ) → All (λ (r : CoinRow). r.coin ≡ k + i → ⊥) (map (row_by n items zero_coins) (one_positions_from k flags)) → get_or flags i false ≡ false
+  absent : (k : ℕ) (randomness : List Bool) (i : ℕ) → All (λ (r : CoinRow). r.coin ≡ k + i → ⊥) (map (row_by n items zero_coins) (one_positions_from k randomness)) → get_or randomness i false ≡ false
   absent k [] i all = refl
-  absent k (false ∷ flags) zero all = refl
-  absent k (false ∷ flags) (suc i) all =
-      absent (k + 1) flags i (subst (λ m. All (λ (r : CoinRow). r.coin ≡ m → ⊥) (map (row_by n items zero_coins) (one_positions_from (k + 1) flags))) (omega arith) all)
-  absent k (true ∷ flags) zero all = absurd (All-head (λ (r : CoinRow). r.coin ≡ k + 0 → ⊥) (row_by n items zero_coins k) (map (row_by n items zero_coins) (one_positions_from (k + 1) flags)) all (omega arith))
-  absent k (true ∷ flags) (suc i) all =
-      absent (k + 1) flags i (subst (λ m. All (λ (r : CoinRow). r.coin ≡ m → ⊥) (map (row_by n items zero_coins) (one_positions_from (k + 1) flags))) (omega arith)
-      (All-tail (λ (r : CoinRow). r.coin ≡ k + suc i → ⊥) (row_by n items zero_coins k) (map (row_by n items zero_coins) (one_positions_from (k + 1) flags)) all))
+  absent k (false ∷ randomness) zero all = refl
+  absent k (false ∷ randomness) (suc i) all =
+      absent (k + 1) randomness i (subst (λ m. All (λ (r : CoinRow). r.coin ≡ m → ⊥) (map (row_by n items zero_coins) (one_positions_from (k + 1) randomness))) (omega arith) all)
+  absent k (true ∷ randomness) zero all = absurd (All-head (λ (r : CoinRow). r.coin ≡ k + 0 → ⊥) (row_by n items zero_coins k) (map (row_by n items zero_coins) (one_positions_from (k + 1) randomness)) all (omega arith))
+  absent k (true ∷ randomness) (suc i) all =
+      absent (k + 1) randomness i (subst (λ m. All (λ (r : CoinRow). r.coin ≡ m → ⊥) (map (row_by n items zero_coins) (one_positions_from (k + 1) randomness))) (omega arith)
+      (All-tail (λ (r : CoinRow). r.coin ≡ k + suc i → ⊥) (row_by n items zero_coins k) (map (row_by n items zero_coins) (one_positions_from (k + 1) randomness)) all))
 
   -- the rows of the coins from a number on, if some coins below are those of a run and all others are 0
   module _ (coins : ℕ → Bool) where
     abbrev rows_from : ℕ → List Bool → List CoinRow
-    rows_from k flags = map (row_by n items zero_coins) (one_positions_from k flags)
+    rows_from k randomness = map (row_by n items zero_coins) (one_positions_from k randomness)
 
     pub record IsBelow (k : ℕ) (some : ℕ → Bool) : Type 0 where
       pub below : (s : ℕ) → s < k → some s ≡ coins s
       pub rest : (s : ℕ) → k ≤ s → some s ≡ false
 
-    abbrev AreFlags : ℕ → List Bool → Type 0
-    AreFlags k flags = (i : ℕ) → get_or (run_of n zero_coins items).free (k + i) false ≡ get_or flags i false
+    abbrev IsRandomness : ℕ → List Bool → Type 0
+    IsRandomness k randomness = (i : ℕ) → get_or (run_of n zero_coins items).free (k + i) false ≡ get_or randomness i false
 
-    flags-rest : (k : ℕ) (b : Bool) (flags : List Bool) → AreFlags k (b ∷ flags) → AreFlags (k + 1) flags
-    flags-rest k b flags are i = ap (λ m. get_or (run_of n zero_coins items).free m false) (omega arith) ∙ are (suc i)
+    randomness-rest : (k : ℕ) (b : Bool) (randomness : List Bool) → IsRandomness k (b ∷ randomness) → IsRandomness (k + 1) randomness
+    randomness-rest k b randomness are i = ap (λ m. get_or (run_of n zero_coins items).free m false) (omega arith) ∙ are (suc i)
 
     below-flipped : (k : ℕ) (some : ℕ → Bool) → coins k ≡ true → IsBelow k some → IsBelow (k + 1) (coin_flipped k some)
     below-flipped k some one is = record { below = λ s lt. at s lt (cases_eq s k); rest = λ s le. flipped-elsewhere k s some (omega (arith, le)) ∙ is.rest s (omega (arith, le)) }
@@ -91,7 +91,7 @@ module _ (n : ℕ) (items : Items) (fits : All (StepFits n) (unroll items)) wher
         at s lt (inl e) = is.rest s (omega (arith, e)) ∙ sym (ap coins e ∙ zero')
         at s lt (inr ne) = is.below s (omega (arith, lt, ne))
 
-    all-below : (k : ℕ) (some : ℕ → Bool) → AreFlags k [] → IsBelow k some → run_of n coins items ≡ run_of n some items
+    all-below : (k : ℕ) (some : ℕ → Bool) → IsRandomness k [] → IsBelow k some → run_of n coins items ≡ run_of n some items
     all-below k some are is = run_of-same n some items coins (λ s free. by_cases s free (cases_lt s k))
       where
         by_cases : (s : ℕ) → get_or (run_of n some items).free s false ≡ true → (s < k) ⊎ (k ≤ s) → some s ≡ coins s
@@ -99,34 +99,34 @@ module _ (n : ℕ) (items : Items) (fits : All (StepFits n) (unroll items)) wher
         by_cases s free (inr le) =
             let at : k + (s - k) ≡ s = omega (arith, le) in
             let not' : true ≡ false =
-            sym free ∙ ap (λ flags. get_or flags s false) (random-zero n items fits some) ∙ ap (λ m. get_or (run_of n zero_coins items).free m false) (sym at) ∙ are (s - k) in
+            sym free ∙ ap (λ randomness. get_or randomness s false) (random-zero n items fits some) ∙ ap (λ m. get_or (run_of n zero_coins items).free m false) (sym at) ∙ are (s - k) in
             absurd (cc)
 
-    sum-from : (k : ℕ) (flags : List Bool) (some : ℕ → Bool) → AreFlags k flags → IsBelow k some
-        → with_rows coins (rows_from k flags) (shot_bits_of (run_of n some items)) ≡ shot_bits_of (run_of n coins items)
+    sum-from : (k : ℕ) (randomness : List Bool) (some : ℕ → Bool) → IsRandomness k randomness → IsBelow k some
+        → with_rows coins (rows_from k randomness) (shot_bits_of (run_of n some items)) ≡ shot_bits_of (run_of n coins items)
     sum-from k [] some are is = ap shot_bits_of (sym (all-below k some are is))
-    sum-from k (false ∷ flags) some are is = by_coin (λ next. sum-from (k + 1) flags next (flags-rest k false flags are)) (coins k) refl
+    sum-from k (false ∷ randomness) some are is = by_coin (λ next. sum-from (k + 1) randomness next (randomness-rest k false randomness are)) (coins k) refl
       where
         fixed : get_or (run_of n zero_coins items).free k false ≡ false
         fixed = ap (λ m. get_or (run_of n zero_coins items).free m false) (omega arith) ∙ are 0
 
-        by_coin : ((next : ℕ → Bool) → IsBelow (k + 1) next → with_rows coins (rows_from (k + 1) flags) (shot_bits_of (run_of n next items)) ≡ shot_bits_of (run_of n coins items))
-            → (b : Bool) → coins k ≡ b → with_rows coins (rows_from (k + 1) flags) (shot_bits_of (run_of n some items)) ≡ shot_bits_of (run_of n coins items)
+        by_coin : ((next : ℕ → Bool) → IsBelow (k + 1) next → with_rows coins (rows_from (k + 1) randomness) (shot_bits_of (run_of n next items)) ≡ shot_bits_of (run_of n coins items))
+            → (b : Bool) → coins k ≡ b → with_rows coins (rows_from (k + 1) randomness) (shot_bits_of (run_of n some items)) ≡ shot_bits_of (run_of n coins items)
         by_coin later true one =
-            ap (λ (s : State). with_rows coins (rows_from (k + 1) flags) (shot_bits_of s)) (sym (still some k fixed)) ∙ later (coin_flipped k some) (below-flipped k some one is)
+            ap (λ (s : State). with_rows coins (rows_from (k + 1) randomness) (shot_bits_of s)) (sym (still some k fixed)) ∙ later (coin_flipped k some) (below-flipped k some one is)
         by_coin later false zero' = later some (below-same k some zero' is)
-    sum-from k (true ∷ flags) some are is = by_coin (λ next. sum-from (k + 1) flags next (flags-rest k true flags are)) (coins k) refl
+    sum-from k (true ∷ randomness) some are is = by_coin (λ next. sum-from (k + 1) randomness next (randomness-rest k true randomness are)) (coins k) refl
       where
-        by_coin : ((next : ℕ → Bool) → IsBelow (k + 1) next → with_rows coins (rows_from (k + 1) flags) (shot_bits_of (run_of n next items)) ≡ shot_bits_of (run_of n coins items))
+        by_coin : ((next : ℕ → Bool) → IsBelow (k + 1) next → with_rows coins (rows_from (k + 1) randomness) (shot_bits_of (run_of n next items)) ≡ shot_bits_of (run_of n coins items))
             → (b : Bool) → coins k ≡ b
-            → with_rows coins (rows_from (k + 1) flags) (if coins k then inverted (shot_bits_of (run_of n some items)) (flips_of n items zero_coins k) else shot_bits_of (run_of n some items))
+            → with_rows coins (rows_from (k + 1) randomness) (if coins k then inverted (shot_bits_of (run_of n some items)) (flips_of n items zero_coins k) else shot_bits_of (run_of n some items))
             ≡ shot_bits_of (run_of n coins items)
         by_coin later true one =
-            ap (λ b. with_rows coins (rows_from (k + 1) flags) (if b then inverted (shot_bits_of (run_of n some items)) (flips_of n items zero_coins k) else shot_bits_of (run_of n some items))) one
-            ∙ ap (with_rows coins (rows_from (k + 1) flags)) (row-inverts some k)
+            ap (λ b. with_rows coins (rows_from (k + 1) randomness) (if b then inverted (shot_bits_of (run_of n some items)) (flips_of n items zero_coins k) else shot_bits_of (run_of n some items))) one
+            ∙ ap (with_rows coins (rows_from (k + 1) randomness)) (row-inverts some k)
             ∙ later (coin_flipped k some) (below-flipped k some one is)
         by_coin later false zero' =
-            ap (λ b. with_rows coins (rows_from (k + 1) flags) (if b then inverted (shot_bits_of (run_of n some items)) (flips_of n items zero_coins k) else shot_bits_of (run_of n some items))) zero'
+            ap (λ b. with_rows coins (rows_from (k + 1) randomness) (if b then inverted (shot_bits_of (run_of n some items)) (flips_of n items zero_coins k) else shot_bits_of (run_of n some items))) zero'
             ∙ later some (below-same k some zero' is)
 
   pub coin-table : IsCoinTable n items (table_of n items)

@@ -80,7 +80,7 @@ pub(crate) fn coin_positions(
     free: &[bool],
 ) -> Result<CoinPositions, Refusal>
     requires checked { check_of (circuit_items circuit.now) ≡ None }
-    requires flags { length free.now ≡ all_coins_of (unroll (circuit_items circuit.now)) }
+    requires randomness { length free.now ≡ all_coins_of (unroll (circuit_items circuit.now)) }
     ensures numbers { IfOk result (λ p. p.numbers.items ≡ one_positions free.now) }
     ensures steps { IfOk result (λ p. p.steps.items ≡ map (step_of_coin (unroll (circuit_items circuit.now))) (one_positions free.now)) }
     ensures distinct { IfOk result (λ p. All HasDistinctQubits (unroll (circuit_items circuit.now))) }

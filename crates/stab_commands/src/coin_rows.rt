@@ -209,14 +209,12 @@ fn write_lanes<O: Output, W: Word>(
     lanes: usize,
     bits: &mut [bool],
 ) -> Result<(), Fault>
-    requires checked { check_of (circuit_items circuit.now) ≡ None }
     requires runs { AreCoinRuns (qubits_of (circuit_items circuit.now)) (circuit_items circuit.now) runs.now }
     requires part { 64 * part + 64 ≤ W.lanes }
     requires in_range { lanes ≤ 64 }
     requires some { first + lanes ≤ length runs.now.numbers.items }
-    requires as_many { length bits.old ≡ length words.now }
-    requires zero { bits.old ≡ replicate (length bits.old) false }
-    requires within { detector_bits_of (whole_kinds (circuit_items circuit.now)) ≤ length bits.old }
+    requires zero { bits.old ≡ replicate (length words.now) false }
+    requires within { detector_bits_of (whole_kinds (circuit_items circuit.now)) ≤ length words.now }
     ensures sends { HaveFlips (λ w k. W.at w (64 * part + k)) (circuit_items circuit.now) first lanes words.now → SendsUnflushed (texts_from (text_at layout (circuit_items circuit.now)) first lanes) (O.seen out.old) (O.seen out.new) result }
     ensures same { OnOk result (bits.new ≡ bits.old) }
 {
@@ -242,7 +240,6 @@ pub(crate) fn write_parts<O: Output, W: Word>(
     words: &[W],
     lanes: usize,
 ) -> Result<(), Fault>
-    requires checked { check_of (circuit_items circuit.now) ≡ None }
     requires runs { AreCoinRuns (qubits_of (circuit_items circuit.now)) (circuit_items circuit.now) runs.now }
     requires in_range { lanes ≤ W.lanes }
     requires some { first + lanes ≤ length runs.now.numbers.items }

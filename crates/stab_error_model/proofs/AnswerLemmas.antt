@@ -2,7 +2,7 @@
 use Rattle.stab_error_model.proofs.Names.{◌≡◌, ℕ, ◌<◌, sym, subst, false, Result, Ok, Err, IfOk, length, arith, Option, Some, unwrap_or, Items, HasNoneWithin, IsLeastAnswer, none-up_to, Answer, Least, NoneWithin, NoneAtAll, ErrorTableState, IsErrorTable, IsDistance, with_observable}
 use Rattle.std.proofs.Common.{None}
 use Rattle.stab_search.specs.Tables.{ErrorTable}
-use Rattle.stab_error_model.proofs.ObservedLemmas.{as-many-kept}
+use Rattle.stab_error_model.proofs.ObservedLemmas.{as-many-retained}
 use Rattle.stab_error_model.proofs.UnseenLemmas.{least-unseen, none-unseen, none-unseen-within, some-unseen}
 
 module _ (n : ℕ) (items : Items) (observable : Option ℕ) (t : ErrorTableState) (table : IsErrorTable n items t) where
@@ -12,7 +12,7 @@ module _ (n : ℕ) (items : Items) (observable : Option ℕ) (t : ErrorTableStat
   answer-is (Some w) bound NoneWithin e is = (none-unseen-within n items observable t table w (subst (HasNoneWithin (with_observable observable t.table)) e is.0), some-unseen n items observable t table is.1)
   answer-is None bound NoneWithin e is =
       let errors = is.1.0 in
-      let less : length errors < length errors = none-up_to (with_observable observable t.table) (length errors) bound (omega (arith, e, as-many-kept t.table observable)) is.0 errors is.1.1 in
+      let less : length errors < length errors = none-up_to (with_observable observable t.table) (length errors) bound (omega (arith, e, as-many-retained t.table observable)) is.0 errors is.1.1 in
       absurd (omega (arith, less))
 
 -- what is answered of a table in which an observable counts, or any

@@ -1,7 +1,7 @@
 -- Counts: how many logical errors of the least size a table has is how many least unseen sets its errors have.
 use Rattle.stab_error_model.proofs.Names.{◌≡◌, ℕ, ◌<◌, sym, subst, false, List, [], length, length-map, arith, Option, Some, None, Result, Ok, Err, IfOk, All-weaker, Items, Answer, NoneWithin, NoneAtAll, ErrorTableState, IsErrorTable, IsDistance, IsLeastSet, IsSetCount, IsWithinAsked, error_at, errors_at_numbers, with_observable, HasNoneBelow, IsLogicalSetOf, AreAsMany, IsCountOfSets, IsLogicalError}
 use Rattle.stab_search.specs.Tables.{ErrorTable}
-use Rattle.stab_error_model.proofs.ObservedLemmas.{from-kept, to-kept}
+use Rattle.stab_error_model.proofs.ObservedLemmas.{from-retained, to-retained}
 use Rattle.stab_error_model.proofs.UnseenLemmas.{as-many, logical-of, logical-unseen}
 
 -- as many sets are of one kind as of another, if the same sets are
@@ -29,20 +29,20 @@ module _ (n : ℕ) (items : Items) (observable : Option ℕ) (t : ErrorTableStat
   -- no logical error has fewer errors than a least unseen set
   pub none-below : (most : Option ℕ) (ks : List ℕ) → IsLeastSet false observable n items t.errors most ks → HasNoneBelow sought (length ks)
   none-below most ks least errors logical =
-      let unseen = logical-unseen n items observable t table false errors (from-kept t.table observable errors logical) (λ asked. absurd (cc)) in
+      let unseen = logical-unseen n items observable t table false errors (from-retained t.table observable errors logical) (λ asked. absurd (cc)) in
       let le = least.least.least (errors_at_numbers t.errors errors) unseen in
       omega (arith, le, length-map ks (error_at t.errors), length-map errors (error_at t.errors))
 
   -- a least unseen set is a logical error of the rows that are searched
   logical-set : (most : Option ℕ) (ks : List ℕ) → IsLeastSet false observable n items t.errors most ks → IsLogicalError sought ks
   logical-set most ks least =
-      to-kept t.table observable ks
+      to-retained t.table observable ks
       (logical-of n items observable t table ks (All-weaker (λ k. k < length t.errors) (λ k. k < length t.table.rows) (λ k less. omega (arith, less, as-many n items observable t table)) ks least.inside) least.least.unseen.unseen)
 
   module _ (most : Option ℕ) (ks : List ℕ) (least : IsLeastSet false observable n items t.errors most ks) where
     to-least : (errors : List ℕ) → IsLogicalSetOf sought (length ks) errors → IsLeastSet false observable n items t.errors most errors
     to-least errors set =
-        let logical = from-kept t.table observable errors set.logical in record {
+        let logical = from-retained t.table observable errors set.logical in record {
           ascending = set.ascending;
           within = subst (IsWithinAsked most) (sym set.count) least.within;
           inside = All-weaker (λ k. k < length t.table.rows) (λ k. k < length t.errors) (λ k less. omega (arith, less, as-many n items observable t table)) errors logical.inside;

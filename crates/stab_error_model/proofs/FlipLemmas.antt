@@ -2,7 +2,7 @@
 use Rattle.stab_error_model.proofs.Names.{◌≡◌, ℕ, zero, suc, ◌+◌, ◌<◌, ◌≤◌, ◌⊎◌, inl, inr, refl, sym, ap, ◌∙◌, subst, Bool, true, false, List, [], ◌∷◌, map, length, drop, arith, All, ◌&&◌, None, slice_index_or, if◌then◌else◌, cases_lt, ne_eqb, get_or-map, get_or_past, length-map, drop-drop, All-nil, All-cons, All-head, All-tail, Letter, ◌⊕◌, letters_anticommute, parity-false, letter_of_string, one_letter-anticommute, Items, unroll, detectors_of, StepFits, row, bits_at, parity_region, SingleError, in_front, single_error_on, single_errors_of, single_error_at, numbers_where, bits_in, IsDeterministic, IsSingleErrorTable, flips, flipped_by_single_error, SingleErrorFits, flips_together, SingleErrorsAdd, DeterministicParities, SitesFlipDeterministicParities, bits-letter, long-parity, ascending-is, ascends-below, where-same, single_error-fits, odd-where, row-names, single_errors_in, single_error_of_letter, single_error_shown, error_shown, IsErrorTable, flip_together, flipped_by_error, Stands, ErrorStands, letter_flips, error_names, IsErrorRow, AreErrorRows, ErrorSite, PlacedLetter, ErrorValue, observables_of}
 use Rattle.std.specs.Prelude.{Some}
 use Rattle.stab_gates.specs.declared.letter.Letter.TheVariants as letter
-use Rattle.stab_search.specs.Tables.{odd}
+use Rattle.stab_parities.specs.OddNumbers.{odd}
 use Rattle.stab_error_model.specs.declared.placed.Error.TheVariants as error
 use Rattle.stab_error_model.proofs.FitLemmas.{Fits, errors-add}
 

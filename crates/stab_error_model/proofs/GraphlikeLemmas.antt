@@ -1,8 +1,9 @@
 -- Graph-like errors: those of a table are those that flip at most two detectors by runs, and their least sets.
 use Rattle.stab_error_model.proofs.Names.{◌≡◌, ℕ, ◌<◌, ◌⊎◌, refl, sym, ◌∙◌, subst, Bool, true, false, List, [], ◌∷◌, length, arith, Option, Some, All, unwrap_or, length-map, All-nil, All-cons, All-head, All-tail, All-weaker, parity-false, Items, bits_in, IsDeterministic, Answer, Least, NoneWithin, NoneAtAll, odd, IsGraphlike, IsGraphlikeError, IsLeastGraphlike, HasNoGraphlikeWithin, IsGraphlikeAnswer, graphlike-up_to, Error, single_errors_in, ErrorTableState, IsErrorTable, flip_together, AreUnseen, FlipsTwo, AreUnseenOf, NoneUnseenWithin, IsLeastSet, IsDistance, error_at, errors_at_numbers, with_observable, unroll, detectors_of, Result, Ok, Err, IfOk, Heard, ReportsSearch, ReportsUnseen}
 use Rattle.std.proofs.Common.{None}
-use Rattle.stab_search.specs.Tables.{ErrorTable, row}
-use Rattle.stab_error_model.proofs.ObservedLemmas.{as-many-kept, same-detectors, odd-detector, from-kept, to-kept}
+use Rattle.stab_search.specs.Tables.{ErrorTable}
+use Rattle.stab_parities.specs.OddNumbers.{row}
+use Rattle.stab_error_model.proofs.ObservedLemmas.{as-many-retained, same-detectors, odd-detector, from-retained, to-retained}
 use Rattle.stab_error_model.proofs.UnseenLemmas.{as-many, within-asked, row-names, deterministic-number, numbers-at, logical-unseen, logical-of, heard-unseen}
 
 module _ (n : ℕ) (items : Items) (observable : Option ℕ) (t : ErrorTableState) (table : IsErrorTable n items t) where
@@ -71,7 +72,7 @@ module _ (n : ℕ) (items : Items) (observable : Option ℕ) (t : ErrorTableStat
 
   graphlike-unseen : (ks : List ℕ) → IsGraphlikeError sought ks → AreUnseenOf true observable n items t.errors (errors_at_numbers t.errors ks)
   graphlike-unseen ks e =
-      let logical = from-kept t.table observable ks e.logical in
+      let logical = from-retained t.table observable ks e.logical in
       logical-unseen n items observable t table true ks logical (λ asked. rows-two ks logical.inside e.graphlike)
 
   unseen-graphlike : (errors : List Error) → AreUnseenOf true observable n items t.errors errors → (ks : List ℕ) × IsGraphlikeError sought ks × (length ks ≡ length errors)
@@ -79,7 +80,7 @@ module _ (n : ℕ) (items : Items) (observable : Option ℕ) (t : ErrorTableStat
       let numbers = numbers-at n items observable t table errors e.of in (
         numbers.0,
         record {
-          logical = to-kept t.table observable numbers.0 (logical-of n items observable t table numbers.0 numbers.1 (subst (AreUnseen n items observable) (sym numbers.2) e.unseen));
+          logical = to-retained t.table observable numbers.0 (logical-of n items observable t table numbers.0 numbers.1 (subst (AreUnseen n items observable) (sym numbers.2) e.unseen));
           graphlike = two-rows numbers.0 numbers.1 (subst (All (FlipsTwo n items)) (sym numbers.2) (e.two refl));
         },
         numbers.3,
@@ -92,7 +93,7 @@ module _ (n : ℕ) (items : Items) (observable : Option ℕ) (t : ErrorTableStat
   least-graphlike most bound ks e least = record {
     ascending = least.ascending;
     within = within-asked n items observable t table most bound (length ks) e least.within;
-    inside = All-weaker Inside (λ k. k < length t.errors) (λ k less. omega (arith, less, as-many n items observable t table)) ks (from-kept t.table observable ks least.logical.logical).inside;
+    inside = All-weaker Inside (λ k. k < length t.errors) (λ k less. omega (arith, less, as-many n items observable t table)) ks (from-retained t.table observable ks least.logical.logical).inside;
     least = record {
       unseen = graphlike-unseen ks least.logical;
       least = λ others are.
@@ -111,7 +112,7 @@ module _ (n : ℕ) (items : Items) (observable : Option ℕ) (t : ErrorTableStat
       (none-graphlike-within w (subst (HasNoGraphlikeWithin sought) e is.0), (errors_at_numbers t.errors is.1.0, graphlike-unseen is.1.0 is.1.1))
   graphlike-answer None bound NoneWithin e is =
       let errors = is.1.0 in
-      let less : length errors < length errors = graphlike-up_to sought (length errors) bound (omega (arith, e, as-many-kept t.table observable)) is.0 errors is.1.1 in
+      let less : length errors < length errors = graphlike-up_to sought (length errors) bound (omega (arith, e, as-many-retained t.table observable)) is.0 errors is.1.1 in
       absurd (omega (arith, less))
 
 -- what is answered of a table in which an observable counts, or any

@@ -1,5 +1,5 @@
 -- Landings: a letter anywhere flips what letters of errors everywhere flip, at the next step on its qubit that has some.
-use Rattle.stab_error_model.proofs.Names.{◌≡◌, ℕ, ◌+◌, ◌≤◌, ◌<◌, ◌⊎◌, inl, inr, refl, sym, ap, ◌∙◌, subst, Bool, true, false, List, [], ◌∷◌, ◌++◌, map, length, drop, arith, All, Contains, ◌==◌, PairGate, ◌≢◌, cases_eq, eqb-true, drop-drop, get_or-map, length-map, All-head, All-tail, Contains-append_left, Contains-append_right, Letter, I, ◌⊕◌, letters_anticommute, Gate, letter_image, Factor, is_on, Step, one, two, controlled, collapse, product, detector, observable, makes, records_of, detectors_of, StepFits, SingleError, Site, in_front, following, single_error_on, parity_kept, parity_flips, first_image, second_image, end-flips, one-flips, one-other, first-flips, second-flips, pair-other, controlled-passes, detector-passes, observable-passes, collapse-other, product-other, unrecorded-passes, reset-passes, reset-stops, kept-following, count-least, Error, letter, letters_asked, pairs_asked, each_letter, each_product, product_at, wrong_product, errors_at, errors_from, ErrorLetters, flat_map}
+use Rattle.stab_error_model.proofs.Names.{◌≡◌, ℕ, ◌+◌, ◌≤◌, ◌<◌, ◌⊎◌, inl, inr, refl, sym, ap, ◌∙◌, subst, Bool, true, false, List, [], ◌∷◌, ◌++◌, map, length, drop, arith, All, Contains, ◌==◌, PairGate, ◌≢◌, cases_eq, eqb-true, drop-drop, get_or-map, length-map, All-head, All-tail, Contains-append_left, Contains-append_right, Letter, I, ◌⊕◌, letters_anticommute, Gate, letter_image, Factor, is_on, Step, one, two, controlled, collapse, product, detector, observable, makes, records_of, detectors_of, StepFits, SingleError, Site, in_front, following, single_error_on, parity_preserved, parity_flips, first_image, second_image, end-flips, one-flips, one-other, first-flips, second-flips, pair-other, controlled-passes, detector-passes, observable-passes, collapse-other, product-other, unrecorded-passes, reset-passes, reset-stops, preserved-following, count-least, Error, letter, letters_asked, pairs_asked, each_letter, each_product, product_at, wrong_product, errors_at, errors_from, ErrorLetters, flat_map}
 use Rattle.std.specs.Prelude.{◌||◌}
 
 -- lists of errors
@@ -82,7 +82,7 @@ pub record AreLast (n D : ℕ) (xs : List Step) (Is : ℕ → Type 0) (t : ℕ) 
   pub there : drop t xs ≡ ys
   pub few : detectors_of ys ≤ D
   pub fits : All (StepFits n) ys
-  pub kept : (i : ℕ) → Is i → parity_kept n D i ys ≡ true
+  pub preserved : (i : ℕ) → Is i → parity_preserved n D i ys ≡ true
 
 module _ (n D : ℕ) (xs : List Step) (Is : ℕ → Type 0) where
   last-next : (t : ℕ) (x : Step) (rest : List Step) → AreLast n D xs Is t (x ∷ rest) → AreLast n D xs Is (t + 1) rest
@@ -90,7 +90,7 @@ module _ (n D : ℕ) (xs : List Step) (Is : ℕ → Type 0) where
     there = sym (drop-drop 1 t xs) ∙ ap (drop 1) are.there;
     few = omega (arith, are.few, count-least x rest);
     fits = All-tail (StepFits n) x rest are.fits;
-    kept = λ i is. kept-following n D i x rest are.few (are.kept i is);
+    preserved = λ i is. preserved-following n D i x rest are.few (are.preserved i is);
   }
 
   module _ (t m : ℕ) (k : Letter) (p : ℕ) (lt : p < n) (x : Step) (rest : List Step) (are : AreLast n D xs Is t (x ∷ rest)) where
@@ -188,7 +188,7 @@ module _ (n D : ℕ) (xs : List Step) (Is : ℕ → Type 0) where
             inl (λ i is.
             ap (λ r. parity_flips n D i k p (collapse l r false inverted true ∷ rest)) (sym e)
             ∙ reset-stops n D i rest l p lt inverted k other (subst (λ r. detectors_of (collapse l r false inverted true ∷ rest) ≤ D) (sym e) are.few)
-            (subst (λ r. parity_kept n D i (collapse l r false inverted true ∷ rest) ≡ true) (sym e) (are.kept i is)))
+            (subst (λ r. parity_preserved n D i (collapse l r false inverted true ∷ rest) ≡ true) (sym e) (are.preserved i is)))
 
     at-product : (factors : List Factor) (inverted : Bool) → AreLast n D xs Is t (product factors inverted ∷ rest) → (b : Bool) → is_on p factors ≡ b
         → Lands n D xs Is (t + 1) (m + 1) k p rest → Lands n D xs Is t m k p (product factors inverted ∷ rest)

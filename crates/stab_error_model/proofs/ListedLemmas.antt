@@ -1,5 +1,5 @@
 -- Listed errors: where a letter lands there are errors that flip what it flips: one of all letters, or some that have X or Z alone.
-use Rattle.stab_error_model.proofs.Names.{◌≡◌, ℕ, ◌+◌, ◌≤◌, ◌<◌, ◌⊎◌, inl, inr, refl, sym, ap, ◌∙◌, subst, Bool, true, false, List, [], ◌∷◌, ◌++◌, length, take, drop, take-append-drop, length-take-le, arith, All, Contains, All-nil, All-cons, All-head, All-tail, All-append, All-drop, All-weaker, All-contains, flat_map, flat_map-append, Letter, I, X, Y, Z, ◌⊕◌, parity-false, Items, unroll, records_of, detectors_of, observables_of, Step, StepFits, SingleError, Site, single_error_on, bits_in, IsDeterministic, flips, SingleErrorFits, flips_together, SingleErrorsAdd, DeterministicParities, SitesFlipDeterministicParities, and-left, diagonal, parity_region, parity_kept, parity_flips, parity_deterministic, none-flips, y-flips, kept-last, count-following, Error, letter, single_errors_in, letters_asked, pairs_asked, each_letter, product_at, errors_from, errors_of, letter_parts, ErrorLetters, flip_together, FlipAlike}
+use Rattle.stab_error_model.proofs.Names.{◌≡◌, ℕ, ◌+◌, ◌≤◌, ◌<◌, ◌⊎◌, inl, inr, refl, sym, ap, ◌∙◌, subst, Bool, true, false, List, [], ◌∷◌, ◌++◌, length, take, drop, take-append-drop, length-take-le, arith, All, Contains, All-nil, All-cons, All-head, All-tail, All-append, All-drop, All-weaker, All-contains, flat_map, flat_map-append, Letter, I, X, Y, Z, ◌⊕◌, parity-false, Items, unroll, records_of, detectors_of, observables_of, Step, StepFits, SingleError, Site, single_error_on, bits_in, IsDeterministic, flips, SingleErrorFits, flips_together, SingleErrorsAdd, DeterministicParities, SitesFlipDeterministicParities, and-left, diagonal, parity_region, parity_preserved, parity_flips, parity_deterministic, none-flips, y-flips, preserved-last, count-following, Error, letter, single_errors_in, letters_asked, pairs_asked, each_letter, product_at, errors_from, errors_of, letter_parts, ErrorLetters, flip_together, FlipAlike}
 use Rattle.stab_jobs.specs.declared.job.ErrorLetters.TheVariants as letters_of
 use Rattle.stab_error_model.proofs.FitLemmas.{Fits, together-append}
 use Rattle.stab_error_model.proofs.SiteFitLemmas.{errors-fit}
@@ -184,9 +184,9 @@ module _ (n : ℕ) (items : Items) (fits : All (StepFits n) (unroll items)) (fou
         there = ap (λ j. drop j steps) there;
         few = omega (arith, all, count-following (take k steps) (drop k steps));
         fits = All-drop (StepFits n) k steps fits;
-        kept = λ i is.
-            kept-last n all_detectors i (take k steps) (drop k steps) all
-            (subst (λ ys. parity_kept n all_detectors i ys ≡ true) (sym parts) (and-left (parity_kept n all_detectors i steps) (diagonal (parity_region n all_detectors i steps).string.letters) (whole i is)));
+        preserved = λ i is.
+            preserved-last n all_detectors i (take k steps) (drop k steps) all
+            (subst (λ ys. parity_preserved n all_detectors i ys ≡ true) (sym parts) (and-left (parity_preserved n all_detectors i steps) (diagonal (parity_region n all_detectors i steps).string.letters) (whole i is)));
       }
 
   landed : (f : SingleError) → SingleErrorFits n steps f → Lands n all_detectors steps Is (0 + length (take f.before steps)) (0 + records_of (take f.before steps)) f.letter f.qubit (back_from f.before)

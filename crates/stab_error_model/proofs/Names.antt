@@ -18,12 +18,12 @@ pub use Rattle.stab_items.specs.Steps.{Step, one, two, controlled, collapse, pro
 pub use Rattle.stab_items.specs.Views.{circuit_items}
 pub use Rattle.stab_search.proofs.PartLemmas.{graphlike-up_to}
 pub use Rattle.stab_search.proofs.ShortestLemmas.{none-up_to}
-pub use Rattle.stab_search.specs.Ascending.{AscendsFrom, IsAscending}
+pub use Rattle.stab_parities.specs.Ascending.{AscendsFrom, IsAscending}
 pub use Rattle.stab_search.specs.Counts.{HasNoneBelow, IsLogicalSetOf, AreAsMany, IsCountOfSets}
 pub use Rattle.stab_search.specs.Graphlike.{IsGraphlike, IsGraphlikeError, IsLeastGraphlike, HasNoGraphlikeWithin, IsGraphlikeAnswer}
 pub use Rattle.stab_search.specs.LogicalErrors.{HasNoneWithin, IsLeastAnswer, IsLogicalError, IsLeast, HasNone, HasSome}
 pub use Rattle.stab_search.specs.Progress.{Heard, begins, Hears, numbers_up_to, IsExcludedBy, ReportsSearch}
-pub use Rattle.stab_search.specs.Tables.{odd, row}
+pub use Rattle.stab_parities.specs.OddNumbers.{odd, row}
 pub use Rattle.stab_search.specs.declared.answer.Answer.{Answer}
 pub use Rattle.stab_search.specs.declared.answer.Answer.TheVariants.{Least, NoneWithin, NoneAtAll}
 pub use Rattle.stab_gates.proofs.ParityLemmas.{parity-assoc, parity-false}
@@ -51,10 +51,10 @@ pub use Rattle.stab_regions.proofs.SingleErrorTableLemmas.{deterministic-found}
 pub use Rattle.stab_regions.proofs.MoveLemmas.{long-parity}
 pub use Rattle.stab_regions.proofs.PassLemmas.{first_image, second_image, none-flips, y-flips, end-flips, one-flips, one-other, first-flips, second-flips, pair-other, controlled-passes, detector-passes, observable-passes, collapse-other, product-other, unrecorded-passes, reset-passes, reset-stops, wrong-measured, wrong-reset, wrong-product}
 pub use Rattle.stab_regions.proofs.ShowLemmas.{bits-letter}
-pub use Rattle.stab_regions.proofs.NegatedLemmas.{AreNegated, collapse-negated, product-negated, negated-front, kept-last, kept-following, count-following, count-least, named_there}
+pub use Rattle.stab_regions.proofs.NegatedLemmas.{AreNegated, collapse-negated, product-negated, negated-front, preserved-last, preserved-following, count-following, count-least, named_there}
 pub use Rattle.stab_regions.specs.SingleErrorLaws.{SingleErrorFits, flips_together, SingleErrorsAdd, DeterministicParities, DeterministicParityBits, SitesFlipDeterministicParities}
 pub use Rattle.stab_regions.specs.SingleErrors.{Site, SingleError, single_error_on, single_errors_on, in_front, following, bits_in, IsDeterministic, AreDeterministic, flips, single_errors_of, single_error_at, numbers_where, IsSingleErrorTable, flipped_by_single_error, single_errors_from, marked_at, sites_at, with_gates, bit}
-pub use Rattle.stab_regions.specs.Parities.{parity_region, parity_kept, parity_flips, parity_deterministic}
+pub use Rattle.stab_regions.specs.Parities.{parity_region, parity_preserved, parity_flips, parity_deterministic}
 pub use Rattle.stab_regions.specs.Rows.{bits_at}
 pub use Rattle.stab_run.proofs.FitLemmas.{check-fits}
 pub use Rattle.stab_run.specs.ProgramStates.{StepFits}
@@ -78,4 +78,4 @@ pub use Rattle.stab_error_model.specs.inner.ErrorRows.{letter_flips, error_names
 pub use Rattle.stab_error_model.specs.inner.Everywhere.{factor_errors, factor_single_errors, measured_errors, back_of, reset_errors, step_single_errors}
 pub use Rattle.stab_error_model.specs.inner.Marked.{target_single_errors, marked_single_errors, marks_shown}
 pub use Rattle.stab_error_model.specs.inner.RowParts.{IsSplitByRow, SplitByRows, AreSplitByRows, AreSearchedByRows}
-pub use Rattle.stab_error_model.specs.inner.Observed.{is_searched_number, kept_row, with_observable, IsLogicalOf}
+pub use Rattle.stab_error_model.specs.inner.Observed.{is_searched_number, retained_row, with_observable, IsLogicalOf}

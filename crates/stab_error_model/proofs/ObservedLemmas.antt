@@ -1,7 +1,8 @@
 -- Observed rows: a table in which one observable alone counts has the logical errors that flip this observable.
-use Rattle.stab_error_model.proofs.Names.{◌≡◌, ℕ, ◌+◌, ◌-◌, ◌<◌, ◌≤◌, ◌==◌, ◌⊎◌, inl, inr, refl, sym, ap, ◌∙◌, subst, Bool, true, false, ◌||◌, List, [], ◌∷◌, length, arith, if◌then◌else◌, Option, Some, None, All, ne_eqb, eqb-true, lt-ltb, le-ltb, cases_lt, get_or-map, get_or_past, length-map, ◌⊕◌, true≢false, eq-eqb, odd, AscendsFrom, IsLogicalError, IsAskedFor, is_searched_number, kept_row, with_observable, IsLogicalOf}
+use Rattle.stab_error_model.proofs.Names.{◌≡◌, ℕ, ◌+◌, ◌-◌, ◌<◌, ◌≤◌, ◌==◌, ◌⊎◌, inl, inr, refl, sym, ap, ◌∙◌, subst, Bool, true, false, ◌||◌, List, [], ◌∷◌, length, arith, if◌then◌else◌, Option, Some, None, All, ne_eqb, eqb-true, lt-ltb, le-ltb, cases_lt, get_or-map, get_or_past, length-map, ◌⊕◌, true≢false, eq-eqb, odd, AscendsFrom, IsLogicalError, IsAskedFor, is_searched_number, retained_row, with_observable, IsLogicalOf}
 use Rattle.stab_error_model.proofs.RowLemmas.{ascends-weaker}
-use Rattle.stab_search.specs.Tables.{ErrorTable, row, flipped_by_rows}
+use Rattle.stab_search.specs.Tables.{ErrorTable, flipped_by_rows}
+use Rattle.stab_parities.specs.OddNumbers.{row}
 use Rattle.std.specs.List.{filter}
 
 module _ (test : ℕ → Bool) where
@@ -41,61 +42,61 @@ module _ (test : ℕ → Bool) where
   ascends-left m [] ascends = tt
   ascends-left m (k ∷ ks) ascends = step-ascends m k ks (test k) ascends.0 (ascends-left (k + 1) ks ascends.1)
 
--- which numbers are kept
+-- which numbers are retained
 
-kept-detector : (detectors j d : ℕ) → d < detectors → is_searched_number detectors j d ≡ true
-kept-detector detectors j d less = ap (λ b. b || ((d - detectors) == j)) (lt-ltb d detectors less)
+retained-detector : (detectors j d : ℕ) → d < detectors → is_searched_number detectors j d ≡ true
+retained-detector detectors j d less = ap (λ b. b || ((d - detectors) == j)) (lt-ltb d detectors less)
 
-kept-asked : (detectors j i : ℕ) → i ≡ detectors + j → is_searched_number detectors j i ≡ true
-kept-asked detectors j i is =
+preserved-asked : (detectors j i : ℕ) → i ≡ detectors + j → is_searched_number detectors j i ≡ true
+preserved-asked detectors j i is =
     ap (λ b. b || ((i - detectors) == j)) (le-ltb i detectors (omega (arith, is))) ∙ eq-eqb (i - detectors) j (omega (arith, is))
 
 module _ (t : ErrorTable) where
-  abbrev kept : Option ℕ → List (List ℕ)
-  kept observable = (with_observable observable t).rows
+  abbrev retained : Option ℕ → List (List ℕ)
+  retained observable = (with_observable observable t).rows
 
-  pub as-many-kept : (observable : Option ℕ) → length (kept observable) ≡ length t.rows
-  as-many-kept None = refl
-  as-many-kept (Some j) = length-map t.rows (kept_row t.detectors j)
+  pub as-many-retained : (observable : Option ℕ) → length (retained observable) ≡ length t.rows
+  as-many-retained None = refl
+  as-many-retained (Some j) = length-map t.rows (retained_row t.detectors j)
 
   pub same-detectors : (observable : Option ℕ) → (with_observable observable t).detectors ≡ t.detectors
   same-detectors None = refl
   same-detectors (Some j) = refl
 
-  row-kept : (j r : ℕ) → row (kept (Some j)) r ≡ kept_row t.detectors j (row t.rows r)
-  row-kept j r = by_site (cases_lt r (length t.rows))
+  row-retained : (j r : ℕ) → row (retained (Some j)) r ≡ retained_row t.detectors j (row t.rows r)
+  row-retained j r = by_site (cases_lt r (length t.rows))
     where
-      by_site : (r < length t.rows) ⊎ (length t.rows ≤ r) → row (kept (Some j)) r ≡ kept_row t.detectors j (row t.rows r)
-      by_site (inl inside) = get_or-map (kept_row t.detectors j) t.rows r [] [] inside
+      by_site : (r < length t.rows) ⊎ (length t.rows ≤ r) → row (retained (Some j)) r ≡ retained_row t.detectors j (row t.rows r)
+      by_site (inl inside) = get_or-map (retained_row t.detectors j) t.rows r [] [] inside
       by_site (inr past) =
-          get_or_past (kept (Some j)) r [] (omega (arith, past, as-many-kept (Some j)))
-          ∙ ap (kept_row t.detectors j) (sym (get_or_past t.rows r [] past))
+          get_or_past (retained (Some j)) r [] (omega (arith, past, as-many-retained (Some j)))
+          ∙ ap (retained_row t.detectors j) (sym (get_or_past t.rows r [] past))
 
-  -- what is kept is flipped by the kept rows as by the rows, and nothing else is
+  -- what is retained is flipped by the retained rows as by the rows, and nothing else is
 
-  flips-passes : (j i : ℕ) → is_searched_number t.detectors j i ≡ true → (errors : List ℕ) → flipped_by_rows (kept (Some j)) errors i ≡ flipped_by_rows t.rows errors i
+  flips-passes : (j i : ℕ) → is_searched_number t.detectors j i ≡ true → (errors : List ℕ) → flipped_by_rows (retained (Some j)) errors i ≡ flipped_by_rows t.rows errors i
   flips-passes j i passes [] = refl
   flips-passes j i passes (r ∷ errors) =
-      (λ m. (ap (odd i) (row-kept j r) ∙ odd-passes (is_searched_number t.detectors j) i passes (row t.rows r)) m ⊕ flips-passes j i passes errors m)
+      (λ m. (ap (odd i) (row-retained j r) ∙ odd-passes (is_searched_number t.detectors j) i passes (row t.rows r)) m ⊕ flips-passes j i passes errors m)
 
-  flips-dropped : (j i : ℕ) → is_searched_number t.detectors j i ≡ false → (errors : List ℕ) → flipped_by_rows (kept (Some j)) errors i ≡ false
+  flips-dropped : (j i : ℕ) → is_searched_number t.detectors j i ≡ false → (errors : List ℕ) → flipped_by_rows (retained (Some j)) errors i ≡ false
   flips-dropped j i drops [] = refl
   flips-dropped j i drops (r ∷ errors) =
-      (λ m. (ap (odd i) (row-kept j r) ∙ odd-dropped (is_searched_number t.detectors j) i drops (row t.rows r)) m ⊕ flips-dropped j i drops errors m)
+      (λ m. (ap (odd i) (row-retained j r) ∙ odd-dropped (is_searched_number t.detectors j) i drops (row t.rows r)) m ⊕ flips-dropped j i drops errors m)
 
-  flips-detector : (observable : Option ℕ) (errors : List ℕ) (d : ℕ) → d < t.detectors → flipped_by_rows (kept observable) errors d ≡ flipped_by_rows t.rows errors d
+  flips-detector : (observable : Option ℕ) (errors : List ℕ) (d : ℕ) → d < t.detectors → flipped_by_rows (retained observable) errors d ≡ flipped_by_rows t.rows errors d
   flips-detector None errors d less = refl
-  flips-detector (Some j) errors d less = flips-passes j d (kept-detector t.detectors j d less) errors
+  flips-detector (Some j) errors d less = flips-passes j d (retained-detector t.detectors j d less) errors
 
   flips-asked : (observable : Option ℕ) (errors : List ℕ) (number : ℕ) → IsAskedFor observable number
-      → flipped_by_rows (kept observable) errors (t.detectors + number) ≡ flipped_by_rows t.rows errors (t.detectors + number)
+      → flipped_by_rows (retained observable) errors (t.detectors + number) ≡ flipped_by_rows t.rows errors (t.detectors + number)
   flips-asked None errors number asked = refl
   flips-asked (Some j) errors number asked =
-      flips-passes j (t.detectors + number) (kept-asked t.detectors j (t.detectors + number) (omega (arith, asked))) errors
+      flips-passes j (t.detectors + number) (preserved-asked t.detectors j (t.detectors + number) (omega (arith, asked))) errors
 
-  -- an observable that the kept rows flip is one that is asked for
+  -- an observable that the retained rows flip is one that is asked for
 
-  asked-for : (observable : Option ℕ) (errors : List ℕ) (o : ℕ) → t.detectors ≤ o → flipped_by_rows (kept observable) errors o ≡ true → IsAskedFor observable (o - t.detectors)
+  asked-for : (observable : Option ℕ) (errors : List ℕ) (o : ℕ) → t.detectors ≤ o → flipped_by_rows (retained observable) errors o ≡ true → IsAskedFor observable (o - t.detectors)
   asked-for None errors o past flipped = tt
   asked-for (Some j) errors o past flipped = by_test ((o - t.detectors) == j) refl
     where
@@ -105,25 +106,25 @@ module _ (t : ErrorTable) where
           let drops : is_searched_number t.detectors j o ≡ false = ap (λ b. b || ((o - t.detectors) == j)) (le-ltb o t.detectors past) ∙ e in
           absurd (true≢false (sym flipped ∙ flips-dropped j o drops errors))
 
-  -- so the logical errors of the kept rows are those that flip an observable that is asked for
+  -- so the logical errors of the retained rows are those that flip an observable that is asked for
 
-  pub from-kept : (observable : Option ℕ) (errors : List ℕ) → IsLogicalError (with_observable observable t) errors → IsLogicalOf observable t errors
-  from-kept observable errors e =
+  pub from-retained : (observable : Option ℕ) (errors : List ℕ) → IsLogicalError (with_observable observable t) errors → IsLogicalOf observable t errors
+  from-retained observable errors e =
       let o = e.observed.0 in
       let past : t.detectors ≤ o = subst (λ d. d ≤ o) (same-detectors observable) e.observed.1 in
       let asked = asked-for observable errors o past e.observed.2 in
       let o_is : t.detectors + (o - t.detectors) ≡ o = omega (arith, past) in
       record {
-        inside = subst (λ m. All (λ r. r < m) errors) (as-many-kept observable) e.inside;
+        inside = subst (λ m. All (λ r. r < m) errors) (as-many-retained observable) e.inside;
         undetected = λ d less. sym (flips-detector observable errors d less) ∙ e.undetected d (subst (λ m. d < m) (sym (same-detectors observable)) less);
         number = o - t.detectors;
         asked = asked;
-        flipped = sym (flips-asked observable errors (o - t.detectors) asked) ∙ ap (flipped_by_rows (kept observable) errors) o_is ∙ e.observed.2;
+        flipped = sym (flips-asked observable errors (o - t.detectors) asked) ∙ ap (flipped_by_rows (retained observable) errors) o_is ∙ e.observed.2;
       }
 
-  pub to-kept : (observable : Option ℕ) (errors : List ℕ) → IsLogicalOf observable t errors → IsLogicalError (with_observable observable t) errors
-  to-kept observable errors e = record {
-    inside = subst (λ m. All (λ r. r < m) errors) (sym (as-many-kept observable)) e.inside;
+  pub to-retained : (observable : Option ℕ) (errors : List ℕ) → IsLogicalOf observable t errors → IsLogicalError (with_observable observable t) errors
+  to-retained observable errors e = record {
+    inside = subst (λ m. All (λ r. r < m) errors) (sym (as-many-retained observable)) e.inside;
     undetected = λ d less.
         let before : d < t.detectors = subst (λ m. d < m) (same-detectors observable) less in
         flips-detector observable errors d before ∙ e.undetected d before;
@@ -134,8 +135,8 @@ module _ (t : ErrorTable) where
     );
   }
 
-  -- a kept row names the detectors that the row names
+  -- a retained row names the detectors that the row names
 
-  pub odd-detector : (observable : Option ℕ) (r d : ℕ) → d < t.detectors → odd d (row (kept observable) r) ≡ odd d (row t.rows r)
+  pub odd-detector : (observable : Option ℕ) (r d : ℕ) → d < t.detectors → odd d (row (retained observable) r) ≡ odd d (row t.rows r)
   odd-detector None r d less = refl
-  odd-detector (Some j) r d less = ap (odd d) (row-kept j r) ∙ odd-passes (is_searched_number t.detectors j) d (kept-detector t.detectors j d less) (row t.rows r)
+  odd-detector (Some j) r d less = ap (odd d) (row-retained j r) ∙ odd-passes (is_searched_number t.detectors j) d (retained-detector t.detectors j d less) (row t.rows r)

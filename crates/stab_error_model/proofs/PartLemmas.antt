@@ -46,7 +46,7 @@ module _ (n : ℕ) (everywhere : Bool) (items : Items) (deterministic : List Boo
   alone-is e row stands is = table-is n everywhere items deterministic rows fits table found sites adds detectors count (e ∷ []) (row ∷ []) (All-cons Stand e [] stands (All-nil Stand)) (is, tt)
 
   row-split : (e : ErrorValue) (given : List Error) → Stand e → IsSplitByRow rows detectors e given → GivesParts n items (error_shown e) given
-  row-split e given stands (row, is, kept) = by_row kept
+  row-split e given stands (row, is, preserved) = by_row preserved
     where
       by_row : (IsGraphlike detectors row × (given ≡ error_shown e ∷ [])) ⊎ ((IsGraphlike detectors row → ⊥) × (given ≡ parts_of_error (error_shown e))) → GivesParts n items (error_shown e) given
       by_row (inl stays) = inl (row-two n items None (alone e row) (alone-is e row stands is) 0 (omega arith) stays.0, stays.1)

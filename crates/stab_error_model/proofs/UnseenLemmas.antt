@@ -1,7 +1,8 @@
 -- Unseen sets: logical errors of a table of errors are sets of errors that are unseen together, and the other way round.
 use Rattle.stab_error_model.proofs.Names.{◌≡◌, ℕ, ◌+◌, ◌<◌, ◌≤◌, ◌⊎◌, inl, inr, refl, sym, ap, ◌∙◌, subst, Bool, true, false, List, [], ◌∷◌, length, arith, Option, Some, None, Result, Ok, Err, IfOk, IsErrAnd, unwrap_or, All, Contains, ◌&&◌, slice_index_or, flat_map, cases_lt, get_or-map, get_or_default, length-map, All-nil, All-cons, All-head, All-tail, All-map, All-weaker, Contains-get_or, ◌⊕◌, Items, unroll, detectors_of, I, bits_in, single_error_on, in_front, odd-where, IsLogicalError, IsLeast, HasNoneWithin, HasNone, HasSome, Answer, Heard, begins, Hears, numbers_up_to, IsExcludedBy, ReportsSearch, Error, letter, single_errors_in, ErrorTableState, IsErrorTable, flip_together, flipped_by_error, flip_each, AreUnseen, FlipsTwo, AreUnseenOf, NoneUnseen, NoneUnseenWithin, SomeUnseen, IsWithinAsked, IsLeastSet, ReportsUnseen, error_at, errors_at_numbers, with_observable, IsLogicalOf}
-use Rattle.stab_search.specs.Tables.{odd, ErrorTable, row, flipped_by_rows}
-use Rattle.stab_error_model.proofs.ObservedLemmas.{as-many-kept, from-kept, to-kept}
+use Rattle.stab_search.specs.Tables.{ErrorTable, flipped_by_rows}
+use Rattle.stab_parities.specs.OddNumbers.{odd, row}
+use Rattle.stab_error_model.proofs.ObservedLemmas.{as-many-retained, from-retained, to-retained}
 use Rattle.stab_error_model.proofs.FlipLemmas.{odd-without, set, unset}
 
 false-or-true : (b : Bool) → b ≡ true → b ≡ false → ⊥
@@ -150,12 +151,12 @@ module _ (n : ℕ) (items : Items) (observable : Option ℕ) (t : ErrorTableStat
   sought = with_observable observable t.table
 
   pub as-many-sought : length sought.rows ≡ length rows
-  as-many-sought = as-many-kept t.table observable
+  as-many-sought = as-many-retained t.table observable
 
   unseen-logical : (errors : List Error) → AreUnseenOf false observable n items t.errors errors → (ks : List ℕ) × IsLogicalError sought ks × (length ks ≡ length errors)
   unseen-logical errors unseen =
       let numbers = numbers-at errors unseen.of in
-      (numbers.0, to-kept t.table observable numbers.0 (logical-of numbers.0 numbers.1 (subst (AreUnseen n items observable) (sym numbers.2) unseen.unseen)), numbers.3)
+      (numbers.0, to-retained t.table observable numbers.0 (logical-of numbers.0 numbers.1 (subst (AreUnseen n items observable) (sym numbers.2) unseen.unseen)), numbers.3)
 
   -- answers
 
@@ -167,9 +168,9 @@ module _ (n : ℕ) (items : Items) (observable : Option ℕ) (t : ErrorTableStat
   least-unseen most bound ks e least = record {
     ascending = least.ascending;
     within = within-asked most bound (length ks) e least.within;
-    inside = All-weaker Inside (λ k. k < length t.errors) (λ k less. omega (arith, less, as-many)) ks (from-kept t.table observable ks least.logical).inside;
+    inside = All-weaker Inside (λ k. k < length t.errors) (λ k less. omega (arith, less, as-many)) ks (from-retained t.table observable ks least.logical).inside;
     least = record {
-      unseen = logical-unseen false ks (from-kept t.table observable ks least.logical) (λ asked. absurd (cc));
+      unseen = logical-unseen false ks (from-retained t.table observable ks least.logical) (λ asked. absurd (cc));
       least = λ others are.
           let numbers = unseen-logical others are in
           omega (arith, least.least numbers.0 numbers.1, numbers.2, length-map ks (error_at t.errors));
@@ -177,7 +178,7 @@ module _ (n : ℕ) (items : Items) (observable : Option ℕ) (t : ErrorTableStat
   }
 
   pub some-unseen : HasSome sought → SomeUnseen false observable n items t.errors
-  some-unseen (ks, logical) = (errors_at_numbers t.errors ks, logical-unseen false ks (from-kept t.table observable ks logical) (λ asked. absurd (cc)))
+  some-unseen (ks, logical) = (errors_at_numbers t.errors ks, logical-unseen false ks (from-retained t.table observable ks logical) (λ asked. absurd (cc)))
 
   pub none-unseen-within : (most : ℕ) → HasNoneWithin sought most → NoneUnseenWithin false observable n items t.errors most
   none-unseen-within most none others are = let numbers = unseen-logical others are in omega (arith, none numbers.0 numbers.1, numbers.2)

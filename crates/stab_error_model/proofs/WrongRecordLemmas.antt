@@ -1,5 +1,5 @@
 -- Wrong records: the letters of one flip the bits that one more ! at the record flips.
-use Rattle.stab_error_model.proofs.Names.{◌≡◌, ℕ, zero, suc, ◌+◌, ◌-◌, ◌≤◌, ◌<◌, refl, sym, ap, ◌∙◌, subst, Bool, true, false, not, ◌&&◌, List, [], ◌∷◌, ◌++◌, append_assoc, length, drop, arith, All, lt-ltb, le-ltb, if◌then◌else◌, drop-drop, drop-append_seam, length-append, All-nil, All-cons, All-head, All-tail, All-append, All-map, Letter, I, X, Y, Z, Axis, ◌⊕◌, letters_anticommute, parity-false, Factor, letter_of, names_twice, ControlledPair, Kind, Items, done, next, block, Step, one, two, controlled, collapse, product, detector, observable, makes, records_of, HasDistinctQubits, steps_of, controlled_step, measured, rounds, unroll, detectors_of, observables_of, StepFits, flip_of, and-left, SingleError, in_front, following, single_error_on, with_gates, bit, bits_in, IsDeterministic, flips, SingleErrorFits, flips_together, SingleErrorsAdd, DeterministicParities, DeterministicParityBits, SitesFlipDeterministicParities, parity_region, parity_kept, parity_flips, parity_deterministic, diagonal, AreNegated, collapse-negated, product-negated, negated-front, kept-last, count-following, named_there, wrong-measured, wrong-reset, wrong-product, fits-front, fits-back, Error, letter, letters, wrong_record, letters_asked, pairs_asked, each_letter, each_product, product_at, wrong_product, errors_at, errors_from, ErrorLetters, flat_map, inverted_once, with_inverted}
+use Rattle.stab_error_model.proofs.Names.{◌≡◌, ℕ, zero, suc, ◌+◌, ◌-◌, ◌≤◌, ◌<◌, refl, sym, ap, ◌∙◌, subst, Bool, true, false, not, ◌&&◌, List, [], ◌∷◌, ◌++◌, append_assoc, length, drop, arith, All, lt-ltb, le-ltb, if◌then◌else◌, drop-drop, drop-append_seam, length-append, All-nil, All-cons, All-head, All-tail, All-append, All-map, Letter, I, X, Y, Z, Axis, ◌⊕◌, letters_anticommute, parity-false, Factor, letter_of, names_twice, ControlledPair, Kind, Items, done, next, block, Step, one, two, controlled, collapse, product, detector, observable, makes, records_of, HasDistinctQubits, steps_of, controlled_step, measured, rounds, unroll, detectors_of, observables_of, StepFits, flip_of, and-left, SingleError, in_front, following, single_error_on, with_gates, bit, bits_in, IsDeterministic, flips, SingleErrorFits, flips_together, SingleErrorsAdd, DeterministicParities, DeterministicParityBits, SitesFlipDeterministicParities, parity_region, parity_preserved, parity_flips, parity_deterministic, diagonal, AreNegated, collapse-negated, product-negated, negated-front, preserved-last, count-following, named_there, wrong-measured, wrong-reset, wrong-product, fits-front, fits-back, Error, letter, letters, wrong_record, letters_asked, pairs_asked, each_letter, each_product, product_at, wrong_product, errors_at, errors_from, ErrorLetters, flat_map, inverted_once, with_inverted}
 use Rattle.stab_instructions.specs.declared.axis.Axis.TheVariants as axis
 use Rattle.stab_instructions.specs.declared.control.ControlledPair.TheVariants as pair
 use Rattle.stab_instructions.specs.declared.operation.Kind.TheVariants as kind
@@ -105,11 +105,11 @@ module _ (n : ℕ) (items : Items) (fits : All (StepFits n) (unroll items)) (fou
       whole : parity_deterministic n D i xs ≡ true
       whole = (found n (observables_of items) xs i fits lt).1 same
 
-      kept : parity_kept n D i (front ++ x ∷ rest) ≡ true
-      kept = subst (λ ys. parity_kept n D i ys ≡ true) at.parts (and-left (parity_kept n D i xs) (diagonal (parity_region n D i xs).string.letters) whole)
+      preserved : parity_preserved n D i (front ++ x ∷ rest) ≡ true
+      preserved = subst (λ ys. parity_preserved n D i ys ≡ true) at.parts (and-left (parity_preserved n D i xs) (diagonal (parity_region n D i xs).string.letters) whole)
 
-      kept-there : parity_kept n D i (x ∷ rest) ≡ true
-      kept-there = kept-last n D i front (x ∷ rest) (subst (λ ys. detectors_of ys ≤ D) at.parts (omega arith)) kept
+      preserved-there : parity_preserved n D i (x ∷ rest) ≡ true
+      preserved-there = preserved-last n D i front (x ∷ rest) (subst (λ ys. detectors_of ys ≤ D) at.parts (omega arith)) preserved
 
       -- with one more ! the bit is flipped if the parity names the record
       inverted-bit : (y : Step) → StepFits n y → AreNegated n D i named (y ∷ rest) (x ∷ rest) → (coins : ℕ → Bool) → the_bit coins (front ++ y ∷ rest) i ≡ named ⊕ the_bit coins xs i
@@ -117,13 +117,13 @@ module _ (n : ℕ) (items : Items) (fits : All (StepFits n) (unroll items)) (fou
           let old : List Step = front ++ x ∷ rest in
           let new : List Step = front ++ y ∷ rest in
           let old_fits : All (StepFits n) old = subst (All (StepFits n)) at.parts fits in
-          let a : AreNegated n D i named new old = negated-front n D i named (y ∷ rest) (x ∷ rest) negated front (subst (λ ys. detectors_of ys ≤ D) at.parts (omega arith)) kept in
+          let a : AreNegated n D i named new old = negated-front n D i named (y ∷ rest) (x ∷ rest) negated front (subst (λ ys. detectors_of ys ≤ D) at.parts (omega arith)) preserved in
           let count : detectors_of new ≡ D = a.detectors ∙ ap detectors_of (sym at.parts) in
           let new_fits : All (StepFits n) new =
           All-append (StepFits n) front (y ∷ rest) (fits-front n front (x ∷ rest) old_fits)
           (All-cons (StepFits n) y rest fit (All-tail (StepFits n) x rest (fits-back n front (x ∷ rest) old_fits))) in
           let deterministic : parity_deterministic n D i new ≡ true =
-          (λ j. a.kept j && diagonal (a.region j).string.letters) ∙ ap (λ ys. parity_deterministic n D i ys) (sym at.parts) ∙ whole in
+          (λ j. a.preserved j && diagonal (a.region j).string.letters) ∙ ap (λ ys. parity_deterministic n D i ys) (sym at.parts) ∙ whole in
           bits n (observables_of items) new i new_fits (omega (arith, lt, count)) (subst (λ d. parity_deterministic n d i new ≡ true) (sym count) deterministic) coins
           ∙ ap (λ d. (parity_region n d i new).string.negative) count
           ∙ ap (λ r. r.string.negative) a.region
@@ -184,7 +184,7 @@ module _ (n : ℕ) (items : Items) (fits : All (StepFits n) (unroll items)) (fou
         let x : Step = collapse l q true inverted false in
         let k : Letter = flip_of l in
         wrong-is t m front x rest at i lt same (single_error_on t (in_front q) k ∷ single_error_on t (following q) k ∷ []) (collapse l q true (not inverted) false) fit refl refl less
-        (collapse-negated n D i rest l q inverted false (few t m front x rest at) (kept-there t m front x rest at i lt same)) coins
+        (collapse-negated n D i rest l q inverted false (few t m front x rest at) (preserved-there t m front x rest at i lt same)) coins
         ((λ j.
         flips-front t m front x rest at i lt same k q coins less j
         ⊕ (parity-false (flips n items coins (single_error_on t (following q) k) i) ∙ flips-following t m front x rest at i lt same k q coins less) j)
@@ -196,7 +196,7 @@ module _ (n : ℕ) (items : Items) (fits : All (StepFits n) (unroll items)) (fou
         let x : Step = collapse l q true inverted true in
         let k : Letter = flip_of l in
         wrong-is t m front x rest at i lt same (single_error_on t (in_front q) k ∷ []) (collapse l q true (not inverted) true) fit refl refl less
-        (collapse-negated n D i rest l q inverted true (few t m front x rest at) (kept-there t m front x rest at i lt same)) coins
+        (collapse-negated n D i rest l q inverted true (few t m front x rest at) (preserved-there t m front x rest at i lt same)) coins
         (parity-false (flips n items coins (single_error_on t (in_front q) k) i) ∙ flips-front t m front x rest at i lt same k q coins less
         ∙ wrong-reset n D i rest l q less inverted other (few t m front x rest at))
 
@@ -211,7 +211,7 @@ module _ (n : ℕ) (items : Items) (fits : All (StepFits n) (unroll items)) (fou
         All-cons IsInverted (wrong_record m (single_error_on t (in_front q) k) (single_error_on t (following q) k ∷ [])) []
         (λ fit i lt same coins.
         wrong-is t m front x rest at i lt same (single_error_on t (in_front q) k ∷ single_error_on t (following q) k ∷ []) (product (g ∷ gs) (not inverted)) fit refl refl less
-        (product-negated n D i rest (g ∷ gs) inverted (few t m front x rest at) (kept-there t m front x rest at i lt same)) coins
+        (product-negated n D i rest (g ∷ gs) inverted (few t m front x rest at) (preserved-there t m front x rest at i lt same)) coins
         ((λ j.
         flips-front t m front x rest at i lt same k q coins here j
         ⊕ (parity-false (flips n items coins (single_error_on t (following q) k) i) ∙ flips-following t m front x rest at i lt same k q coins here) j)

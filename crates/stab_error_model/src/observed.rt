@@ -1,9 +1,9 @@
 //! Tables of errors in which one observable alone counts.
 ghost use Rattle.std.specs.Prelude.{◌≡◌, ◌<◌, [], ◌∷◌, ◌++◌, length, Some, IfOk, IfErr, OnOk};
 ghost use Rattle.stab_io.specs.declared.refusal.Refusal.TheVariants.{OutOfMemory};
-ghost use Rattle.stab_search.specs.Ascending.{IsAscending};
-ghost use Rattle.stab_search.specs.Tables.{row};
-ghost use Rattle.stab_error_model.specs.inner.Observed.{is_searched_number, kept_row, with_observable};
+ghost use Rattle.stab_parities.specs.Ascending.{IsAscending};
+ghost use Rattle.stab_parities.specs.OddNumbers.{row};
+ghost use Rattle.stab_error_model.specs.inner.Observed.{is_searched_number, retained_row, with_observable};
 
 use crate::rows::copied;
 use stab_io::Refusal;
@@ -19,14 +19,14 @@ fn is_searched_number(detectors: usize, observable: usize, number: u32) -> bool
 }
 
 /// The numbers of a row that are those of detectors, or of this observable.
-fn kept_row(
+fn retained_row(
     alloc: Global,
     row: &[u32],
     detectors: usize,
     observable: usize,
 ) -> Result<Vec<u32>, AllocError>
     requires ascending { IsAscending row.now }
-    ensures value { IfOk result (λ v. v.items ≡ kept_row detectors observable row.now) }
+    ensures value { IfOk result (λ v. v.items ≡ retained_row detectors observable row.now) }
     ensures ascending { IfOk result (λ v. IsAscending v.items) }
 {
     let mut numbers = copied(alloc, row)?;
@@ -35,19 +35,19 @@ fn kept_row(
 }
 
 /// Adds the row of a table's error without its other observables.
-fn add_kept_row(
+fn add_retained_row(
     alloc: Global,
     table: &Table,
     observable: usize,
     number: usize,
-    kept: &mut Table,
+    retained: &mut Table,
 ) -> Result<(), Refusal>
     requires inside { number < length table.now.rows }
-    ensures value { OnOk result (kept.new ≡ record kept.old { rows = kept.old.rows ++ kept_row table.now.detectors observable (row table.now.rows number) ∷ [] }) }
+    ensures value { OnOk result (retained.new ≡ record retained.old { rows = retained.old.rows ++ retained_row table.now.detectors observable (row table.now.rows number) ∷ [] }) }
     ensures err { IfErr result (λ r. r ≡ OutOfMemory) }
 {
-    let numbers = kept_row(alloc, table.row(number), table.detectors(), observable)?;
-    kept.push(numbers.as_slice())
+    let numbers = retained_row(alloc, table.row(number), table.detectors(), observable)?;
+    retained.push(numbers.as_slice())
 }
 
 /// The table whose rows name this observable and no other. The only refusal is `OutOfMemory`.
@@ -59,9 +59,9 @@ pub(crate) fn with_observable(
     ensures value { IfOk result (λ t. t ≡ with_observable (Some observable) table.now) }
     ensures err { IfErr result (λ r. r ≡ OutOfMemory) }
 {
-    let mut kept = Table::new(alloc, table.detectors());
+    let mut retained = Table::new(alloc, table.detectors());
     'errors: for number in 0..table.len() {
-        add_kept_row(alloc, table, observable, number, &mut kept)?;
+        add_retained_row(alloc, table, observable, number, &mut retained)?;
     }
-    Ok(kept)
+    Ok(retained)
 }

@@ -1,14 +1,14 @@
 //! What an error flips, by the table of single errors.
 ghost use Rattle.std.specs.Prelude.{◌≡◌, ℕ, ◌+◌, IfOk};
 ghost use Rattle.stab_gates.specs.Letters.{◌⊕◌};
-ghost use Rattle.stab_search.specs.Tables.{row, odd};
-ghost use Rattle.stab_search.specs.Ascending.{IsAscending};
+ghost use Rattle.stab_parities.specs.OddNumbers.{row, odd};
+ghost use Rattle.stab_parities.specs.Ascending.{IsAscending};
 ghost use Rattle.stab_error_model.specs.inner.ErrorRows.{RowsAscend, letter_flips, error_names};
 
 use crate::placed::{Error, ErrorSite, PlacedLetter};
 use stab_gates::Letter;
+use stab_parities::merge_into;
 use stab_regions::SingleErrorTable;
-use stab_search::merge_into;
 use std::alloc::{AllocError, Global};
 
 /// A row of the table of single errors, empty beyond the end.

@@ -37,8 +37,8 @@ pub fn distance<P: Progress>(
     match observable {
         None => least_logical_error(alloc, table, bound, progress),
         Some(observable) => {
-            let kept = with_observable(alloc, table, observable)?;
-            least_logical_error(alloc, &kept, bound, progress)
+            let retained = with_observable(alloc, table, observable)?;
+            least_logical_error(alloc, &retained, bound, progress)
         }
     }
 }
@@ -63,8 +63,8 @@ pub fn graphlike_distance<P: Progress>(
     match observable {
         None => least_graphlike_error(alloc, table, bound, progress),
         Some(observable) => {
-            let kept = with_observable(alloc, table, observable)?;
-            least_graphlike_error(alloc, &kept, bound, progress)
+            let retained = with_observable(alloc, table, observable)?;
+            least_graphlike_error(alloc, &retained, bound, progress)
         }
     }
 }
@@ -84,8 +84,8 @@ fn count_sets(
     match observable {
         None => count_least(alloc, table, size),
         Some(observable) => {
-            let kept = with_observable(alloc, table, observable)?;
-            count_least(alloc, &kept, size)
+            let retained = with_observable(alloc, table, observable)?;
+            count_least(alloc, &retained, size)
         }
     }
 }

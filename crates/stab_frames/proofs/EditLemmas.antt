@@ -4,7 +4,7 @@ use Rattle.std.specs.Prelude.{All}
 use Rattle.stab_frames.proofs.FlipLemmas.{length-flipped, length-flipped_additions}
 use Rattle.stab_frames.proofs.StartLemmas.{by_frame-same}
 use Rattle.stab_frames.proofs.TableauLemmas.{conjugated-group}
-use Rattle.stab_frames.proofs.TwoCircuitLemmas.{fronts-outputs, fronts-matches, fronts-by_frame, paulis-front, paulis-given, paulis-match, gates-by_frame, gates-given, gates-match, records-flipped, flags-flipped, detectors-flipped, observables-flipped}
+use Rattle.stab_frames.proofs.TwoCircuitLemmas.{fronts-outputs, fronts-matches, fronts-by_frame, paulis-front, paulis-given, paulis-match, gates-by_frame, gates-given, gates-match, records-flipped, randomness-flipped, detectors-flipped, observables-flipped}
 
 pub gates-fit : (n : ℕ) (l : Letter) (qs : List ℕ) → All (λ q. q < n) qs → All (StepFits n) (map (one (gate_of l)) qs)
 gates-fit n l [] fits = All-nil (StepFits n)
@@ -16,7 +16,7 @@ pub flipped-run : (n : ℕ) (coins others : ℕ → Bool) (xs ys : List Step) (f
     → Matches (outputs n coins xs origin) flips → IsFlippedRun n coins others xs ys flips
 flipped-run n coins others xs ys flips given matches = record {
   records = λ k. records-flipped n coins others xs ys k flips given matches;
-  free = λ k. flags-flipped n coins others xs ys k flips given matches;
+  free = λ k. randomness-flipped n coins others xs ys k flips given matches;
   detectors = λ k. detectors-flipped n coins others xs ys k flips given matches;
   observables = λ k. observables-flipped n coins others xs ys k flips given matches;
 }

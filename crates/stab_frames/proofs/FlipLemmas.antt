@@ -19,15 +19,15 @@ get_or-flipped (bit ∷ bits) [] e i = absurd (omega arith)
 get_or-flipped (bit ∷ bits) (flip ∷ flips) e zero = refl
 get_or-flipped (bit ∷ bits) (flip ∷ flips) e (suc i) = get_or-flipped bits flips (omega arith) i
 
-both-kept : (c x y : Bool) → (if c then false else (x ⊕ y)) ≡ (if c then false else x) ⊕ (if c then false else y)
-both-kept true x y = refl
-both-kept false x y = refl
+both-preserved : (c x y : Bool) → (if c then false else (x ⊕ y)) ≡ (if c then false else x) ⊕ (if c then false else y)
+both-preserved true x y = refl
+both-preserved false x y = refl
 
 pub looked_up-flipped : (bits flips : List Bool) → length flips ≡ length bits → (k : ℕ) → looked_up (flipped bits flips) k ≡ looked_up flips k ⊕ looked_up bits k
 looked_up-flipped bits flips e k =
     (λ i. if nat_lt (length-flipped bits flips i) k then false else get_or (flipped bits flips) (length-flipped bits flips i - k) false)
     ∙ ap (λ z. if nat_lt (length bits) k then false else z) (get_or-flipped bits flips e (length bits - k))
-    ∙ both-kept (nat_lt (length bits) k) (get_or flips (length bits - k) false) (get_or bits (length bits - k) false)
+    ∙ both-preserved (nat_lt (length bits) k) (get_or flips (length bits - k) false) (get_or bits (length bits - k) false)
     ∙ ap (λ m. (if nat_lt m k then false else get_or flips (m - k) false) ⊕ looked_up bits k) (sym e)
 
 pub parity-flipped : (bits flips : List Bool) → length flips ≡ length bits → (ks : List ℕ) → parity (flipped bits flips) ks ≡ parity flips ks ⊕ parity bits ks

@@ -48,7 +48,7 @@ pub use Rattle.stab_run.proofs.TargetLemmas.{coins-measured, fits-target}
 pub use Rattle.stab_run.specs.Cuts.{lengths_of}
 pub use Rattle.stab_run.specs.Ends.{AgreeBack, with_coin}
 pub use Rattle.stab_run.specs.Points.{Point, RunOutput, joined, given, trace_after, coins_of, all_coins_of, next_point, point_after, outputs, origin, nothing, with_additions}
-pub use Rattle.stab_run.specs.ProgramStates.{StepFits, ProgramState, IsRun, IsAt, program_state, output_of}
+pub use Rattle.stab_run.specs.ProgramStates.{StepFits, ProgramState, IsRun, IsRunWithPivot, IsAt, program_state, output_of}
 pub use Rattle.stab_run.specs.Records.{looked_up, parity, ones}
 pub use Rattle.stab_run.specs.Runs.{measured_by, gate_of, with_factors, string_of, when, added, applied_where, State, start, run, flip_of, outcome_at}
 pub use Rattle.stab_run.specs.StepPivots.{HasPivot}
@@ -82,8 +82,8 @@ pub use Rattle.stab_frames.specs.Images.{letter_where, controlled_letter}
 pub use Rattle.stab_frames.specs.FirstSteps.{edit_frame, IsFlippedRun, AreFronts}
 pub use Rattle.stab_frames.specs.Limits.{bytes_of, most_strings}
 pub use Rattle.stab_frames.specs.OtherCoins.{coins_from, pivots_between, HasGoneOver, PropagatesToOthers}
-pub use Rattle.stab_frames.specs.PivotLaws.{FramesHaveCoins, RightPivotsAreEnough, FlippedCoinsNeedNoPivots, PivotsAreEnoughBefore, MeasurementsHavePivots, FlagsDeterminePivots, RunsHavePivots}
-pub use Rattle.stab_frames.specs.Pivots.{IsTrueAt, AreTrue, pivot_at, PivotsState, IsNumbered, kept_with, front_kept, KeepsTrue, cut_to}
+pub use Rattle.stab_frames.specs.PivotLaws.{FramesHaveCoins, RightPivotsAreEnough, FlippedCoinsNeedNoPivots, PivotsAreEnoughBefore, MeasurementsHavePivots, RandomnessDeterminesPivots, RunsHavePivots}
+pub use Rattle.stab_frames.specs.Pivots.{IsTrueAt, AreTrue, pivot_at, PivotsState, IsNumbered, stored_with, front_stored, KeepsTrue, cut_to}
 pub use Rattle.stab_frames.specs.PivotsOfSteps.{AreEnough, AreFlippedPivots, IsRightAt, IsEnoughAt, AreRight}
 pub use Rattle.stab_frames.specs.Propagations.{PropagationState, IsPlaced, frame_at, PropagatesWith, PropagatesOver, IsGone}
 pub use Rattle.stab_frames.specs.RunLaws.{FrontsFlip, FrontsGoOn, FrontsTakePaulis, PauliFronts, PauliEditsFlip, CoinsFlip, CheckpointsTakeFrames}
@@ -93,6 +93,6 @@ pub use Rattle.stab_frames.specs.StepLaws.{FramesEnd, StepsKeepFrames, RunsKeepF
 pub use Rattle.stab_frames.specs.inner.Draws.{AsksRandom, IsDrawn, AreDrawn, outcome_of, differing, never}
 pub use Rattle.stab_frames.specs.inner.Products.{AreMultiplied}
 pub use Rattle.stab_frames.specs.inner.Propagates.{factors_anticommute, IsMissing, StepsWith, IsStepDetermined, AreDetermined, IsPropagated, GoesOver, GoesWithoutCoins, Goes, IsPropagatedWith, IsDeterminedBy, none_flipped}
-pub use Rattle.stab_frames.specs.inner.RecordedPivots.{KeepsPivotsOf, KeepsPivots, PivotsSteps, IsAdded}
+pub use Rattle.stab_frames.specs.inner.RecordedPivots.{KeepsPivotsOf, KeepsPivots, PivotsSteps, IsAdded, AreOnQubits, RecordsNoLess, RecordsSteps}
 pub use Rattle.stab_frames.specs.inner.Touches.{touches_target, acts, PairFits, touches_pair}
 pub use Rattle.stab_frames.specs.inner.Weights.{string_weight, letter_weight}

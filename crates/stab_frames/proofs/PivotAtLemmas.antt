@@ -1,4 +1,4 @@
--- Pivots of coin numbers, by pivots and flags: in parts, and with more after them.
+-- Pivots of coin numbers, by pivots and randomness: in parts, and with more after them.
 use Rattle.stab_frames.proofs.Names.{◌≡◌, ℕ, zero, suc, ◌+◌, ◌-◌, ◌<◌, ◌≤◌, min, refl, sym, ◌∙◌, ap, subst, Bool, true, false, List, [], ◌∷◌, ◌++◌, length, take, get_or, arith, ◌⊎◌, inl, inr, Option, None, IfSome, slice_get, if◌then◌else◌, cases_lt, length-append, length-take, take-append-le, get_or_append_left, slice_get_past, take-append-add, Letter, ones, ones-append, PivotsState, pivot_at, IsNumbered}
 
 -- elements by their numbers
@@ -34,25 +34,25 @@ ones-before (false ∷ free) (suc t) e = ones-before free t e
 
 -- pivots that are the same
 
-pub pivot-equal : (strings others : List (List Letter)) (free flags : List Bool) (t u : ℕ) → get_or free t false ≡ get_or flags u false
-    → (get_or flags u false ≡ true → slice_get strings (ones (take t free)) ≡ slice_get others (ones (take u flags)))
-    → pivot_at strings free t ≡ pivot_at others flags u
-pivot-equal strings others free flags t u flag same =
-    ap (λ b. if b then slice_get strings (ones (take t free)) else None) flag ∙ by_flag (get_or flags u false) refl
+pub pivot-equal : (strings others : List (List Letter)) (free randomness : List Bool) (t u : ℕ) → get_or free t false ≡ get_or randomness u false
+    → (get_or randomness u false ≡ true → slice_get strings (ones (take t free)) ≡ slice_get others (ones (take u randomness)))
+    → pivot_at strings free t ≡ pivot_at others randomness u
+pivot-equal strings others free randomness t u flag same =
+    ap (λ b. if b then slice_get strings (ones (take t free)) else None) flag ∙ by_flag (get_or randomness u false) refl
   where
-    by_flag : (b : Bool) → get_or flags u false ≡ b
-        → (if get_or flags u false then slice_get strings (ones (take t free)) else None) ≡ pivot_at others flags u
+    by_flag : (b : Bool) → get_or randomness u false ≡ b
+        → (if get_or randomness u false then slice_get strings (ones (take t free)) else None) ≡ pivot_at others randomness u
     by_flag true e =
         ap (λ c. if c then slice_get strings (ones (take t free)) else None) e
         ∙ same e
-        ∙ sym (ap (λ c. if c then slice_get others (ones (take u flags)) else None) e)
+        ∙ sym (ap (λ c. if c then slice_get others (ones (take u randomness)) else None) e)
     by_flag false e =
         ap (λ c. if c then slice_get strings (ones (take t free)) else None) e
-        ∙ sym (ap (λ c. if c then slice_get others (ones (take u flags)) else None) e)
+        ∙ sym (ap (λ c. if c then slice_get others (ones (take u randomness)) else None) e)
 
-kept-get : (most : ℕ) (strings more : List (List Letter)) (count i : ℕ) → length strings ≡ min count most → i < count
+stored-get : (most : ℕ) (strings more : List (List Letter)) (count i : ℕ) → length strings ≡ min count most → i < count
     → slice_get (take most (strings ++ more)) i ≡ slice_get strings i
-kept-get most strings more count i e lt = by_position (cases_lt i (length strings))
+stored-get most strings more count i e lt = by_position (cases_lt i (length strings))
   where
     by_position : (i < length strings) ⊎ (length strings ≤ i) → slice_get (take most (strings ++ more)) i ≡ slice_get strings i
     by_position (inl near) = get-take most (strings ++ more) i (omega arith) ∙ get-append strings more i near
@@ -60,15 +60,15 @@ kept-get most strings more count i e lt = by_position (cases_lt i (length string
         slice_get_past (take most (strings ++ more)) i (omega (arith, length-take most (strings ++ more)))
         ∙ sym (slice_get_past strings i past)
 
--- strings that are numbered by flags have the same pivots with more after both
-pub pivot-before : (most : ℕ) (strings more : List (List Letter)) (free flags : List Bool) (t : ℕ) → length strings ≡ min (ones free) most → t < length free
-    → pivot_at (take most (strings ++ more)) (free ++ flags) t ≡ pivot_at strings free t
-pivot-before most strings more free flags t e lt =
-    pivot-equal (take most (strings ++ more)) strings (free ++ flags) free t t (get_or_append_left free flags false t lt)
-    (λ is. ap (slice_get (take most (strings ++ more))) index ∙ kept-get most strings more (ones free) (ones (take t free)) e (ones-before free t is))
+-- strings that are numbered by the randomness have the same pivots with more after both
+pub pivot-before : (most : ℕ) (strings more : List (List Letter)) (free randomness : List Bool) (t : ℕ) → length strings ≡ min (ones free) most → t < length free
+    → pivot_at (take most (strings ++ more)) (free ++ randomness) t ≡ pivot_at strings free t
+pivot-before most strings more free randomness t e lt =
+    pivot-equal (take most (strings ++ more)) strings (free ++ randomness) free t t (get_or_append_left free randomness false t lt)
+    (λ is. ap (slice_get (take most (strings ++ more))) index ∙ stored-get most strings more (ones free) (ones (take t free)) e (ones-before free t is))
   where
-    index : ones (take t (free ++ flags)) ≡ ones (take t free)
-    index = ap ones (take-append-le t free flags (omega arith))
+    index : ones (take t (free ++ randomness)) ≡ ones (take t free)
+    index = ap ones (take-append-le t free randomness (omega arith))
 
 flag-here : (free : List Bool) (flag : Bool) → get_or (free ++ flag ∷ []) (length free) false ≡ flag
 flag-here [] flag = refl
@@ -83,7 +83,7 @@ pub pivot-fixed : (strings : List (List Letter)) (free : List Bool) → pivot_at
 pivot-fixed strings free =
     ap (λ b. if b then slice_get strings (ones (take (length free) (free ++ false ∷ []))) else None) (flag-here free false)
 
--- and if it was random the string that was put after the others, or none if no more are kept
+-- and if it was random the string that was put after the others, or none if no more are stored
 pub pivot-random : (P : List Letter → Type 0) (most : ℕ) (strings : List (List Letter)) (s : List Letter) (free : List Bool)
     → length strings ≡ min (ones free) most → P s → IfSome (pivot_at (take most (strings ++ s ∷ [])) (free ++ true ∷ []) (length free)) P
 pivot-random P most strings s free e is =
@@ -99,7 +99,7 @@ pivot-random P most strings s free e is =
         subst (λ o. IfSome o P)
         (sym (slice_get_past (take most (strings ++ s ∷ [])) (ones free) (omega (arith, length-take most (strings ++ s ∷ []), e, full)))) tt
 
--- outcomes after as many random ones as strings are kept have no pivots
+-- outcomes after as many random ones as strings are stored have no pivots
 
 pub if-none : (b : Bool) (o : Option (List Letter)) → o ≡ None → (if b then o else None) ≡ None
 if-none true o e = e
@@ -118,8 +118,8 @@ pivot-past strings free more t le few =
 
 -- strings stay numbered
 
-pub numbered-full : (kept : PivotsState) (free more : List Bool) → length kept.strings ≡ kept.most → IsNumbered kept free → IsNumbered kept (free ++ more)
-numbered-full kept free more full e = omega (arith, full, e, ones-append free more)
+pub numbered-full : (stored : PivotsState) (free more : List Bool) → length stored.strings ≡ stored.most → IsNumbered stored free → IsNumbered stored (free ++ more)
+numbered-full stored free more full e = omega (arith, full, e, ones-append free more)
 
 pub numbered-fixed : (most : ℕ) (strings : List (List Letter)) (free : List Bool) → length strings ≡ min (ones free) most
     → length strings ≡ min (ones (free ++ false ∷ [])) most

@@ -1,5 +1,5 @@
--- Pivots: which are enough for a frame, and what a trace, flags and a tableau say of a measurement.
-use Rattle.stab_frames.proofs.Names.{◌≡◌, ℕ, zero, suc, ◌+◌, ◌<◌, ◌≤◌, refl, sym, ◌∙◌, ap, subst, Bool, true, false, List, [], ◌∷◌, ◌++◌, length, replicate, get_or, arith, Option, Some, None, is_some, take_all, All-head, All-tail, IfSome_then, Letter, ◌⊕◌, Signed, single, anticommute, strings_anticommute, parity-self, strings_anticommute-comm, is_random_by, member, is_random, IsStabiliserGroup, IsPivot, not_both, length-one_letter, anticommuting-member_of_random, Step, one, two, controlled, collapse, product, detector, observable, string_of, measured_by, Point, given, coins_of, all_coins_of, next_point, outputs, StepFits, length-string_of, coins-one, no_strings, IsPivotOf, frame_after, IsRightAt, AreEnough, RightPivotsAreEnough, FlippedCoinsNeedNoPivots, PivotsAreEnoughBefore, MeasurementsHavePivots, FlagsDeterminePivots}
+-- Pivots: which are enough for a frame, and what a trace, randomness and a tableau say of a measurement.
+use Rattle.stab_frames.proofs.Names.{◌≡◌, ℕ, zero, suc, ◌+◌, ◌<◌, ◌≤◌, refl, sym, ◌∙◌, ap, subst, Bool, true, false, List, [], ◌∷◌, ◌++◌, length, replicate, get_or, arith, Option, Some, None, is_some, take_all, All-head, All-tail, IfSome_then, Letter, ◌⊕◌, Signed, single, anticommute, strings_anticommute, parity-self, strings_anticommute-comm, is_random_by, member, is_random, IsStabiliserGroup, IsPivot, not_both, length-one_letter, anticommuting-member_of_random, Step, one, two, controlled, collapse, product, detector, observable, string_of, measured_by, Point, given, coins_of, all_coins_of, next_point, outputs, StepFits, length-string_of, coins-one, no_strings, IsPivotOf, frame_after, IsRightAt, AreEnough, RightPivotsAreEnough, FlippedCoinsNeedNoPivots, PivotsAreEnoughBefore, MeasurementsHavePivots, RandomnessDeterminesPivots}
 use Rattle.stab_frames.proofs.MeasuredLemmas.{pivoted-random}
 use Rattle.stab_frames.proofs.StepLemmas.{group-next}
 
@@ -49,26 +49,26 @@ measurement-pivot n t fits sound q lq = by_flag (is_random t q) refl
         let h = anticommuting-member_of_random n t fits sound q lq e in
         (Some (h.0).letters, member-pivot n (member t) q h.0 h.1 h.2 h.3)
 
--- right pivots, and the flags that steps give
+-- right pivots, and the randomness that steps give
 
 pivot-random : (n : ℕ) (u : Signed → Bool) → IsStabiliserGroup n u → (m : Signed) → length m.letters ≡ n → (pivot : Option (List Letter))
     → IsPivotOf n u m pivot → is_random_by u m ≡ is_some pivot
 pivot-random n u group m size None right = right
 pivot-random n u group m size (Some s) right = pivoted-random n u group m size s right
 
-flags-given : (n : ℕ) (coins : ℕ → Bool) (strings : ℕ → Option (List Letter)) (x : Step) (a : Point) → IsStabiliserGroup n (member a.trace)
+randomness-given : (n : ℕ) (coins : ℕ → Bool) (strings : ℕ → Option (List Letter)) (x : Step) (a : Point) → IsStabiliserGroup n (member a.trace)
     → IsRightAt n strings x a → (given n coins x a).free ≡ replicate (coins_of x) (is_some (strings a.coin))
-flags-given n coins strings (one g q) a group right = refl
-flags-given n coins strings (two g p q) a group right = refl
-flags-given n coins strings (controlled l k q) a group right = refl
-flags-given n coins strings (collapse l q recorded inverted resets) a group right =
+randomness-given n coins strings (one g q) a group right = refl
+randomness-given n coins strings (two g p q) a group right = refl
+randomness-given n coins strings (controlled l k q) a group right = refl
+randomness-given n coins strings (collapse l q recorded inverted resets) a group right =
     ap (λ b. b ∷ []) (pivot-random n (member a.trace) group (single n q l) (length-one_letter n q l) (strings a.coin) right)
-flags-given n coins strings (product factors inverted) a group right =
+randomness-given n coins strings (product factors inverted) a group right =
     ap (λ b. b ∷ []) (pivot-random n (member a.trace) group (string_of n factors) (length-string_of n factors) (strings a.coin) right)
-flags-given n coins strings (detector ks) a group right = refl
-flags-given n coins strings (observable j ks) a group right = refl
+randomness-given n coins strings (detector ks) a group right = refl
+randomness-given n coins strings (observable j ks) a group right = refl
 
--- flags of one step in front of those of others
+-- the randomness of one step in front of that of others
 flag-joined : (c rest : ℕ) → c ≤ 1 → (bits : ℕ → Bool) (coin : ℕ) (later : List Bool) → ((t : ℕ) → t < rest → get_or later t false ≡ bits ((coin + c) + t))
     → (t : ℕ) → t < c + rest → get_or (replicate c (bits coin) ++ later) t false ≡ bits (coin + t)
 flag-joined zero rest few bits coin later at t lt = at t (omega arith) ∙ ap bits (omega arith)
@@ -76,10 +76,10 @@ flag-joined (suc zero) rest few bits coin later at zero lt = ap bits (omega arit
 flag-joined (suc zero) rest few bits coin later at (suc t) lt = at t (omega arith) ∙ ap bits (omega arith)
 flag-joined (suc (suc c)) rest few bits coin later at t lt = absurd (omega arith)
 
-pub flags-has_pivots : FlagsDeterminePivots
-flags-has_pivots n coins strings [] a fits group right t lt = absurd (omega arith)
-flags-has_pivots n coins strings (x ∷ xs) a fits group right t lt =
+pub randomness-has_pivots : RandomnessDeterminesPivots
+randomness-has_pivots n coins strings [] a fits group right t lt = absurd (omega arith)
+randomness-has_pivots n coins strings (x ∷ xs) a fits group right t lt =
     let next = next_point n coins x a in
-    ap (λ flags. get_or (flags ++ (outputs n coins xs next).free) t false) (flags-given n coins strings x a group right.0)
+    ap (λ randomness. get_or (randomness ++ (outputs n coins xs next).free) t false) (randomness-given n coins strings x a group right.0)
     ∙ flag-joined (coins_of x) (all_coins_of xs) (coins-one x) (λ k. is_some (strings k)) a.coin (outputs n coins xs next).free
-    (flags-has_pivots n coins strings xs next (All-tail (StepFits n) x xs fits) (group-next n coins x a (All-head (StepFits n) x xs fits) group) right.1) t lt
+    (randomness-has_pivots n coins strings xs next (All-tail (StepFits n) x xs fits) (group-next n coins x a (All-head (StepFits n) x xs fits) group) right.1) t lt

@@ -14,7 +14,7 @@ module _ (first : ℕ) (string old : List Letter) where
   -- one letter further
   module _ (now : List Letter) (rest b : ℕ) (propagated : IsWalked first rest string old now) (lb : b < 64) (one : chooses rest b ≡ true) (l r : Letter)
       (el : l ≡ get_or now (first + b) I) (er : r ≡ letter_product l (get_or string (first + b) I)) (new : List Letter) (put : new ≡ set now (first + b) r)
-      (next : ℕ) (gone : chooses next b ≡ false) (kept : (j : ℕ) → j ≢ b → j < 64 → chooses next j ≡ chooses rest j) where
+      (next : ℕ) (gone : chooses next b ≡ false) (preserved : (j : ℕ) → j ≢ b → j < 64 → chooses next j ≡ chooses rest j) where
     other : (q : ℕ) → q ≢ first + b → get_or new q I ≡ get_or now q I
     other q distinct = ap (λ p. get_or p q I) put ∙ get_or-set_other now (first + b) q r I distinct
 
@@ -27,7 +27,7 @@ module _ (first : ℕ) (string old : List Letter) where
     inside-next j lj chosen = by_position (cases_order j b)
       where
         distinct : j ≢ b → first + j < length old
-        distinct ne = propagated.inside j lj (sym (kept j ne lj) ∙ chosen)
+        distinct ne = propagated.inside j lj (sym (preserved j ne lj) ∙ chosen)
 
         by_position : (j ≡ b) ⊎ ((j < b) ⊎ (b < j)) → first + j < length old
         by_position (inl e) = clash (chooses next b) (ap (chooses next) (sym e) ∙ chosen) gone
@@ -38,7 +38,7 @@ module _ (first : ℕ) (string old : List Letter) where
     done-next j lj none = by_position (cases_order j b)
       where
         distinct : j ≢ b → get_or new (first + j) I ≡ letter_product (get_or old (first + j) I) (get_or string (first + j) I)
-        distinct ne = other (first + j) (omega arith) ∙ propagated.done j lj (sym (kept j ne lj) ∙ none)
+        distinct ne = other (first + j) (omega arith) ∙ propagated.done j lj (sym (preserved j ne lj) ∙ none)
 
         by_position : (j ≡ b) ⊎ ((j < b) ⊎ (b < j)) → get_or new (first + j) I ≡ letter_product (get_or old (first + j) I) (get_or string (first + j) I)
         by_position (inl e) = subst (λ i. get_or new (first + i) I ≡ letter_product (get_or old (first + i) I) (get_or string (first + i) I)) (sym e) here
@@ -49,7 +49,7 @@ module _ (first : ℕ) (string old : List Letter) where
     left-next j lj chosen = by_position (cases_order j b)
       where
         distinct : j ≢ b → get_or new (first + j) I ≡ get_or old (first + j) I
-        distinct ne = other (first + j) (omega arith) ∙ propagated.left j lj (sym (kept j ne lj) ∙ chosen)
+        distinct ne = other (first + j) (omega arith) ∙ propagated.left j lj (sym (preserved j ne lj) ∙ chosen)
 
         by_position : (j ≡ b) ⊎ ((j < b) ⊎ (b < j)) → get_or new (first + j) I ≡ get_or old (first + j) I
         by_position (inl e) = clash (chooses next b) (ap (chooses next) (sym e) ∙ chosen) gone

@@ -100,7 +100,7 @@ determined-append n strings free changes (x ∷ xs) ys coin f front rest = (
 none : (k : ℕ) → k + 0 ≡ k
 none k = omega arith
 
--- what is said, strings that are true and the run's flags are enough
+-- what is said, strings that are true and the run's randomness are enough
 
 pub pivot-enough : (n : ℕ) (trace : List Event) (m : Signed) (pivot : Option (List Letter)) (flag : Bool) → (pivot ≡ None → flag ≡ false)
     → flag ≡ is_random trace m → IfSome pivot (λ s. IsPivot n (member trace) m s) → IsPivotOf n (member trace) m pivot
@@ -118,28 +118,28 @@ first-flag (x ∷ free) (suc coin) b bits e =
     one_more : suc coin + 1 ≡ suc (coin + 1)
     one_more = omega arith
 
--- the pivot of what a step measures is right, if none was kept of a fixed outcome alone
-pub kept-pivot : (n : ℕ) (coins : ℕ → Bool) (strings : List (List Letter)) (free : List Bool) (x : Step) (a : Point)
+-- the pivot of what a step measures is right, if none was stored of a fixed outcome alone
+pub stored-pivot : (n : ℕ) (coins : ℕ → Bool) (strings : List (List Letter)) (free : List Bool) (x : Step) (a : Point)
     → IsTrueAt n (pivot_at strings free) x a → (rest : List Bool) → drop a.coin free ≡ (given n coins x a).free ++ rest
     → IfSome (measured_by n x) (λ m. (pivot_at strings free a.coin ≡ None → get_or free a.coin false ≡ false) → IsPivotOf n (member a.trace) m (pivot_at strings free a.coin))
     × (drop (a.coin + coins_of x) free ≡ rest)
-kept-pivot n coins strings free (one g q) a is rest flags = (tt, ap (λ k. drop k free) (none a.coin) ∙ flags)
-kept-pivot n coins strings free (two g p q) a is rest flags = (tt, ap (λ k. drop k free) (none a.coin) ∙ flags)
-kept-pivot n coins strings free (controlled l k q) a is rest flags = (tt, ap (λ k. drop k free) (none a.coin) ∙ flags)
-kept-pivot n coins strings free (collapse l q recorded inverted resets) a is rest flags =
-    let first = first-flag free a.coin (is_random a.trace (single n q l)) rest flags in
+stored-pivot n coins strings free (one g q) a is rest randomness = (tt, ap (λ k. drop k free) (none a.coin) ∙ randomness)
+stored-pivot n coins strings free (two g p q) a is rest randomness = (tt, ap (λ k. drop k free) (none a.coin) ∙ randomness)
+stored-pivot n coins strings free (controlled l k q) a is rest randomness = (tt, ap (λ k. drop k free) (none a.coin) ∙ randomness)
+stored-pivot n coins strings free (collapse l q recorded inverted resets) a is rest randomness =
+    let first = first-flag free a.coin (is_random a.trace (single n q l)) rest randomness in
     ((λ fixed. pivot-enough n a.trace (single n q l) (pivot_at strings free a.coin) (get_or free a.coin false) fixed first.0 is), first.1)
-kept-pivot n coins strings free (product factors inverted) a is rest flags =
-    let first = first-flag free a.coin (is_random a.trace (string_of n factors)) rest flags in
+stored-pivot n coins strings free (product factors inverted) a is rest randomness =
+    let first = first-flag free a.coin (is_random a.trace (string_of n factors)) rest randomness in
     ((λ fixed. pivot-enough n a.trace (string_of n factors) (pivot_at strings free a.coin) (get_or free a.coin false) fixed first.0 is), first.1)
-kept-pivot n coins strings free (detector ks) a is rest flags = (tt, ap (λ k. drop k free) (none a.coin) ∙ flags)
-kept-pivot n coins strings free (observable j ks) a is rest flags = (tt, ap (λ k. drop k free) (none a.coin) ∙ flags)
+stored-pivot n coins strings free (detector ks) a is rest randomness = (tt, ap (λ k. drop k free) (none a.coin) ∙ randomness)
+stored-pivot n coins strings free (observable j ks) a is rest randomness = (tt, ap (λ k. drop k free) (none a.coin) ∙ randomness)
 
 step-enough : (n : ℕ) (coins : ℕ → Bool) (strings : List (List Letter)) (free : List Bool) (changes : ℕ → Bool) (x : Step) (f : List Letter) (a : Point)
     → IsStepDetermined n strings free changes x a.coin f → IsTrueAt n (pivot_at strings free) x a → (rest : List Bool) → drop a.coin free ≡ (given n coins x a).free ++ rest
     → IsEnoughAt n (pivots_of (pivot_at strings free) changes) x f a × (drop (a.coin + coins_of x) free ≡ rest)
-step-enough n coins strings free changes x f a determined is rest flags =
-    let here = kept-pivot n coins strings free x a is rest flags in
+step-enough n coins strings free changes x f a determined is rest randomness =
+    let here = stored-pivot n coins strings free x a is rest randomness in
     (by_measured (measured_by n x) determined here.0, here.1)
   where
     pivot : Option (List Letter)
@@ -154,9 +154,9 @@ step-enough n coins strings free changes x f a determined is rest flags =
 pub determined-enough : (n : ℕ) (coins : ℕ → Bool) (strings : List (List Letter)) (free : List Bool) (changes : ℕ → Bool) (xs : List Step) (f : Frame) (a : Point)
     → AreDetermined n strings free changes xs a.coin f → AreTrue n coins (pivot_at strings free) xs a → (rest : List Bool) → drop a.coin free ≡ (outputs n coins xs a).free ++ rest
     → AreEnough n coins (pivots_of (pivot_at strings free) changes) xs f a
-determined-enough n coins strings free changes [] f a determined is rest flags = tt
-determined-enough n coins strings free changes (x ∷ xs) f a determined is rest flags =
+determined-enough n coins strings free changes [] f a determined is rest randomness = tt
+determined-enough n coins strings free changes (x ∷ xs) f a determined is rest randomness =
     let next = next_point n coins x a in
     let here = step-enough n coins strings free changes x f.letters a determined.0 is.0 ((outputs n coins xs next).free ++ rest)
-    (flags ∙ append_assoc (given n coins x a).free (outputs n coins xs next).free rest) in
+    (randomness ∙ append_assoc (given n coins x a).free (outputs n coins xs next).free rest) in
     (here.0, determined-enough n coins strings free changes xs (frame_after n (pivots_of (pivot_at strings free) changes) x a.coin f) next determined.1 is.1 rest here.1)

@@ -1,4 +1,4 @@
--- Conjugated copies: a kept state conjugated by one letter after another is conjugated by all of them.
+-- Conjugated states: a stored state conjugated by one letter after another is conjugated by all of them.
 use Rattle.stab_frames.proofs.Names.{◌≡◌, ℕ, zero, suc, ◌+◌, ◌-◌, ◌<◌, ◌≤◌, refl, sym, ◌∙◌, ap, subst, Bool, List, [], ◌∷◌, ◌++◌, append-nil, length, take, get_or, set, replicate, arith, take_all, length-replicate, get_or-replicate, set-get_or, Letter, I, X, Y, Z, letter_product, letter_product-I, Signed, single, string_product, string_product-blank_right, IsConjugated}
 use Rattle.stab_frames.proofs.PropagatedPointLemmas.{conjugated-blank, conjugated-over}
 

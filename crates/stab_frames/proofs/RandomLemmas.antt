@@ -34,7 +34,7 @@ pub placed-next : (free : List Bool) (flag : Bool) (old new : PropagationState) 
 placed-next free flag old new placed e coin number =
     number ∙ ap (λ k. k + ones (flag ∷ [])) placed ∙ ones-next free old.coin flag e ∙ ap (λ k. ones (take k free)) (sym coin)
 
--- the pivot of an outcome that was fixed, and of a random one whose string was kept
+-- the pivot of an outcome that was fixed, and of a random one whose string was stored
 
 pub pivot-none : (strings : List (List Letter)) (free : List Bool) (coin : ℕ) → get_or free coin false ≡ false → pivot_at strings free coin ≡ None
 pivot-none strings free coin e = ap (λ b. if b then slice_get strings (ones (take coin free)) else None) e

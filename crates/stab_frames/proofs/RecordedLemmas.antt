@@ -1,19 +1,19 @@
--- Kept strings: cut, and with others or some of themselves put after them one after another.
-use Rattle.stab_frames.proofs.Names.{◌≡◌, ℕ, ◌+◌, ◌-◌, ◌*◌, ◌/◌, ◌<◌, ◌≤◌, sym, ◌∙◌, ap, Bool, true, false, inl, inr, All, List, [], ◌∷◌, ◌++◌, append_assoc, length, map, take, drop, min, get_or, nat_le, arith, max, if◌then◌else◌, div-mul-le_self, leb_tells, take-map, take_more, take_all, length-take, length-drop, length-map, get_or-map, get_or_append_left, get_or-drop, get_or-take, Letter, bytes_of, most_strings, PivotsState, front_kept}
+-- Stored strings: cut, and with others or some of themselves put after them one after another.
+use Rattle.stab_frames.proofs.Names.{◌≡◌, ℕ, ◌+◌, ◌-◌, ◌*◌, ◌/◌, ◌<◌, ◌≤◌, sym, ◌∙◌, ap, Bool, true, false, inl, inr, All, List, [], ◌∷◌, ◌++◌, append_assoc, length, map, take, drop, min, get_or, nat_le, arith, max, if◌then◌else◌, div-mul-le_self, leb_tells, take-map, take_more, take_all, length-take, length-drop, length-map, get_or-map, get_or_append_left, get_or-drop, get_or-take, Letter, bytes_of, most_strings, PivotsState, front_stored}
 
 module _ {A : Type 0} (letters : A → List Letter) where
   pub letters_front : (count : ℕ) (strings : List A) → map letters (take count strings) ≡ take count (map letters strings)
   letters_front count strings = sym (take-map letters count strings)
 
   -- all have as many letters if others with these letters have
-  pub all-alike : (n : ℕ) (kept strings : List A) → map letters kept ≡ map letters strings → All (λ p. length (letters p) ≡ n) strings → All (λ p. length (letters p) ≡ n) kept
-  all-alike n kept strings same all k d lt =
+  pub all-alike : (n : ℕ) (stored strings : List A) → map letters stored ≡ map letters strings → All (λ p. length (letters p) ≡ n) strings → All (λ p. length (letters p) ≡ n) stored
+  all-alike n stored strings same all k d lt =
       ap length
-      (sym (get_or-map letters kept k d (letters d) lt) ∙ ap (λ l. get_or l k (letters d)) same ∙ get_or-map letters strings k d (letters d) within)
+      (sym (get_or-map letters stored k d (letters d) lt) ∙ ap (λ l. get_or l k (letters d)) same ∙ get_or-map letters strings k d (letters d) within)
       ∙ all k d within
     where
       within : k < length strings
-      within = omega (arith, lt, ap length same, length-map kept letters, length-map strings letters)
+      within = omega (arith, lt, ap length same, length-map stored letters, length-map strings letters)
 
 -- strings with those from one number up to another after them again, one after another
 module _ (strings : List (List Letter)) (from to : ℕ) where
@@ -48,7 +48,7 @@ module _ (strings : List (List Letter)) (from to : ℕ) where
 
 -- a copy of the first ones is within its limit, which is as far above that of all lists as the copy is long, at most
 pub front-limit : (count : ℕ) (s : PivotsState) (size : ℕ) → size ≡ min count (length s.strings) → length s.strings ≤ s.most
-    → s.most ≤ most_strings s.qubits + length s.strings → (size ≤ (front_kept count s).most) × ((front_kept count s).most ≤ most_strings s.qubits + size)
+    → s.most ≤ most_strings s.qubits + length s.strings → (size ≤ (front_stored count s).most) × ((front_stored count s).most ≤ most_strings s.qubits + size)
 front-limit count s size is within raised =
     elim (leb_tells count (length s.strings)) [
       | inl h ↦
@@ -61,5 +61,5 @@ front-limit count s size is within raised =
           (omega (arith, is, lt, limit, within), omega (arith, is, lt, limit, raised))
     ]
   where
-    of : (b : Bool) → nat_le count (length s.strings) ≡ b → (front_kept count s).most ≡ (if b then max (most_strings s.qubits) count else s.most)
+    of : (b : Bool) → nat_le count (length s.strings) ≡ b → (front_stored count s).most ≡ (if b then max (most_strings s.qubits) count else s.most)
     of b e = ap (λ c. if c then max (most_strings s.qubits) count else s.most) e

@@ -120,10 +120,10 @@ pub gone-over-seen : (n m k da : ℕ) (coins : ℕ → Bool) (strings : ℕ → 
     → (outputs n coins xs a).free ≡ take (all_coins_of xs) (drop k free)
     → (outputs n coins xs a).outcomes ≡ bits
     → HasGoneOver n (coins_from da coins) strings free bits xs k (with_coin k seen)
-gone-over-seen n m k da coins strings free bits xs a seen near at agree is flags outcomes = record {
+gone-over-seen n m k da coins strings free bits xs a seen near at agree is randomness outcomes = record {
   coin = refl;
   are_true = true-conjugated n (coins_from da coins) strings xs (with_coin k a) (with_coin k seen) refl (back-conjugated n m (coins_from da coins) xs (with_coin k a) (with_coin k seen) near same) is;
-  flags = ap (λ (o : RunOutput). o.free) given-seen ∙ flags;
+  randomness = ap (λ (o : RunOutput). o.free) given-seen ∙ randomness;
   outcomes = ap (λ (o : RunOutput). o.outcomes) given-seen ∙ outcomes;
 }
   where

@@ -60,13 +60,13 @@ propagation-same n strings free xs old new goes = goes.over (λ t. false) (never
 pub propagation-enough : (n : ℕ) (coins : ℕ → Bool) (strings : List (List Letter)) (free : List Bool) (k base : ℕ) (xs : List Step) (old new : PropagationState) (a : Point)
     → GoesOver n strings free never (take k xs) old new → a.coin ≡ old.coin → AreTrue n coins (pivot_at strings free) xs a → (outputs n coins xs a).free ≡ drop old.coin free
     → AreEnough n coins (same_coins (pivot_at strings free)) (take k xs) (frame_at base old) a
-propagation-enough n coins strings free k base xs old new a goes same is flags =
+propagation-enough n coins strings free k base xs old new a goes same is randomness =
     determined-enough n coins strings free (λ t. false) (take k xs) (frame_at base old) a
     (subst (λ c. AreDetermined n strings free (λ t. false) (take k xs) c (frame_at base old)) (sym same)
     (goes.determined (λ t. false) (never-drawn free (take k xs) old.coin) base))
     (true-front n coins (pivot_at strings free) (take k xs) (drop k xs) a (subst (λ ys. AreTrue n coins (pivot_at strings free) ys a) (sym (take-append-drop k xs)) is))
     (outputs n coins (drop k xs) (point_after n coins (take k xs) a)).free
     (ap (λ c. drop c free) same
-    ∙ sym flags
+    ∙ sym randomness
     ∙ ap (λ ys. (outputs n coins ys a).free) (sym (take-append-drop k xs))
     ∙ ap (λ o. o.free) (outputs-append n coins (take k xs) (drop k xs) a))

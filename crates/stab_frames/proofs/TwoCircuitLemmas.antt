@@ -123,8 +123,8 @@ module _ (n : ℕ) (coins others : ℕ → Bool) (xs ys : List Step) (k : ℕ) (
   records-flipped =
       records-shown n others ys k ∙ ap (λ (o : RunOutput). o.records) given ∙ ap (λ r. flipped r flips.records) (sym (records-shown n coins xs k))
 
-  pub flags-flipped : (run n others ys (start k)).free ≡ flipped (run n coins xs (start k)).free flips.free
-  flags-flipped =
+  pub randomness-flipped : (run n others ys (start k)).free ≡ flipped (run n coins xs (start k)).free flips.free
+  randomness-flipped =
       ap (λ (s : State). s.free) (run-state n others ys (start k)) ∙ ap (λ (o : RunOutput). o.free) given
       ∙ ap (λ r. flipped r flips.free) (sym (ap (λ (s : State). s.free) (run-state n coins xs (start k))))
 

@@ -10,6 +10,6 @@ most_pivot_bytes = 16777216
 abbrev pub bytes_of : ℕ → ℕ
 bytes_of n = n / 4 + 128
 
--- how many strings of n letters are kept at most
+-- how many strings of n letters are stored at most
 abbrev pub most_strings : ℕ → ℕ
 most_strings n = most_pivot_bytes / bytes_of n

@@ -19,12 +19,12 @@ coins_from d coins t = coins (d + t)
 abbrev pub pivots_between : (ℕ → Option (List Letter)) → (ℕ → Bool) → (ℕ → Bool) → RunPivots
 pivots_between strings coins others = pivots_of strings (λ t. others t ⊕ coins t)
 
--- from a point, with these coins, a run passes steps: its flags there are these from its coin on, pivots of its random
+-- from a point, with these coins, a run passes steps: its randomness there is this from its coin on, pivots of its random
 -- outcomes are recorded, and these are its outcomes there
 pub record HasGoneOver (n : ℕ) (coins : ℕ → Bool) (strings : ℕ → Option (List Letter)) (free bits : List Bool) (xs : List Step) (k : ℕ) (a : Point) : Type 0 where
   pub coin : a.coin ≡ k
   pub are_true : AreTrue n coins strings xs a
-  pub flags : (outputs n coins xs a).free ≡ take (all_coins_of xs) (drop k free)
+  pub randomness : (outputs n coins xs a).free ≡ take (all_coins_of xs) (drop k free)
   pub outcomes : (outputs n coins xs a).outcomes ≡ bits
 
 -- a frame was propagated over steps from one run to another with these coins, by pivots that are enough, whatever coins the one run had

@@ -45,9 +45,9 @@ abbrev pub RunsHavePivots : Type 0
 RunsHavePivots =
     (n : ℕ) (coins : ℕ → Bool) (xs : List Step) → All (StepFits n) xs → (strings : ℕ → Option (List Letter)) × AreRight n coins strings xs origin
 
--- right pivots have strings exactly if the flags that the steps give say that the coin decided
-abbrev pub FlagsDeterminePivots : Type 0
-FlagsDeterminePivots =
+-- right pivots have strings exactly if the randomness that the steps give says that the coin decided
+abbrev pub RandomnessDeterminesPivots : Type 0
+RandomnessDeterminesPivots =
     (n : ℕ) (coins : ℕ → Bool) (strings : ℕ → Option (List Letter)) (xs : List Step) (a : Point) →
     All (StepFits n) xs → IsStabiliserGroup n (member a.trace) → AreRight n coins strings xs a →
     (t : ℕ) → t < all_coins_of xs → slice_index_or (outputs n coins xs a).free t false ≡ is_some (strings (a.coin + t))

@@ -1,5 +1,5 @@
--- Framed tableaus: what a frame makes of a tableau is signs of its rows.
--- Source: this project's own, for the tableau of Aaronson and Gottesman 2004, section III, kept as rows of the inverse.
+-- Propagated tableaus: what a frame makes of a tableau is signs of its rows.
+-- Source: this project's own, for the tableau of Aaronson and Gottesman 2004, section III, stored as rows of the inverse.
 use Rattle.std.specs.Prelude.{List, [], ◌∷◌}
 use Rattle.stab_gates.specs.declared.letter.Letter.{Letter}
 use Rattle.stab_gates.specs.declared.letter.Letter.TheVariants.{X, Z}

@@ -1,4 +1,4 @@
--- Propagations: a frame on its way over the steps of a run whose pivots were kept.
+-- Propagations: a frame on its way over the steps of a run whose pivots were stored.
 -- Source: this project's own.
 use Rattle.std.specs.Prelude.{◌≡◌, ℕ, ◌+◌, ◌≤◌, Bool, false, List, ◌++◌, replicate, take, Option}
 use Rattle.stab_gates.specs.declared.letter.Letter.{Letter}
@@ -21,7 +21,7 @@ pub record PropagationState : Type 0 where
 abbrev pub frame_at : ℕ → PropagationState → Frame
 frame_at base w = record { letters = w.letters; flips = replicate base false ++ w.flips.records }
 
--- how many outcomes were random follows from the flags
+-- how many outcomes were random follows from the randomness
 abbrev pub IsPlaced : List Bool → PropagationState → Type 0
 IsPlaced free w = w.number ≡ ones (take w.coin free)
 

@@ -1,4 +1,4 @@
-//! Kept states conjugated by the letters of a frame.
+//! Stored states conjugated by the letters of a frame.
 
 ghost use Rattle.std.specs.Prelude.{◌≡◌, ◌<◌, length};
 ghost use Rattle.stab_pauli.specs.Paulis.{single};
@@ -8,7 +8,7 @@ ghost use Rattle.stab_tableau.specs.Conjugations.{IsConjugated};
 use stab_pauli::Letter;
 use stab_tableau::CompactTableau;
 
-/// Applies a letter to a qubit of a kept state. Most letters of a frame are I, which flips no sign.
+/// Applies a letter to a qubit of a stored state. Most letters of a frame are I, which flips no sign.
 fn apply_at(state: &mut CompactTableau, letter: Letter, qubit: usize)
     requires in_range { qubit < state.old.qubits }
     ensures qubits { state.new.qubits ≡ state.old.qubits }
@@ -20,7 +20,7 @@ fn apply_at(state: &mut CompactTableau, letter: Letter, qubit: usize)
     }
 }
 
-/// Conjugates a kept state by letters, one a qubit.
+/// Conjugates a stored state by letters, one a qubit.
 pub fn apply_frame_to(state: &mut CompactTableau, letters: &[Letter])
     requires same_length { length letters.now ≡ state.old.qubits }
     ensures qubits { state.new.qubits ≡ state.old.qubits }

@@ -19,7 +19,7 @@
 //! - `pivot_recorder`: what a run records of the steps that it carries out: pivots, and how far back they look.
 //! - `letters`: the table of what gates make of letters, and what they make of those of a frame.
 //! - `bits`: lists of bits, counted, and put after others as a frame flips them.
-//! - `conjugated_states`: kept states, conjugated by the letters of a frame.
+//! - `conjugated_states`: stored states, conjugated by the letters of a frame.
 //! - `propagation`: a frame on its way, with what it has flipped.
 //! - `draw`: which coins differ on its way.
 //! - `propagate_step`, `instruction`: one step on its way, and those of one instruction.

@@ -1,6 +1,6 @@
 //! Laws of pivots: what has to be known of a run's measurements for a frame to follow it.
 
-ghost use Rattle.stab_frames.specs.PivotLaws.{FlagsDeterminePivots, FramesHaveCoins, RightPivotsAreEnough, RunsHavePivots, FlippedCoinsNeedNoPivots};
+ghost use Rattle.stab_frames.specs.PivotLaws.{RandomnessDeterminesPivots, FramesHaveCoins, RightPivotsAreEnough, RunsHavePivots, FlippedCoinsNeedNoPivots};
 
 /// Notes that are right for each measurement of a run are enough for every frame.
 pub fn right_pivots_are_enough()
@@ -22,7 +22,7 @@ pub fn runs_have_pivots()
     ensures law { RunsHavePivots }
 {}
 
-/// Right pivots have a string exactly if the flags of the run say that the coin decided.
-pub fn flags_determine_pivots()
-    ensures law { FlagsDeterminePivots }
+/// Right pivots have a string exactly if the randomness of the run says that the coin decided.
+pub fn randomness_determines_pivots()
+    ensures law { RandomnessDeterminesPivots }
 {}

@@ -21,14 +21,13 @@ pub struct PivotRecorder {
 }
 
 impl PivotRecorder {
-    ghost use Rattle.std.specs.Prelude.{◌≡◌, ◌+◌, ◌<◌, ◌≤◌, ◌^◌, ◌∷◌, [], if◌then◌else◌, All, length, map, OnOk, IfErr};
+    ghost use Rattle.std.specs.Prelude.{◌≡◌, ◌+◌, ◌<◌, ◌≤◌, ◌^◌, ◌∷◌, [], All, length, map, OnOk, IfErr};
     ghost use Rattle.stab_io.specs.declared.refusal.Refusal.TheVariants.{OutOfMemory};
     ghost use Rattle.stab_items.specs.Steps.{measured};
     ghost use Rattle.stab_items.specs.StepValues.{step_shown, steps_shown};
-    ghost use Rattle.stab_run.specs.Records.{ones};
     ghost use Rattle.stab_run.specs.Points.{coins_of, all_coins_of};
     ghost use Rattle.stab_run.specs.ProgramStates.{StepFits, program_state, output_of};
-    ghost use Rattle.stab_frames.specs.inner.RecordedPivots.{PivotsSteps};
+    ghost use Rattle.stab_frames.specs.inner.RecordedPivots.{AreOnQubits, RecordsNoLess, RecordsSteps};
 
     /// Carries out steps, and records them. The other string is for products to be written into.
     pub fn run_steps<C: Coins>(
@@ -41,22 +40,15 @@ impl PivotRecorder {
         steps: Steps,
         applied: &mut u64,
     ) -> Result<(), Refusal>
-        requires same_length { length string.old.letters ≡ tableau.old.qubits }
-        requires pivots_length { length self.old.string.letters ≡ tableau.old.qubits }
-        requires strings_length { self.old.strings.qubits ≡ tableau.old.qubits }
+        requires sized { AreOnQubits tableau.old.qubits string.old self.old }
         requires fits { All (StepFits tableau.old.qubits) (steps_shown steps) }
         requires few { applied.old + length (steps_shown steps) < 2 ^ 63 }
-        ensures counted { OnOk result (applied.new ≡ applied.old + length (steps_shown steps.entry)) }
         ensures qubits { tableau.new.qubits ≡ tableau.old.qubits }
-        ensures string { length string.new.letters ≡ length string.old.letters }
+        ensures sized { AreOnQubits tableau.old.qubits string.new self.new }
         ensures same_coins { C.sequence coins.new ≡ C.sequence coins.old }
         ensures asks { C.asks coins.new ≤ C.asks coins.old + all_coins_of (steps_shown steps.entry) }
-        ensures asks_random { OnOk result (C.asks coins.new + ones outputs.old.free.items ≤ C.asks coins.old + ones outputs.new.free.items) }
-        ensures pivots_length { length self.new.string.letters ≡ tableau.old.qubits }
-        ensures strings_length { self.new.strings.qubits ≡ tableau.old.qubits }
-        ensures most { self.new.strings.most ≡ self.old.strings.most }
-        ensures raised { self.old.window ≤ self.new.window }
-        ensures has_pivots { OnOk result (PivotsSteps tableau.old.qubits (C.sequence coins.old) (steps_shown steps.entry) self.new.window self.old.strings self.new.strings (program_state tableau.old (output_of outputs.old)) (program_state tableau.new (output_of outputs.new))) }
+        ensures no_less { RecordsNoLess self.old self.new }
+        ensures recorded { OnOk result (RecordsSteps tableau.old.qubits (C.sequence coins.old) (steps_shown steps.entry) self.old self.new (program_state tableau.old (output_of outputs.old)) (program_state tableau.new (output_of outputs.new)) applied.old applied.new (C.asks coins.old) (C.asks coins.new)) }
         ensures err { IfErr result (λ r. r ≡ OutOfMemory) }
     {
         match steps {
@@ -88,7 +80,7 @@ impl PivotRecorder {
         Ok(())
     }
 
-    /// Carries out the measurements of targets, and records them: all at once if no further string is kept.
+    /// Carries out the measurements of targets, and records them: all at once if no further string is stored.
     fn run_targets<C: Coins>(
         &mut self,
         alloc: Global,
@@ -100,22 +92,15 @@ impl PivotRecorder {
         targets: &[MeasureTarget],
         applied: &mut u64,
     ) -> Result<(), Refusal>
-        requires same_length { length string.old.letters ≡ tableau.old.qubits }
-        requires pivots_length { length self.old.string.letters ≡ tableau.old.qubits }
-        requires strings_length { self.old.strings.qubits ≡ tableau.old.qubits }
+        requires sized { AreOnQubits tableau.old.qubits string.old self.old }
         requires fits { All (StepFits tableau.old.qubits) (map (measured measurement) targets.now) }
         requires few { applied.old + length targets.now < 2 ^ 63 }
-        ensures counted { OnOk result (applied.new ≡ applied.old + length targets.now) }
         ensures qubits { tableau.new.qubits ≡ tableau.old.qubits }
-        ensures string { length string.new.letters ≡ length string.old.letters }
+        ensures sized { AreOnQubits tableau.old.qubits string.new self.new }
         ensures same_coins { C.sequence coins.new ≡ C.sequence coins.old }
         ensures asks { C.asks coins.new ≤ C.asks coins.old + length targets.now }
-        ensures asks_random { OnOk result (C.asks coins.new + ones outputs.old.free.items ≤ C.asks coins.old + ones outputs.new.free.items) }
-        ensures pivots_length { length self.new.string.letters ≡ tableau.old.qubits }
-        ensures strings_length { self.new.strings.qubits ≡ tableau.old.qubits }
-        ensures most { self.new.strings.most ≡ self.old.strings.most }
-        ensures raised { self.old.window ≤ self.new.window }
-        ensures has_pivots { OnOk result (PivotsSteps tableau.old.qubits (C.sequence coins.old) (map (measured measurement) targets.now) self.new.window self.old.strings self.new.strings (program_state tableau.old (output_of outputs.old)) (program_state tableau.new (output_of outputs.new))) }
+        ensures no_less { RecordsNoLess self.old self.new }
+        ensures recorded { OnOk result (RecordsSteps tableau.old.qubits (C.sequence coins.old) (map (measured measurement) targets.now) self.old self.new (program_state tableau.old (output_of outputs.old)) (program_state tableau.new (output_of outputs.new)) applied.old applied.new (C.asks coins.old) (C.asks coins.new)) }
         ensures err { IfErr result (λ r. r ≡ OutOfMemory) }
     {
         if self.strings.is_full() {
@@ -130,7 +115,7 @@ impl PivotRecorder {
         Ok(())
     }
 
-    /// Carries out a step, and records it. If no further string is kept, none is looked for.
+    /// Carries out a step, and records it. If no further string is stored, none is looked for.
     fn run_step<C: Coins>(
         &mut self,
         alloc: Global,
@@ -141,22 +126,15 @@ impl PivotRecorder {
         step: Step,
         applied: &mut u64,
     ) -> Result<(), Refusal>
-        requires same_length { length string.old.letters ≡ tableau.old.qubits }
-        requires pivots_length { length self.old.string.letters ≡ tableau.old.qubits }
-        requires strings_length { self.old.strings.qubits ≡ tableau.old.qubits }
+        requires sized { AreOnQubits tableau.old.qubits string.old self.old }
         requires fits { StepFits tableau.old.qubits (step_shown step) }
         requires few { applied.old < 2 ^ 63 }
-        ensures counted { OnOk result (applied.new ≡ applied.old + 1) }
         ensures qubits { tableau.new.qubits ≡ tableau.old.qubits }
-        ensures string { length string.new.letters ≡ length string.old.letters }
+        ensures sized { AreOnQubits tableau.old.qubits string.new self.new }
         ensures same_coins { C.sequence coins.new ≡ C.sequence coins.old }
         ensures asks { C.asks coins.new ≤ C.asks coins.old + coins_of (step_shown step.entry) }
-        ensures asks_random { OnOk result (C.asks coins.new + ones outputs.old.free.items ≤ C.asks coins.old + ones outputs.new.free.items) }
-        ensures pivots_length { length self.new.string.letters ≡ tableau.old.qubits }
-        ensures strings_length { self.new.strings.qubits ≡ tableau.old.qubits }
-        ensures most { self.new.strings.most ≡ self.old.strings.most }
-        ensures raised { self.old.window ≤ self.new.window }
-        ensures has_pivots { OnOk result (PivotsSteps tableau.old.qubits (C.sequence coins.old) (step_shown step.entry ∷ []) self.new.window self.old.strings self.new.strings (program_state tableau.old (output_of outputs.old)) (program_state tableau.new (output_of outputs.new))) }
+        ensures no_less { RecordsNoLess self.old self.new }
+        ensures recorded { OnOk result (RecordsSteps tableau.old.qubits (C.sequence coins.old) (step_shown step.entry ∷ []) self.old self.new (program_state tableau.old (output_of outputs.old)) (program_state tableau.new (output_of outputs.new)) applied.old applied.new (C.asks coins.old) (C.asks coins.new)) }
         ensures err { IfErr result (λ r. r ≡ OutOfMemory) }
     {
         self.window = furthest_of(self.window, step);

@@ -12,7 +12,7 @@ use std::rc::Rc;
 /// Contracts see how many letters each has, and the list of their letters.
 pub struct Pivots {
     qubits: usize,
-    // How many may be kept: more than the limit by as many as are there again.
+    // How many may be stored: more than the limit by as many as are there again.
     most: usize,
     // Their signs are irrelevant.
     strings: Vec<Rc<Pauli>>,
@@ -44,7 +44,7 @@ impl Model for Pivots {
 impl Pivots {
     ghost use Rattle.std.specs.Prelude.{◌≡◌, ◌+◌, ◌≤◌, ◌<◌, ◌↔◌, [], ◌∷◌, ◌++◌, All, IsTrue, length, map, drop, slice_index_or, OnOk, OnErr, IfOk, IfErr};
     ghost use Rattle.stab_io.specs.declared.refusal.Refusal.TheVariants.{OutOfMemory};
-    ghost use Rattle.stab_frames.specs.Pivots.{kept_with, kept_again, cut_to, front_kept, own_strings};
+    ghost use Rattle.stab_frames.specs.Pivots.{stored_with, stored_again, cut_to, front_stored, own_strings};
     ghost use Rattle.stab_frames.specs.Limits.{most_strings as most_of};
 
     /// None, of n letters each, with leave to keep as many as the limit says. It takes no memory.
@@ -65,34 +65,34 @@ impl Pivots {
         self.strings.len()
     }
 
-    /// How many of those that may be kept are used up. Those that are there again use up none.
+    /// How many of those that may be stored are used up. Those that are there again use up none.
     pub fn own(&self) -> usize
         ensures value { result ≡ own_strings self.now }
     {
         self.strings.len() + most_strings(self.qubits) - self.most
     }
 
-    /// Whether no further ones are kept.
+    /// Whether no further ones are stored.
     pub fn is_full(&self) -> bool
         ensures value { IsTrue result ↔ length self.now.strings ≡ self.now.most }
     {
         self.strings.len() == self.most
     }
 
-    /// Puts the letters of a string after the others, unless as many are kept as may be.
+    /// Puts the letters of a string after the others, unless as many are stored as may be.
     ///
     /// Refusal `OutOfMemory` alone.
     pub fn push(&mut self, alloc: Global, string: &Pauli) -> Result<(), Refusal>
         requires same_length { length string.now.letters ≡ self.old.qubits }
         ensures qubits { self.new.qubits ≡ self.old.qubits }
         ensures most { self.new.most ≡ self.old.most }
-        ensures strings { OnOk result (self.new.strings ≡ kept_with self.old.most self.old.strings (string.now.letters ∷ [])) }
+        ensures strings { OnOk result (self.new.strings ≡ stored_with self.old.most self.old.strings (string.now.letters ∷ [])) }
         ensures unchanged { OnErr result (self.new ≡ self.old) }
         ensures err { IfErr result (λ r. r ≡ OutOfMemory) }
     {
         if self.strings.len() < self.most {
-            let kept = Rc::new(alloc, string.copy(alloc)?)?;
-            self.strings.push(kept)?;
+            let preserved = Rc::new(alloc, string.copy(alloc)?)?;
+            self.strings.push(preserved)?;
         }
         Ok(())
     }
@@ -117,7 +117,7 @@ impl Pivots {
     ///
     /// Refusal `OutOfMemory` alone.
     pub fn front(&self, alloc: Global, count: usize) -> Result<Pivots, Refusal>
-        ensures value { IfOk result (λ k. k ≡ front_kept count self.now) }
+        ensures value { IfOk result (λ k. k ≡ front_stored count self.now) }
         ensures err { IfErr result (λ r. r ≡ OutOfMemory) }
     {
         let (front, _) = self
@@ -133,9 +133,9 @@ impl Pivots {
         })
     }
 
-    /// How many may be kept in a copy of the first ones, up to this many.
+    /// How many may be stored in a copy of the first ones, up to this many.
     fn front_limit(&self, count: usize) -> usize
-        ensures value { result ≡ (front_kept count self.now).most }
+        ensures value { result ≡ (front_stored count self.now).most }
     {
         if count <= self.strings.len() {
             most_strings(self.qubits).max(count)
@@ -158,7 +158,7 @@ impl Pivots {
         requires same_length { other.now.qubits ≡ self.old.qubits }
         ensures qubits { self.new.qubits ≡ self.old.qubits }
         ensures most { self.new.most ≡ self.old.most }
-        ensures strings { OnOk result (self.new.strings ≡ kept_with self.old.most self.old.strings (drop from other.now.strings)) }
+        ensures strings { OnOk result (self.new.strings ≡ stored_with self.old.most self.old.strings (drop from other.now.strings)) }
         ensures err { IfErr result (λ r. r ≡ OutOfMemory) }
     {
         let (_, rest) = other
@@ -175,7 +175,7 @@ impl Pivots {
     pub fn append_again(&mut self, from: usize, to: usize) -> Result<(), Refusal>
         ensures qubits { self.new.qubits ≡ self.old.qubits }
         ensures most { self.old.most ≤ self.new.most }
-        ensures value { OnOk result (self.new ≡ kept_again from to self.old) }
+        ensures value { OnOk result (self.new ≡ stored_again from to self.old) }
         ensures err { IfErr result (λ r. r ≡ OutOfMemory) }
     {
         let end = to.min(self.len());
@@ -204,7 +204,7 @@ impl Pivots {
         requires same_length { All (λ p. length p.value.letters ≡ self.old.qubits) strings.now }
         ensures qubits { self.new.qubits ≡ self.old.qubits }
         ensures most { self.new.most ≡ self.old.most }
-        ensures strings { OnOk result (self.new.strings ≡ kept_with self.old.most self.old.strings (map (λ p. p.value.letters) strings.now)) }
+        ensures strings { OnOk result (self.new.strings ≡ stored_with self.old.most self.old.strings (map (λ p. p.value.letters) strings.now)) }
         ensures err { IfErr result (λ r. r ≡ OutOfMemory) }
     {
         // What a struct keeps is known once a field of it is looked at.
@@ -215,12 +215,12 @@ impl Pivots {
         Ok(())
     }
 
-    /// Puts a string that another list keeps too after the others, unless as many are kept as may be.
+    /// Puts a string that another list keeps too after the others, unless as many are stored as may be.
     fn share(&mut self, string: &Rc<Pauli>) -> Result<(), Refusal>
         requires same_length { length string.now.value.letters ≡ self.old.qubits }
         ensures qubits { self.new.qubits ≡ self.old.qubits }
         ensures most { self.new.most ≡ self.old.most }
-        ensures strings { OnOk result (self.new.strings ≡ kept_with self.old.most self.old.strings (string.now.value.letters ∷ [])) }
+        ensures strings { OnOk result (self.new.strings ≡ stored_with self.old.most self.old.strings (string.now.value.letters ∷ [])) }
         ensures err { IfErr result (λ r. r ≡ OutOfMemory) }
     {
         if self.strings.len() < self.most {
@@ -250,7 +250,7 @@ fn shared(alloc: Global, strings: &[Rc<Pauli>]) -> Result<Vec<Rc<Pauli>>, AllocE
     Ok(list)
 }
 
-/// How many strings of n letters are kept at most.
+/// How many strings of n letters are stored at most.
 fn most_strings(n: usize) -> usize
     ensures value { result ≡ most_of n }
 {

@@ -75,7 +75,7 @@ impl Propagation {
     ghost use Rattle.stab_frames.specs.Flips.{flipped};
 
     /// The identity on n qubits, which has flipped nothing, before the coin with this number of a
-    /// run with these flags.
+    /// run with this randomness.
     pub fn new(
         alloc: Global,
         n: usize,
@@ -305,7 +305,7 @@ impl Propagation {
         self.number += usize::from(free);
     }
 
-    /// Passes measurements of this many next coins of a run with these flags, each of which
+    /// Passes measurements of this many next coins of a run with this randomness, each of which
     /// makes a record that is not flipped.
     pub(crate) fn skip_still(&mut self, free: &[bool], count: usize) -> Result<(), AllocError>
         requires few { self.old.coin + count < 2 ^ 63 }

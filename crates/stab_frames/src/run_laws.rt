@@ -3,7 +3,7 @@
 ghost use Rattle.stab_frames.specs.RunLaws.{CoinsFlip, CheckpointsTakeFrames, FrontsFlip, FrontsGoOn, FrontsTakePaulis, PauliEditsFlip};
 
 /// After fronts that differ by a frame the same steps make the one run the other, flipped: its
-/// records, flags, detectors and observables.
+/// records, randomness, detectors and observables.
 pub fn fronts_flip()
     ensures law { FrontsFlip }
 {}
@@ -19,7 +19,7 @@ pub fn fronts_take_paulis()
     ensures law { FrontsTakePaulis }
 {}
 
-/// A copy of the state in one of two such runs is one of the other, conjugated by the frame there: the signs
+/// A checkpoint of one of two such runs is one of the other, conjugated by the frame there: the signs
 /// of its rows are flipped by the letters.
 pub fn checkpoints_take_frames()
     ensures law { CheckpointsTakeFrames }

@@ -47,9 +47,9 @@ pieces_more p bs n e h = subst (λ m. slice_split p bs ≡ take m bs ∷ slice_s
 pub pieces_last : (p : ℕ → Bool) (bs : List ℕ) (n : ℕ) → n ≡ position_or_len p bs → n ≡ length bs → slice_split p bs ≡ bs ∷ []
 pieces_last p bs n e h = slice_split_none p bs (λ k d lt. let near : k < position_or_len p bs = omega (arith, e, h, lt) in fails_before_first p bs k d near)
 
-some_kept : (w : List ℕ) (ws : List (List ℕ)) → 0 < length w → filter is_some_word (w ∷ ws) ≡ w ∷ filter is_some_word ws
-some_kept [] ws h = absurd (omega arith)
-some_kept (b ∷ bs) ws h = grind arith
+some_retained : (w : List ℕ) (ws : List (List ℕ)) → 0 < length w → filter is_some_word (w ∷ ws) ≡ w ∷ filter is_some_word ws
+some_retained [] ws h = absurd (omega arith)
+some_retained (b ∷ bs) ws h = grind arith
 
 position_solid : (x : ℕ) (xs : List ℕ) → is_spacing x ≡ false → 0 < position_or_len is_spacing (x ∷ xs)
 position_solid x xs e = let one = ap (λ b. if not b then 1 + position_or_len is_spacing xs else 0) e in omega (arith, one)
@@ -70,11 +70,11 @@ words_first bs x xs n b e h =
     let bound : n ≤ length bs = omega (arith, h, prefix_len-le-length (λ y. not (is_spacing y)) bs) in
     elim (le-cases n (length bs) bound) [
       | inl lt ↦ ap (filter is_some_word) (pieces_more is_spacing bs n h lt)
-          ∙ some_kept (take n bs) (slice_split is_spacing (drop (n + 1) bs)) (omega (arith, length-take n bs))
+          ∙ some_retained (take n bs) (slice_split is_spacing (drop (n + 1) bs)) (omega (arith, length-take n bs))
           ∙ ap (λ ws. take n bs ∷ ws) (sym (rest_spacing bs n h lt))
       | inr whole ↦ ap (filter is_some_word) (pieces_last is_spacing bs n h whole)
           ∙ ap (λ l. filter is_some_word (l ∷ [])) (sym (ap (λ m. take m bs) whole ∙ take_all (length bs) bs (omega arith)))
-          ∙ some_kept (take n bs) [] (omega (arith, length-take n bs))
+          ∙ some_retained (take n bs) [] (omega (arith, length-take n bs))
           ∙ ap (λ l. take n bs ∷ words l) (sym (drop_all n bs (omega arith)))
     ]
 

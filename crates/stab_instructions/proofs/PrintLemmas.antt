@@ -13,9 +13,9 @@ each_after-append s t (x ∷ xs) ys =
     ∙ sym (append_assoc s (t x ++ each_after s t xs) (each_after s t ys))
 
 -- what is before a position, the text there, and what follows
-pub each_after_place : {A : Type 0} (s : List ℕ) (t : A → List ℕ) (xs : List A) (i : ℕ) (x : A) → i < length xs → x ≡ get_or xs i x
+pub each_after_position : {A : Type 0} (s : List ℕ) (t : A → List ℕ) (xs : List A) (i : ℕ) (x : A) → i < length xs → x ≡ get_or xs i x
     → each_after s t (take i xs) ++ (s ++ (t x ++ each_after s t (drop (i + 1) xs))) ≡ each_after s t xs
-each_after_place s t xs i x h e =
+each_after_position s t xs i x h e =
     let next' : i + 1 ≡ suc i = omega arith in
     ap (λ n. each_after s t (take i xs) ++ (s ++ (t x ++ each_after s t (drop n xs)))) next'
     ∙ ap (λ y. each_after s t (take i xs) ++ (s ++ (t y ++ each_after s t (drop (suc i) xs)))) e

@@ -2,12 +2,12 @@ use crate::sequence::Sequence;
 use std::alloc::{AllocError, Global};
 use std::marker::Model;
 
-/// How many bytes are kept without memory of their own.
+/// How many bytes are stored without memory of their own.
 const SHORT: usize = 22;
 
 /// Coordinates, each as it was written.
 ///
-/// They are kept in one piece, with what was between them. Few take no memory.
+/// They are stored in one piece, with what was between them. Few take no memory.
 pub struct Coordinates {
     written: BracketText,
 }
@@ -49,7 +49,7 @@ impl BracketText {
     fn short(text: &[u8]) -> BracketText
         requires few { length text.now ≤ 22 }
         ensures value { bracket_bytes result ≡ text.now }
-        ensures kept { IsBracketText result }
+        ensures preserved { IsBracketText result }
     {
         let len = text.len();
         let mut bytes = [0; SHORT];
@@ -62,7 +62,7 @@ impl BracketText {
 
     /// The bytes.
     fn bytes(&self) -> &[u8]
-        requires kept { IsBracketText self.now }
+        requires preserved { IsBracketText self.now }
         ensures value { result.now ≡ bracket_bytes self.now }
     {
         match self {

@@ -4,10 +4,10 @@ use crate::range::Lookbacks;
 use std::alloc::{AllocError, Global};
 use std::marker::Model;
 
-/// How many bytes of coordinates are kept without memory of their own.
+/// How many bytes of coordinates are stored without memory of their own.
 pub const SHORT_COORDINATES: usize = 13;
 
-/// How many records are kept without memory of their own.
+/// How many records are stored without memory of their own.
 pub const FEW_RECORDS: usize = 2;
 
 /// The records of a detector, and the coordinates before them.
@@ -17,7 +17,7 @@ pub struct DetectorTargets {
     form: Form,
 }
 
-/// How they are kept.
+/// How they are stored.
 #[derive(Drop)]
 enum Form {
     /// As many of the bytes of the coordinates' text, and of the numbers k of `rec[-k]`, as are given, from the first on.
@@ -62,7 +62,7 @@ impl Form {
         requires each { All IsLookback found.now }
         ensures coordinates { form_coordinates result ≡ arguments_of written.now }
         ensures records { form_records result ≡ found.now }
-        ensures kept { IsForm result }
+        ensures preserved { IsForm result }
     {
         let mut text = [0; SHORT_COORDINATES];
         text[..written.len()].copy_from_slice(written);
@@ -79,6 +79,7 @@ impl Form {
 
 impl DetectorTargets {
     ghost use Rattle.std.specs.Prelude.{◌≡◌, ◌≤◌, length, All, IfOk};
+    ghost use Rattle.std.specs.Bool.{OnTrue};
     ghost use Rattle.stab_instructions.specs.Lookbacks.{IsLookback};
     ghost use Rattle.stab_instructions.specs.Words.{arguments_of};
 
@@ -130,6 +131,28 @@ impl DetectorTargets {
                 ..
             } => &records[..usize::from(*numbers)],
             Form::Long(located) => located.targets().as_slice(),
+        }
+    }
+
+    /// Whether the records are the same as those of another: most are, and most are in one form, so all that
+    /// there is room for are compared.
+    pub fn has_same_records(&self, other: &DetectorTargets) -> bool
+        ensures same { OnTrue result (self.now.1 ≡ other.now.1) }
+    {
+        match (&self.form, &other.form) {
+            (
+                Form::Short {
+                    numbers,
+                    records,
+                    ..
+                },
+                Form::Short {
+                    numbers: count,
+                    records: others,
+                    ..
+                },
+            ) => *numbers == *count && records == others,
+            _ => self.records() == other.records(),
         }
     }
 

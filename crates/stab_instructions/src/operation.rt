@@ -34,7 +34,7 @@ pub enum Kind {
     ShiftCoords(Coordinates),
 }
 
-// Long circuits are lists of instructions: what one does is kept without memory of its own if it is short.
+// Long circuits are lists of instructions: what one does is stored without memory of its own if it is short.
 const _: () = prove!(size_of::<Kind>() <= 56);
 
 // Written out, so that a proof sees the drop of a value as one call, and not one for each of its parts.

@@ -9,7 +9,7 @@ pub struct Sequence<T> {
     elements: Elements<T>,
 }
 
-/// How they are kept.
+/// How they are stored.
 #[derive(Drop)]
 enum Elements<T> {
     One([T; 1]),

@@ -9,31 +9,31 @@ use Rattle.stab_io.specs.declared.refusal.Refusal.TheVariants.{WriteFault}
 -- inputs
 
 pub gave_none : (i : InputView) → Gave i i []
-gave_none i = record { as_honest = λ h. h; kept = refl; moved = λ h. refl }
+gave_none i = record { as_honest = λ h. h; preserved = refl; moved = λ h. refl }
 
 pub gave_more : {a b c : InputView} (xs ys : List ℕ) → Gave a b xs → Gave b c ys → Gave a c (xs ++ ys)
 gave_more {a} {b} {c} xs ys p q = record {
   as_honest = λ h. q.as_honest (p.as_honest h);
-  kept = q.kept ∙ p.kept;
+  preserved = q.preserved ∙ p.preserved;
   moved = λ h. p.moved h ∙ ap (λ l. xs ++ l) (q.moved (p.as_honest h)) ∙ sym (append_assoc xs ys c.unread);
 }
 
 pub gave_and_failed : {a b c : InputView} (xs : List ℕ) → Gave a b xs → GaveAndFailed b c [] → GaveAndFailed a c xs
 gave_and_failed {a} {b} {c} xs p q = record {
   as_honest = λ h. q.as_honest (p.as_honest h);
-  failed = q.failed ∙ ap counted_up p.kept;
+  failed = q.failed ∙ ap counted_up p.preserved;
   moved = λ h. p.moved h ∙ ap (λ l. xs ++ l) (q.moved (p.as_honest h));
 }
 
 -- outputs
 
 pub took_none : (o : OutputView) → Took o o []
-took_none o = record { as_honest = λ h. h; kept = refl; no_flush = refl; moved = λ h. sym (append-nil o.written) }
+took_none o = record { as_honest = λ h. h; preserved = refl; no_flush = refl; moved = λ h. sym (append-nil o.written) }
 
 pub took_more : {a b c : OutputView} (xs ys : List ℕ) → Took a b xs → Took b c ys → Took a c (xs ++ ys)
 took_more {a} {b} {c} xs ys p q = record {
   as_honest = λ h. q.as_honest (p.as_honest h);
-  kept = q.kept ∙ p.kept;
+  preserved = q.preserved ∙ p.preserved;
   no_flush = q.no_flush ∙ p.no_flush;
   moved = λ h. q.moved (p.as_honest h) ∙ ap (λ l. l ++ ys) (p.moved h) ∙ append_assoc a.written xs ys;
 }
@@ -41,7 +41,7 @@ took_more {a} {b} {c} xs ys p q = record {
 pub took_and_failed : {a b c : OutputView} (xs ys : List ℕ) → Took a b xs → TookAndFailed b c ys → TookAndFailed a c (xs ++ ys)
 took_and_failed {a} {b} {c} xs ys p q = record {
   as_honest = λ h. q.as_honest (p.as_honest h);
-  failed = q.failed ∙ ap counted_up p.kept;
+  failed = q.failed ∙ ap counted_up p.preserved;
   no_flush = q.no_flush ∙ p.no_flush;
   moved = λ h.
       let m = q.moved (p.as_honest h) in (

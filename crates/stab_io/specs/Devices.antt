@@ -31,7 +31,7 @@ counted_up count = min (count + 1) greatest_count
 -- the input handed over these bytes, and did not fail
 pub record Gave (old new : InputView) (bytes : List ℕ) : Type 0 where
   pub as_honest : IsTrue old.honest → IsTrue new.honest
-  pub kept : new.failures ≡ old.failures
+  pub preserved : new.failures ≡ old.failures
   pub moved : IsTrue old.honest → old.unread ≡ bytes ++ new.unread
 
 -- the input handed over these bytes, and then failed once
@@ -56,7 +56,7 @@ Reads old new r buf = MatchResult r (λ n. (n ≤ length buf) × Gave old new (t
 -- the output took these bytes and no others, and was not flushed and did not fail
 pub record Took (old new : OutputView) (bytes : List ℕ) : Type 0 where
   pub as_honest : IsTrue old.honest → IsTrue new.honest
-  pub kept : new.failures ≡ old.failures
+  pub preserved : new.failures ≡ old.failures
   pub no_flush : new.flushes ≡ old.flushes
   pub moved : IsTrue old.honest → new.written ≡ old.written ++ bytes
 
@@ -85,7 +85,7 @@ Writes old new r bytes = MatchResult r (λ n. (n ≤ length bytes) × (0 < lengt
 -- the output was flushed, and keeps what was written
 pub record Flushed (old new : OutputView) : Type 0 where
   pub as_honest : IsTrue old.honest → IsTrue new.honest
-  pub kept : new.failures ≡ old.failures
+  pub preserved : new.failures ≡ old.failures
   pub flushed : new.flushes ≡ counted_up old.flushes
   pub stayed : IsTrue old.honest → new.written ≡ old.written
 

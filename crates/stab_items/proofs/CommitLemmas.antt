@@ -96,7 +96,7 @@ new_shallow edit bs (repeat n tag body) xs ys e h k =
     new_depth n tag (edited_in edit bs xs) ys (subst IsShallowItem (rebuilt_block edit bs (repeat n tag body) n tag xs e) h) k
 
 -- blocks are nested at most 15 deep in what comes back into the block
-pub kept_shallow : (r : Result (Option OneItem) Edit) (edit : Edit) (bs : List ℕ) (x : OneItem) (xs ys : List OneItem) → x ≡ with_body xs x
+pub preserved_shallow : (r : Result (Option OneItem) Edit) (edit : Edit) (bs : List ℕ) (x : OneItem) (xs ys : List OneItem) → x ≡ with_body xs x
     → IsShallowItem (edited_inside (edited_in edit bs) (Some x)) → OnOk r (edited_in edit bs xs ≡ Ok ys) → OnErr r (ys ≡ xs) → depth (listed xs) ≤ 15 → depth (listed ys) ≤ 15
-kept_shallow (Ok u) edit bs x xs ys e h ok err old = new_shallow edit bs x xs ys e h ok
-kept_shallow (Err c) edit bs x xs ys e h ok err old = omega (arith, ap (λ l. depth (listed l)) err, old)
+preserved_shallow (Ok u) edit bs x xs ys e h ok err old = new_shallow edit bs x xs ys e h ok
+preserved_shallow (Err c) edit bs x xs ys e h ok err old = omega (arith, ap (λ l. depth (listed l)) err, old)

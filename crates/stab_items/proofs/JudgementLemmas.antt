@@ -1,4 +1,4 @@
--- What an edit comes to, by kept summaries.
+-- What an edit comes to, by stored summaries.
 use Rattle.stab_items.proofs.Names.{◌≡◌, ◌≤◌, ◌<◌, refl, ap, sym, ◌∙◌, subst, ℕ, ◌+◌, ◌*◌, suc, zero, min, List, [], ◌∷◌, ◌++◌, length, take, drop, arith, Option, Some, None, Result, Ok, Err, IfOk, length-append, slice_get, Refusal, Summary, Judgement, Edit, OneItem, operation, repeat, listed, Step, unroll, rounds, rebuilt, edited_inside, edit_path, edited_in, inner, steps_in, summary_of, followed_by, repeated, window, IsSummary, Splice, splice_block, splice_of, spliced, IsWithin, summed, judgement_of, block_refusal, BeginsWith, steps_within, PutsGood, IsGoodList, IsCount, IsTag}
 use Rattle.stab_items.proofs.ItemLemmas.{listed-append}
 use Rattle.stab_items.proofs.SummaryLemmas.{summary-join, block_summary}

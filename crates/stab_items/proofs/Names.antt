@@ -35,7 +35,7 @@ pub use Rattle.stab_items.specs.Prints.{PrintedLine, printed_lines, line_text, t
 pub use Rattle.stab_items.specs.Steps.{steps_of, past, named_qubits, named_observables, Step, one, two, collapse, detector, observable, measured, measured_product, controlled_step, rounds, unroll, HasDistinctQubits, detector_in, detector_of, makes, records_of, is_detector, detectors_of, lookbacks, looks_too_far, target_qubits, factor_qubits, product_qubits, controlled_qubits, past_named, qubits_of, observables_of, is_inverted, LooksWithin, most_steps, check_within}
 unfoldable pub use Rattle.stab_items.specs.Steps.{check_of}
 pub use Rattle.stab_items.specs.declared.summary.Summary.{Summary}
-pub use Rattle.stab_items.specs.inner.Kept.{shown, IsKept}
+pub use Rattle.stab_items.specs.inner.StoredSummaries.{shown, IsStored}
 pub use Rattle.stab_items.specs.inner.Margins.{margin_depth}
 pub use Rattle.stab_items.specs.inner.Summaries.{greatest, window, looks_back, furthest, steps_summary, kind_summary_of, summary_of, followed_by, repeated, judged, IsSummary, IsSumOf}
 pub use Rattle.stab_gates.specs.Letters.{◌⊕◌}

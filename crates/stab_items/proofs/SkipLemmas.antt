@@ -26,8 +26,8 @@ exact_times (suc k) n left rest e h =
 
 jumps : (c k steps count rest : ℕ) (ss others : List Step) → k ≤ c → steps ≡ min (length ss) 1048577 → count ≡ k * steps + rest → count ≤ 1048576
     → drop count (rounds c ss ++ others) ≡ drop rest (rounds (c - k) ss ++ others)
-jumps c k steps count rest ss others h kept e few =
-    let cut : count ≡ k * min (length ss) 1048577 + rest = e ∙ ap (λ x. k * x + rest) kept in
+jumps c k steps count rest ss others h stored e few =
+    let cut : count ≡ k * min (length ss) 1048577 + rest = e ∙ ap (λ x. k * x + rest) stored in
     let at : count ≡ length (rounds k ss) + rest = cut ∙ ap (λ n. n + rest) (exact_times k (length ss) count rest cut few ∙ sym (length-rounds k ss)) in
     ap (λ l. drop count (l ++ others)) (rounds_cut c k ss h)
     ∙ ap (drop count) (append_assoc (rounds k ss) (rounds (c - k) ss) others)
@@ -50,18 +50,18 @@ passes_steps w steps n count no_kind len enough =
 -- into a block
 pub jumps_in : (a c : Walk) (rs k steps count rest : ℕ) (body : Items) → a.kind ≡ None → SameKind a c → k ≤ rs → steps ≡ min (length (unroll body)) 1048577 → count ≡ k * steps + rest → count ≤ 1048576 → k < rs
     → ahead c ≡ (unroll body ++ rounds (rs - k - 1) (unroll body)) ++ ahead a → drop rest (walk_left c) ≡ drop count (rounds rs (unroll body) ++ ahead a)
-jumps_in a c rs k steps count rest body no_kind s h kept cut few some left =
+jumps_in a c rs k steps count rest body no_kind s h stored cut few some left =
     let pos : 0 < rs - k = omega arith in
     ap (drop rest) (no_kind_left c (same_no_kind a c s no_kind) ∙ left ∙ ap (λ l. l ++ ahead a) (sym (more_rounds (rs - k) (unroll body) pos)))
-    ∙ sym (jumps rs k steps count rest (unroll body) (ahead a) h kept cut few)
+    ∙ sym (jumps rs k steps count rest (unroll body) (ahead a) h stored cut few)
 
 -- past a block
 pub jumps_past : (a : Walk) (rs k steps count rest : ℕ) (body : Items) → a.kind ≡ None → k ≤ rs → steps ≡ min (length (unroll body)) 1048577 → count ≡ k * steps + rest → count ≤ 1048576 → rs ≤ k
     → drop rest (walk_left a) ≡ drop count (rounds rs (unroll body) ++ ahead a)
-jumps_past a rs k steps count rest body no_kind h kept cut few all =
+jumps_past a rs k steps count rest body no_kind h stored cut few all =
     let none : rs - k ≡ 0 = omega arith in
     ap (drop rest) (no_kind_left a no_kind ∙ ap (λ n. rounds n (unroll body) ++ ahead a) (sym none))
-    ∙ sym (jumps rs k steps count rest (unroll body) (ahead a) h kept cut few)
+    ∙ sym (jumps rs k steps count rest (unroll body) (ahead a) h stored cut few)
 
 -- all steps were left out that there are
 pub skipped_all : (begun left now : List Step) (count n : ℕ) → drop n left ≡ drop count begun → left ≡ [] → now ≡ [] → now ≡ drop count begun

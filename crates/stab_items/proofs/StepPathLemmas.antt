@@ -97,9 +97,9 @@ times_exact (suc n) l some few =
     let same : min l 1048577 ≡ l = grind (arith, few) in
     ap (λ m. suc n * m) same
 
-pub block_steps : (x : OneItem) (n kept : ℕ) (tag : List ℕ) (body : Items) → x ≡ repeat n tag body → kept ≡ min (length (unroll body)) 1048577 → 0 < n → length (unroll (before x done)) ≤ 1048576
-    → n * kept ≡ length (unroll (before x done))
-block_steps x n kept tag body is small some few =
+pub block_steps : (x : OneItem) (n stored : ℕ) (tag : List ℕ) (body : Items) → x ≡ repeat n tag body → stored ≡ min (length (unroll body)) 1048577 → 0 < n → length (unroll (before x done)) ≤ 1048576
+    → n * stored ≡ length (unroll (before x done))
+block_steps x n stored tag body is small some few =
     let all : length (unroll (before x done)) ≡ n * length (unroll body) =
     ap (λ y. length (unroll (before y done))) is ∙ ap length (append-nil (rounds n (unroll body))) ∙ length-rounds n (unroll body) in
     ap (λ m. n * m) small ∙ times_exact n (length (unroll body)) some (omega (arith, few, all)) ∙ sym all
@@ -112,14 +112,14 @@ pub within_item : (xs : List OneItem) (p w : ℕ) (x : OneItem) → p < length x
 within_item xs p w x h e k = omega (arith, k, steps_at xs p x h e)
 
 -- the round of a block that a step is in, and how many steps of that round come before it
-pub record InRound (n kept l w : ℕ) : Type 0 where
-  pub some : 0 < kept
-  pub exact : kept ≡ l
+pub record InRound (n stored l w : ℕ) : Type 0 where
+  pub some : 0 < stored
+  pub exact : stored ≡ l
   pub below : w < n * l
   pub few : l ≤ 1048576
-  pub round : w / kept < n
-  pub at : w ≡ w / kept * l + w % kept
-  pub short : w % kept < l
+  pub round : w / stored < n
+  pub at : w ≡ w / stored * l + w % stored
+  pub short : w % stored < l
 
 some_steps : (n l w : ℕ) → w < n * l → 0 < l
 some_steps n zero w h = let none : n * 0 ≡ 0 = omega arith in absurd (omega (arith, h, none))
@@ -132,25 +132,25 @@ few_times (suc n) l w h k = grind (arith, k)
 in_round : (n l w : ℕ) → w < n * l → n * l ≤ 1048576 → InRound n l l w
 in_round n l w h k =
     let some = some_steps n l w h in
-    let turned : w / l * l ≡ l * (w / l) = omega arith in record {
+    let swapped : w / l * l ≡ l * (w / l) = omega arith in record {
       some = some;
       exact = refl;
       below = h;
       few = few_times n l w h k;
       round = (div-lt_iff_lt-mul {k = l} {x = w} {y = n} some).1 h;
-      at = sym (div-add-mod w l) ∙ ap (λ m. m + w % l) (sym turned);
+      at = sym (div-add-mod w l) ∙ ap (λ m. m + w % l) (sym swapped);
       short = mod-lt w some;
     }
 
-pub round_of : (x : OneItem) (n kept w : ℕ) (tag : List ℕ) (body : Items) → x ≡ repeat n tag body → kept ≡ min (length (unroll body)) 1048577 → w < length (unroll (before x done)) → length (unroll (before x done)) ≤ 1048576
-    → InRound n kept (length (unroll body)) w
-round_of x n kept w tag body is small h few =
+pub round_of : (x : OneItem) (n stored w : ℕ) (tag : List ℕ) (body : Items) → x ≡ repeat n tag body → stored ≡ min (length (unroll body)) 1048577 → w < length (unroll (before x done)) → length (unroll (before x done)) ≤ 1048576
+    → InRound n stored (length (unroll body)) w
+round_of x n stored w tag body is small h few =
     let l = length (unroll body) in
     let all : length (unroll (before x done)) ≡ n * l =
     ap (λ y. length (unroll (before y done))) is ∙ ap length (append-nil (rounds n (unroll body))) ∙ length-rounds n (unroll body) in
     let within' : w < n * l = omega (arith, h, all) in
     let few' : n * l ≤ 1048576 = omega (arith, few, all) in
-    let exact : kept ≡ l = small ∙ min_same l (few_times n l w within' few') in
+    let exact : stored ≡ l = small ∙ min_same l (few_times n l w within' few') in
     subst (λ m. InRound n m l w) (sym exact) (in_round n l w within' few')
   where
     min_same : (l : ℕ) → l ≤ 1048576 → min l 1048577 ≡ l
@@ -192,13 +192,10 @@ pub record Reached (all : List Path) (bs : List ℕ) (xs : List OneItem) (p w : 
   pub same : all ≡ map (around bs) (drop w (paths_from p (listed (drop p xs)))) ++ others
 
 -- the outermost list
-pub reached_first : (xs ys : List OneItem) (step p w : ℕ) → ys ≡ xs → drop w (paths_from p (listed (drop p ys))) ≡ drop step (paths_of (listed ys)) → Reached (drop step (paths_of (listed xs))) [] ys p w
-reached_first xs ys step p w same found =
-    let left = drop w (paths_from p (listed (drop p ys))) in
-    record {
-      others = [];
-      same = ap (λ l. drop step (paths_of (listed l))) (sym same) ∙ sym found ∙ sym (around_none left) ∙ sym (append-nil (map (around []) left));
-    }
+pub reached_first : (xs : List OneItem) (p w : ℕ) → Reached (drop w (paths_from p (listed (drop p xs)))) [] xs p w
+reached_first xs p w =
+    let left = drop w (paths_from p (listed (drop p xs))) in
+    record { others = []; same = sym (around_none left) ∙ sym (append-nil (map (around []) left)) }
 
 -- into the round of a block
 into_round : (n k r : ℕ) (ps others : List Path) → k < n → r ≤ length ps → drop (k * length ps + r) (path_rounds n ps ++ others) ≡ drop r ps ++ (path_rounds (n - k - 1) ps ++ others)

@@ -51,9 +51,9 @@ left_from_place xs place rest step e =
     ∙ ap (λ l. item_steps_left (listed l) step) (take-append-drop place xs)
 
 -- in a block
-pub left_block : (xs ys : List OneItem) (p w n kept : ℕ) (tag : List ℕ) (x : OneItem) → p < length xs → x ≡ get_or xs p x → x ≡ repeat n tag (listed ys) → InRound n kept (length (unroll (listed ys))) w
-    → item_steps_left (listed ys) (w % kept) ≡ item_steps_left (listed (drop p xs)) w
-left_block xs ys p w n kept tag x h e is round =
+pub left_block : (xs ys : List OneItem) (p w n stored : ℕ) (tag : List ℕ) (x : OneItem) → p < length xs → x ≡ get_or xs p x → x ≡ repeat n tag (listed ys) → InRound n stored (length (unroll (listed ys))) w
+    → item_steps_left (listed ys) (w % stored) ≡ item_steps_left (listed (drop p xs)) w
+left_block xs ys p w n stored tag x h e is round =
     let l = length (unroll (listed ys)) in
     let rest = listed (drop (p + 1) xs) in
     sym (ap (λ m. item_steps_left m w) (items_from xs p x h e)

@@ -172,7 +172,7 @@ renewed_at ss k place len first s new ys own were h e at before following is ite
     let front = take cut.first xs ++ cut.put in
     let back = drop cut.following xs in
     let end = first + s.items in
-    let kept = length ys - (len - end) in
+    let preserved = length ys - (len - end) in
     let some = items_in (take k ss) in
     let left : take cut.first xs ++ (cut.put ++ back) ≡ ys = cc in
     let whole : ys ≡ front ++ back = sym left ∙ sym (append_assoc (take cut.first xs) cut.put back) in
@@ -182,13 +182,13 @@ renewed_at ss k place len first s new ys own were h e at before following is ite
     let long : length ys ≡ length front + (length xs - cut.following) = ap length whole ∙ length-append front back ∙ ap (λ n. length front + n) (length-drop cut.following xs) in
     let joined : length front ≡ cut.first + length cut.put = length-append (take cut.first xs) cut.put ∙ ap (λ n. n + length cut.put) short in
     let past : cut.following ≤ end = omega (arith, were.one, following) in
-    let cut_at : kept ≡ length front + (end - cut.following) = omega (arith, long, were.long, fits, past) in
+    let cut_at : preserved ≡ length front + (end - cut.following) = omega (arith, long, were.long, fits, past) in
     let further : cut.following + (end - cut.following) ≡ end = omega (arith, past) in
-    let rest : drop kept ys ≡ drop end xs =
-    ap (drop kept) whole ∙ ap (λ n. drop n (front ++ back)) cut_at ∙ drop-append-add front back (end - cut.following) ∙ drop-drop (end - cut.following) cut.following xs ∙ ap (λ n. drop n xs) further in
+    let rest : drop preserved ys ≡ drop end xs =
+    ap (drop preserved) whole ∙ ap (λ n. drop n (front ++ back)) cut_at ∙ drop-append-add front back (end - cut.following) ∙ drop-drop (end - cut.following) cut.following xs ∙ ap (λ n. drop n xs) further in
     let same = same_before ss place len some ys were (omega (arith, before, at)) in
-    let enough : some + new.items ≡ kept =
-    omega (arith, items, ap length is, length-drop first (take kept ys), length-take kept ys, cut_at, joined, long, were.first, before, at, were.within.end, past, fits) in
+    let enough : some + new.items ≡ preserved =
+    omega (arith, items, ap length is, length-drop first (take preserved ys), length-take preserved ys, cut_at, joined, long, were.first, before, at, were.within.end, past, fits) in
     let mine : own ≡ take new.items (drop some ys) = is ∙ (λ i. drop (at i) (take (sym enough i) ys)) ∙ drop-take some new.items ys in
     let step : items_in (take (k + 1) ss) ≡ items_in (take (suc k) ss) = ap (λ n. items_in (take n ss)) one in
     renewed ss k new xs ys were.are h same (omega (arith, enough, length-drop some ys, cut_at, long, past, fits)) (subst (λ l. IsSumOf (listed l) new.summary) mine sum)

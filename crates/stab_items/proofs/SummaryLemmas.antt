@@ -168,7 +168,7 @@ operation_summary o =
     ap (λ l. steps_summary l (max (past (named_qubits o.kind)) 0) (max (past (named_observables o.kind)) 0) 0) (append-nil (steps_of o.kind))
     ∙ same_summary _ _ _ _ _ _ _ _ _ _ _ _ _ _ refl refl refl refl (omega arith) (omega arith) refl
 
--- so an instruction and its numbers are kept together
+-- so an instruction and its numbers are stored together
 pub operation_sum : (o : Operation) (s : Summary) → s ≡ kind_summary_of o.kind → IsSummary s → IsGoodLine (line.Operation o) → IsSumOf (next o done) s
 operation_sum o s e small good = record { value = e ∙ sym (operation_summary o); small = small; good = (good, tt) }
 
@@ -194,10 +194,10 @@ block_summary count tag xs h =
     (omega arith)
     (omega arith)
 
--- a block of which the summary of one round is kept
-pub kept_summary : (x : OneItem) (n count : ℕ) (tag : List ℕ) (body : Items) (held kept all : Summary) → all ≡ repeated n held → 0 < n → n ≡ count → held ≡ kept → kept ≡ summary_of body
+-- a block of which the summary of one round is stored
+pub stored_summary : (x : OneItem) (n count : ℕ) (tag : List ℕ) (body : Items) (held stored all : Summary) → all ≡ repeated n held → 0 < n → n ≡ count → held ≡ stored → stored ≡ summary_of body
     → repeat count tag body ≡ x → all ≡ summary_of (before x done)
-kept_summary x n count tag body held kept all e h m k r is =
+stored_summary x n count tag body held stored all e h m k r is =
     e
     ∙ ap (repeated n) (k ∙ r)
     ∙ sym (block_summary n tag body h)

@@ -1,6 +1,6 @@
 pub mod StoredItems
 pub mod Summaries
-pub mod Kept
+pub mod StoredSummaries
 pub mod ItemSizes
 pub mod Parts
 pub mod Blocks

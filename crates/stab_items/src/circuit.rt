@@ -6,18 +6,18 @@ mod splits;
 mod step_items;
 pub(crate) mod stretches;
 
-use crate::item::{Item, items_summary};
+use crate::item::Item;
 use crate::summary::{STEPS_CAP, Summary};
 pub use repeats::Repeat;
 use stab_io::{Fault, Refusal};
 use std::alloc::Global;
 use std::marker::Model;
-pub use step_items::StepItem;
-use stretches::{Stretch, stretches_of};
+pub use step_items::{StepItem, StepItems};
+use stretches::{Stretch, stretches_of, whole_summary};
 
 /// A list of items. Contracts see them one by one.
 ///
-/// What is known of them all is kept, so that no call walks over them for it.
+/// What is known of them all is stored, so that no call walks over them for it.
 pub struct Circuit {
     items: Vec<Item>,
     /// The summaries of parts of the items, by which a step is found and an edit is judged.
@@ -82,14 +82,14 @@ impl Circuit {
         ensures value { IfOk result (λ c. c ≡ items.items) }
         ensures refused { Refuses result (check_of (listed items.items)) }
     {
-        let total = items_summary(items.as_slice());
+        let stretches = stretches_of(alloc, items.as_slice());
+        let total = whole_summary(&stretches, items.as_slice());
         if let Some(refusal) = total.refusal() {
             return Err(Fault::whole(refusal));
         }
-        let stretches = stretches_of(alloc, items.as_slice())?;
         Ok(Circuit {
             items,
-            stretches,
+            stretches: stretches?,
             total,
         })
     }

@@ -42,8 +42,19 @@ fn copied_head(alloc: Global, head: &Head) -> Result<Head, AllocError>
     Ok(Head {
         count: head.count,
         tag,
-        kept: head.kept,
+        stored: head.stored,
     })
+}
+
+/// A copy of an item of a long list: of an instruction, as most are, without a call.
+#[inline]
+fn listed_copy(alloc: Global, item: &Item) -> Result<Item, AllocError>
+    ensures ok { IfOk result (λ i. i ≡ item.now) }
+{
+    match &item.node {
+        Node::Instruction(instruction) => Ok(Item::shared(instruction.clone()?)),
+        Node::Tick | Node::Block(_) => copied_item(alloc, item),
+    }
 }
 
 /// Puts copies of some items after all of them.
@@ -58,7 +69,7 @@ pub fn push_copies(
     ensures ok { OnOk result (items.new.items ≡ items.old.items ++ drop first (take following items.old.items)) }
 {
     for place in first..following {
-        let copy = copied_item(alloc, &items[place])?;
+        let copy = listed_copy(alloc, &items[place])?;
         items.push(copy)?;
     }
     Ok(())

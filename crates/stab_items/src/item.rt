@@ -40,7 +40,7 @@ pub(crate) struct Head {
     pub(crate) count: Count,
     pub(crate) tag: Sequence<u8>,
     /// The summary of one round.
-    pub(crate) kept: Summary,
+    pub(crate) stored: Summary,
 }
 
 // Written out, so that a proof sees the drop of a value as one call, and not one for each of its parts.
@@ -49,7 +49,7 @@ impl Drop for Head {
         let Head {
             count: _,
             tag: _,
-            kept: _,
+            stored: _,
         } = self;
     }
 }
@@ -65,11 +65,11 @@ impl Model for Item {
 
     ghost coded = { item_code };
 
-    ghost use Rattle.stab_items.specs.inner.Kept.{shown, IsKept};
+    ghost use Rattle.stab_items.specs.inner.StoredSummaries.{shown, IsStored};
 
     ghost view = { λ i. shown i.node };
 
-    ghost invariant = { λ i. IsKept i.node };
+    ghost invariant = { λ i. IsStored i.node };
 
     ghost size = { depth_of };
 
@@ -92,7 +92,7 @@ pub enum Part<'a> {
         count: Count,
         tag: &'a [u8],
         /// The summary of one round.
-        kept: Summary,
+        stored: Summary,
         body: &'a [Item],
     },
 }
@@ -141,14 +141,14 @@ impl Item {
         count: Count,
         tag: Sequence<u8>,
         body: Vec<Item>,
-        kept: Summary,
+        stored: Summary,
     ) -> Result<Item, AllocError>
         requires tag { IsTag tag }
         requires shallow { depth (listed body.items) ≤ 15 }
-        requires sum { IsSumOf (listed body.items) kept }
+        requires sum { IsSumOf (listed body.items) stored }
         ensures ok { IfOk result (λ i. i ≡ repeated count tag (listed body.items)) }
     {
-        let head = Head { count, tag, kept };
+        let head = Head { count, tag, stored };
         let block = Box::new(alloc, Block { head, body })?;
         Ok(Item {
             node: Node::Block(block),
@@ -158,7 +158,7 @@ impl Item {
     /// What the item is.
     pub fn part(&self) -> Part<'_>
         ensures value { self.now ≡ part_of result }
-        ensures kept { IsPart result }
+        ensures stored { IsPart result }
     {
         match &self.node {
             Node::Tick => Part::Tick,
@@ -169,7 +169,7 @@ impl Item {
             Node::Block(block) => Part::Block {
                 count: block.head.count,
                 tag: block.head.tag.as_slice(),
-                kept: block.head.kept,
+                stored: block.head.stored,
                 body: block.body.as_slice(),
             },
         }
@@ -211,7 +211,7 @@ impl Item {
             Node::Tick | Node::Instruction(_) => None,
             Node::Block(block) => {
                 let empty = Vec::new(*block.body.allocator());
-                block.head.kept = Summary::NONE;
+                block.head.stored = Summary::NONE;
                 Some(mem::replace(&mut block.body, empty))
             }
         }
@@ -226,7 +226,7 @@ impl Item {
         match &mut self.node {
             Node::Tick | Node::Instruction(_) => {}
             Node::Block(block) => {
-                block.head.kept = items_summary(items.as_slice());
+                block.head.stored = items_summary(items.as_slice());
                 block.body = items;
             }
         }
@@ -243,7 +243,7 @@ impl Item {
         match &self.node {
             Node::Tick => Summary::NONE,
             Node::Instruction(instruction) => instruction.summary(),
-            Node::Block(block) => block.head.kept.repeated(block.head.count.number()),
+            Node::Block(block) => block.head.stored.repeated(block.head.count.number()),
         }
     }
 }

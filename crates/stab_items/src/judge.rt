@@ -99,7 +99,7 @@ fn judge_at(len: usize, edit: &Edit) -> Result<Judgement, Refusal>
     }
 }
 
-/// What an edit in nested blocks comes to in the outermost list, by the summaries that are kept
+/// What an edit in nested blocks comes to in the outermost list, by the summaries that are stored
 /// along the way.
 #[cycle(judging)]
 fn judge(items: &[Item], blocks: &[usize], edit: &Edit) -> Result<Judgement, Refusal>

@@ -6,7 +6,7 @@
 //!
 //! - `instruction`: instructions, which keep their numbers.
 //! - `item`: instructions and blocks, which keep the numbers of one round.
-//! - `summary`: the numbers that are kept.
+//! - `summary`: the numbers that are stored.
 //! - `copy`: copies of items.
 //! - `print`: the one text of items.
 //! - `step`, `instruction_steps`, `steps`: the steps of an instruction, one at a time and together.
@@ -55,7 +55,7 @@ mod summary;
 mod walk;
 mod window;
 
-pub use circuit::{Circuit, Repeat, StepItem};
+pub use circuit::{Circuit, Repeat, StepItem, StepItems};
 pub use copy::{copied_item, push_copies};
 pub use cursor::Cursor;
 pub use detectors::Detectors;

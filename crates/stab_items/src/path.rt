@@ -22,15 +22,15 @@ impl Model for Path {
 
     ghost Value = { PathValue };
 
-    ghost use Rattle.stab_items.specs.inner.Places.{path_of, kept_path, kept_path_of, IsPaddedPath};
+    ghost use Rattle.stab_items.specs.inner.Places.{path_of, stored_path, stored_path_of, IsPaddedPath};
 
     ghost view = { path_of };
 
     ghost invariant = { IsPaddedPath };
 
-    ghost inverse = { kept_path };
+    ghost inverse = { stored_path };
 
-    ghost inverse_ok = { kept_path_of };
+    ghost inverse_ok = { stored_path_of };
 }
 
 impl Path {

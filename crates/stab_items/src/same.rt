@@ -10,7 +10,7 @@ use crate::instruction_steps::step_count;
 use crate::item::{Item, Part};
 use stab_gates::Gate;
 use stab_instructions::{
-    Axis, ControlledPair, Kind, MeasureTarget, Measurement, Pair, Product, Qubit,
+    Axis, ControlledPair, DetectorTargets, Kind, MeasureTarget, Measurement, Pair, Product, Qubit,
 };
 
 /// Whether an instruction is this gate on these qubits.
@@ -105,12 +105,12 @@ fn measures_products(products: &[Product], kind: &Kind) -> bool
     }
 }
 
-/// Whether an instruction is the detector of these numbers k of `rec[-k]`.
-fn is_detector(lookbacks: &[u32], kind: &Kind) -> bool
-    ensures same { OnTrue result (detector lookbacks.now ∷ [] ≡ steps_of kind.now) }
+/// Whether an instruction is the detector of the same numbers k of `rec[-k]`.
+fn is_detector(targets: &DetectorTargets, kind: &Kind) -> bool
+    ensures same { OnTrue result (detector targets.now.1 ∷ [] ≡ steps_of kind.now) }
 {
     match kind {
-        Kind::Detector(located) => lookbacks == located.records(),
+        Kind::Detector(others) => targets.has_same_records(others),
         _ => false,
     }
 }
@@ -153,7 +153,7 @@ pub(crate) fn same_steps(kind: &Kind, other: &Kind) -> bool
         }
         Kind::Reset(axis, qubits) => is_reset(*axis, qubits.as_slice(), other),
         Kind::MeasureProducts(products) => measures_products(products.as_slice(), other),
-        Kind::Detector(located) => is_detector(located.records(), other),
+        Kind::Detector(targets) => is_detector(targets, other),
         Kind::ObservableInclude(observable, records) => {
             is_observable(observable.number(), records.as_slice(), other)
         }

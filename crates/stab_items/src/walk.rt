@@ -38,7 +38,7 @@ pub struct Walk<'a> {
     // The instruction that is under way, and how many of its steps were given.
     kind: Option<&'a Kind>,
     within: usize,
-    // The innermost block. It isn't kept with those around it, so that the common step leaves these alone.
+    // The innermost block. It isn't stored with those around it, so that the common step leaves these alone.
     top: Level<'a>,
     // The outermost list first.
     around: Vec<Level<'a>>,
@@ -199,12 +199,12 @@ impl<'a> Walk<'a> {
             }
             Part::Block {
                 count,
-                kept,
+                stored,
                 body,
                 ..
             } => {
                 // A block without steps is passed whole, however many its rounds.
-                if kept.steps > 0 {
+                if stored.steps > 0 {
                     self.enter(body, count.number() - 1);
                 }
             }

@@ -1,6 +1,7 @@
--- Limits: how many shots a command takes at most, and how many a seed has.
+-- Limits: how many shots a command takes at most, how many a seed has, and the greatest stride.
 -- Source: this project's own.
 use Rattle.std.specs.Prelude.{ℕ}
+use Rattle.stab_circuit.specs.Limits.{most_stride}
 
 -- the greatest number of shots
 abbrev pub most_shots : ℕ
@@ -18,3 +19,7 @@ shots_of_seed = 18446744073709551616
 pub record ShotRange : Type 0 where
   pub first : ℕ
   pub number : ℕ
+
+-- the greatest stride that a job has: that of a session
+abbrev pub stride_at_most : ℕ
+stride_at_most = most_stride

@@ -33,7 +33,7 @@ module _ (first mask : ℕ) (change : Bool → Signed → Signed) (old : Rows) w
   -- one row further
   module _ (now : Rows) (rest k : ℕ) (walked : IsWalked first mask rest change old now) (lk : k < 64) (one : chooses rest k ≡ true) (within : first + k < length old.rows)
       (new : Rows) (made : new ≡ with_row now (first + k) (change true (row_at now (first + k)))) (next : ℕ) (gone : chooses next k ≡ false)
-      (kept : (j : ℕ) → j ≢ k → j < 64 → chooses next j ≡ chooses rest j) where
+      (preserved : (j : ℕ) → j ≢ k → j < 64 → chooses next j ≡ chooses rest j) where
     other : (a : ℕ) → a ≢ first + k → row_at new a ≡ row_at now a
     other a distinct = ap (λ (r : Rows). row_at r a) made ∙ get_or-set_other now.rows (first + k) a (change true (row_at now (first + k))) (identity now.qubits) distinct
 
@@ -47,7 +47,7 @@ module _ (first mask : ℕ) (change : Bool → Signed → Signed) (old : Rows) w
     among-next j lj chosen = by_position (cases_order j k)
       where
         distinct : j ≢ k → chooses mask j ≡ true
-        distinct ne = walked.among j lj (sym (kept j ne lj) ∙ chosen)
+        distinct ne = walked.among j lj (sym (preserved j ne lj) ∙ chosen)
 
         by_position : (j ≡ k) ⊎ ((j < k) ⊎ (k < j)) → chooses mask j ≡ true
         by_position (inl e) = ap (chooses mask) e ∙ walked.among k lk one
@@ -58,7 +58,7 @@ module _ (first mask : ℕ) (change : Bool → Signed → Signed) (old : Rows) w
     done-next j lj none = by_position (cases_order j k)
       where
         distinct : j ≢ k → row_at new (first + j) ≡ change (chooses mask j) (row_at old (first + j))
-        distinct ne = other (first + j) (omega arith) ∙ walked.done j lj (sym (kept j ne lj) ∙ none)
+        distinct ne = other (first + j) (omega arith) ∙ walked.done j lj (sym (preserved j ne lj) ∙ none)
 
         by_position : (j ≡ k) ⊎ ((j < k) ⊎ (k < j)) → row_at new (first + j) ≡ change (chooses mask j) (row_at old (first + j))
         by_position (inl e) = subst (λ i. row_at new (first + i) ≡ change (chooses mask i) (row_at old (first + i))) (sym e) here
@@ -69,7 +69,7 @@ module _ (first mask : ℕ) (change : Bool → Signed → Signed) (old : Rows) w
     left-next j lj chosen = by_position (cases_order j k)
       where
         distinct : j ≢ k → row_at new (first + j) ≡ row_at old (first + j)
-        distinct ne = other (first + j) (omega arith) ∙ walked.left j lj (sym (kept j ne lj) ∙ chosen)
+        distinct ne = other (first + j) (omega arith) ∙ walked.left j lj (sym (preserved j ne lj) ∙ chosen)
 
         by_position : (j ≡ k) ⊎ ((j < k) ⊎ (k < j)) → row_at new (first + j) ≡ row_at old (first + j)
         by_position (inl e) = clash (chooses next k) (ap (chooses next) (sym e) ∙ chosen) gone

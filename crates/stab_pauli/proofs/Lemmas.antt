@@ -7,7 +7,7 @@ pub use Rattle.stab_pauli.proofs.MaskLemmas.{following-first, following-others, 
 pub use Rattle.stab_pauli.proofs.NextLetterLemmas.{no_bit, next_bit-found, blank_word, letter_found, next_inside, blank_inside}
 pub use Rattle.stab_pauli.proofs.OnesLemmas.{words_odd-fold, word_odd-all, word_ones-all, words_odd-xor}
 pub use Rattle.stab_pauli.proofs.PackedLemmas.{order_phase-step, meet_phase-step, power_step}
-pub use Rattle.stab_pauli.proofs.PackingLemmas.{sparse-cut, sparse-few, sparse-following, blocks-next, sparse-kept, sparse-blank, blank_block}
+pub use Rattle.stab_pauli.proofs.PackingLemmas.{sparse-cut, sparse-few, sparse-following, blocks-next, sparse-stored, sparse-blank, blank_block}
 pub use Rattle.stab_pauli.proofs.PaddedLemmas.{view_of, lies_of, is_of, length-view, written_view, alike, sign_read, position_in_row, IsView, same_numbers}
 pub use Rattle.stab_pauli.proofs.PositionLemmas.{letter_at_position, row_letters-set}
 pub use Rattle.stab_pauli.proofs.PowerLemmas.{fixed_sign, powers_differ}

@@ -1,6 +1,6 @@
 -- Words of which those that are 0 are left out: what a word more leaves, a gap that is cut, and a block.
 use Rattle.stab_pauli.proofs.Names.{◌≡◌, ℕ, suc, ◌+◌, ◌*◌, ◌<◌, ◌≤◌, refl, sym, ◌∙◌, ap, arith, append_assoc, length-append, zero-add, List, [], ◌∷◌, ◌++◌, length, get_or, take, drop, replicate, take-add, length-replicate, take_more, take_all, replicate_next, le_or_l, le_or_r, bit_or, spread, IsSparse}
-use Rattle.stab_pauli.proofs.SparseLemmas.{spread-zeros, spread-kept, length-from}
+use Rattle.stab_pauli.proofs.SparseLemmas.{spread-zeros, spread-stored, length-from}
 
 -- a block of words 0
 
@@ -38,15 +38,15 @@ blank_block xs size none =
 even_more : (gs ks new_gs new_ks : List ℕ) (g w : ℕ) → length gs ≡ length ks → new_gs ≡ gs ++ g ∷ [] → new_ks ≡ ks ++ w ∷ [] → length new_gs ≡ length new_ks
 even_more gs ks new_gs new_ks g w e eg ek = ap length eg ∙ length-append gs (g ∷ []) ∙ ap (λ n. n + 1) e ∙ sym (length-append ks (w ∷ [])) ∙ ap length (sym ek)
 
--- a word that is kept
-pub sparse-kept : (gs ks new_gs new_ks : List ℕ) (b w : ℕ) → length gs ≡ length ks → new_gs ≡ gs ++ b ∷ [] → new_ks ≡ ks ++ w ∷ []
+-- a word that is stored
+pub sparse-stored : (gs ks new_gs new_ks : List ℕ) (b w : ℕ) → length gs ≡ length ks → new_gs ≡ gs ++ b ∷ [] → new_ks ≡ ks ++ w ∷ []
     → IsSparse new_gs new_ks 0 (spread gs ks b ++ w ∷ [])
-sparse-kept gs ks new_gs new_ks b w e eg ek = record {
+sparse-stored gs ks new_gs new_ks b w e eg ek = record {
   even = even_more gs ks new_gs new_ks b w e eg ek;
-  words_are = (λ i. spread (eg i) (ek i) 0) ∙ spread-kept gs ks b w e;
+  words_are = (λ i. spread (eg i) (ek i) 0) ∙ spread-stored gs ks b w e;
 }
 
--- a word 0 that is kept, of those that come after
+-- a word 0 that is stored, of those that come after
 pub sparse-cut : (gs ks new_gs new_ks : List ℕ) (b g m : ℕ) → length gs ≡ length ks → new_gs ≡ gs ++ g ∷ [] → new_ks ≡ ks ++ 0 ∷ [] → b ≡ g + suc m
     → IsSparse new_gs new_ks m (spread gs ks b)
 sparse-cut gs ks new_gs new_ks b g m e eg ek split = record {
@@ -54,13 +54,13 @@ sparse-cut gs ks new_gs new_ks b g m e eg ek split = record {
   words_are =
       (λ i. spread (eg i) (ek i) (sym (zero-add m) i))
       ∙ sym (spread-zeros (gs ++ g ∷ []) (ks ++ 0 ∷ []) 0 m)
-      ∙ ap (λ t. t ++ replicate m 0) (spread-kept gs ks g 0 e)
+      ∙ ap (λ t. t ++ replicate m 0) (spread-stored gs ks g 0 e)
       ∙ append_assoc (spread gs ks g) (0 ∷ []) (replicate m 0)
       ∙ spread-zeros gs ks g (suc m)
       ∙ ap (spread gs ks) (sym split);
 }
 
--- words 0, that are not kept
+-- words 0, that are not stored
 pub sparse-blank : (gs ks : List ℕ) (b m : ℕ) (block : List ℕ) → length gs ≡ length ks → block ≡ replicate m 0
     → IsSparse gs ks (b + m) (spread gs ks b ++ block)
 sparse-blank gs ks b m block e none = record {

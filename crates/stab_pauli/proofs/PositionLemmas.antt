@@ -125,32 +125,32 @@ x_not_z j q = λ e. omega arith
 other_bit : (j q : ℕ) → j ≢ q → x_position j ≡ x_position q → j % 64 ≢ q % 64
 other_bit j q ne e = λ h. ne (omega arith)
 
-x_kept : (row : List ℕ) (q j x z : ℕ) → x_position q < length row → j ≢ q
+x_preserved : (row : List ℕ) (q j x z : ℕ) → x_position q < length row → j ≢ q
     → ((k : ℕ) → k ≢ q % 64 → k < 64 → bit_at x k ≡ bit_at (get_or row (x_position q) 0) k)
     → (x_position j ≡ x_position q) ⊎ (x_position j ≢ x_position q)
     → bit_at (get_or (set (set row (x_position q) x) (x_position q + 4) z) (x_position j) 0) (j % 64) ≡ bit_at (get_or row (x_position j) 0) (j % 64)
-x_kept row q j x z fits ne others (inl e) =
+x_preserved row q j x z fits ne others (inl e) =
     ap (λ w. bit_at w (j % 64))
     (get_or-set_other (set row (x_position q) x) (x_position q + 4) (x_position j) z 0 (x_not_z j q)
     ∙ ap (λ n. get_or (set row (x_position q) x) n 0) e ∙ get_or-set_same row (x_position q) x 0 fits)
     ∙ others (j % 64) (other_bit j q ne e) (omega arith)
     ∙ ap (λ n. bit_at (get_or row n 0) (j % 64)) (sym e)
-x_kept row q j x z fits ne others (inr d) =
+x_preserved row q j x z fits ne others (inr d) =
     ap (λ w. bit_at w (j % 64))
     (get_or-set_other (set row (x_position q) x) (x_position q + 4) (x_position j) z 0 (x_not_z j q)
     ∙ get_or-set_other row (x_position q) (x_position j) x 0 d)
 
-z_kept : (row : List ℕ) (q j x z : ℕ) → x_position q + 4 < length row → j ≢ q
+z_preserved : (row : List ℕ) (q j x z : ℕ) → x_position q + 4 < length row → j ≢ q
     → ((k : ℕ) → k ≢ q % 64 → k < 64 → bit_at z k ≡ bit_at (get_or row (x_position q + 4) 0) k)
     → (x_position j ≡ x_position q) ⊎ (x_position j ≢ x_position q)
     → bit_at (get_or (set (set row (x_position q) x) (x_position q + 4) z) (x_position j + 4) 0) (j % 64) ≡ bit_at (get_or row (x_position j + 4) 0) (j % 64)
-z_kept row q j x z fits ne others (inl e) =
+z_preserved row q j x z fits ne others (inl e) =
     ap (λ w. bit_at w (j % 64))
     (ap (λ n. get_or (set (set row (x_position q) x) (x_position q + 4) z) (n + 4) 0) e
     ∙ get_or-set_same (set row (x_position q) x) (x_position q + 4) z 0 (rw (length-set row (x_position q) x) fits))
     ∙ others (j % 64) (other_bit j q ne e) (omega arith)
     ∙ ap (λ n. bit_at (get_or row (n + 4) 0) (j % 64)) (sym e)
-z_kept row q j x z fits ne others (inr d) =
+z_preserved row q j x z fits ne others (inr d) =
     ap (λ w. bit_at w (j % 64))
     (get_or-set_other (set row (x_position q) x) (x_position q + 4) (x_position j + 4) z 0 (λ e. d (omega arith))
     ∙ get_or-set_other row (x_position q) (x_position j + 4) x 0 (λ e. x_not_z q j (sym e)))
@@ -202,7 +202,7 @@ row_letters-set m row q at x z letter e lt ea el ox oz =
     at_letter j h (inr d) =
         letter_at_position m new j (x_position j) ln h refl
         ∙ (λ i. letter_of_bits
-        (eqb (x_kept row q j x z (omega arith) d ox' (same_or_not (x_position j) (x_position q)) i) 1)
-        (eqb (z_kept row q j x z inside d oz' (same_or_not (x_position j) (x_position q)) i) 1))
+        (eqb (x_preserved row q j x z (omega arith) d ox' (same_or_not (x_position j) (x_position q)) i) 1)
+        (eqb (z_preserved row q j x z inside d oz' (same_or_not (x_position j) (x_position q)) i) 1))
         ∙ sym (letter_at_position m row j (x_position j) e h refl)
         ∙ sym (get_or-set_other (row_letters m row) q j letter I d)

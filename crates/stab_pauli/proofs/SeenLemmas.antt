@@ -70,8 +70,8 @@ pub written_seen : {n m : ℕ} {ps : List Phase} {v : Rows} (ws words new : List
 written_seen {n} {m} {ps} {v} ws words new k len e l seen = subst (λ w. IsSeen n m w ps v) (sym (written ws words new k len e l)) seen
 
 -- the same words instead of these
-pub kept_words : {n m : ℕ} {ws : List ℕ} {ps : List Phase} {v : Rows} (k s : ℕ) → k + s ≤ length ws → IsSeen n m (put_chunk k ws (chunk k s ws)) ps v → IsSeen n m ws ps v
-kept_words {n} {m} {ws} {ps} {v} k s le seen = subst (λ w. IsSeen n m w ps v) (put_same k s ws le) seen
+pub preserved_words : {n m : ℕ} {ws : List ℕ} {ps : List Phase} {v : Rows} (k s : ℕ) → k + s ≤ length ws → IsSeen n m (put_chunk k ws (chunk k s ws)) ps v → IsSeen n m ws ps v
+preserved_words {n} {m} {ws} {ps} {v} k s le seen = subst (λ w. IsSeen n m w ps v) (put_same k s ws le) seen
 
 -- a power that was read
 pub read_power : (ps : List Phase) (a : ℕ) (x : Phase) → a < length ps → x ≡ get_or ps a x → x ≡ get_or ps a Zero
@@ -202,7 +202,7 @@ swapped_seen {n} {m} {ws} {ps} {v} mine a b la lb =
 pub negated_seen : {n m : ℕ} {ws : List ℕ} {ps : List Phase} {v : Rows} → IsSeen n m ws ps v → (a : ℕ) (b : Bool) (x r : Phase) → a < length ps → x ≡ get_or ps a x → r ≡ phase_add x (phase_of_sign b)
     → IsSeen n m ws (set ps a r) (with_row v a (with_sign b (row_at v a)))
 negated_seen {n} {m} {ws} {ps} {v} mine a b x r la ex er =
-    kept_words (8 * m * a) (8 * m) (row_fits m (length ps) a (length ws) la mine.lies.size)
+    preserved_words (8 * m * a) (8 * m) (row_fits m (length ps) a (length ws) la mine.lies.size)
     (put_seen mine a la (signed_view b x r (row_seen mine a la) (read_power ps a x la ex) er))
 
 pub swapped_written : {n m : ℕ} {ws : List ℕ} {ps : List Phase} {v : Rows} → IsSeen n m ws ps v → (a b : ℕ) → a < length ps → b < length ps

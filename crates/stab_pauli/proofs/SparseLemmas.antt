@@ -4,7 +4,7 @@ use Rattle.stab_pauli.proofs.DetermineLemmas.{short_more, short_tail}
 
 -- the words that a value stands for
 abbrev pub determined_by : SparseWords → List ℕ
-determined_by w = spread w.gaps.items w.kept.items w.following
+determined_by w = spread w.gaps.items w.stored.items w.following
 
 -- after them
 
@@ -13,17 +13,17 @@ spread-zeros [] ks b m = replicate-append-replicate b m 0
 spread-zeros (g ∷ gs) [] b m = replicate-append-replicate b m 0
 spread-zeros (g ∷ gs) (w ∷ ks) b m = append_assoc (replicate g 0) (w ∷ spread gs ks b) (replicate m 0) ∙ ap (λ t. replicate g 0 ++ w ∷ t) (spread-zeros gs ks b m)
 
-pub spread-kept : (gs ks : List ℕ) (b w : ℕ) → length gs ≡ length ks → spread (gs ++ b ∷ []) (ks ++ w ∷ []) 0 ≡ spread gs ks b ++ w ∷ []
-spread-kept [] [] b w e = refl
-spread-kept [] (k ∷ ks) b w e = absurd (omega arith)
-spread-kept (g ∷ gs) [] b w e = absurd (omega arith)
-spread-kept (g ∷ gs) (k ∷ ks) b w e = ap (λ t. replicate g 0 ++ k ∷ t) (spread-kept gs ks b w (omega arith)) ∙ sym (append_assoc (replicate g 0) (k ∷ spread gs ks b) (w ∷ []))
+pub spread-stored : (gs ks : List ℕ) (b w : ℕ) → length gs ≡ length ks → spread (gs ++ b ∷ []) (ks ++ w ∷ []) 0 ≡ spread gs ks b ++ w ∷ []
+spread-stored [] [] b w e = refl
+spread-stored [] (k ∷ ks) b w e = absurd (omega arith)
+spread-stored (g ∷ gs) [] b w e = absurd (omega arith)
+spread-stored (g ∷ gs) (k ∷ ks) b w e = ap (λ t. replicate g 0 ++ k ∷ t) (spread-stored gs ks b w (omega arith)) ∙ sym (append_assoc (replicate g 0) (k ∷ spread gs ks b) (w ∷ []))
 
 -- one of a list, and those after it
 drop_here : (xs : List ℕ) (k x : ℕ) → k < length xs → x ≡ get_or xs k x → drop k xs ≡ x ∷ drop (k + 1) xs
 drop_here xs k x lt e = drop_more xs k x lt ∙ ap (λ y. y ∷ drop (k + 1) xs) (sym e)
 
--- the words from one of those that are kept on
+-- the words from one of those that are stored on
 pub spread-from : (gs ks : List ℕ) (b k g w : ℕ) → length gs ≡ length ks → k < length ks → g ≡ get_or gs k g → w ≡ get_or ks k w
     → spread (drop k gs) (drop k ks) b ≡ replicate g 0 ++ w ∷ spread (drop (k + 1) gs) (drop (k + 1) ks) b
 spread-from gs ks b k g w e lt eg ew = λ i. spread (drop_here gs k g (omega arith) eg i) (drop_here ks k w lt ew i) b

@@ -32,7 +32,7 @@ pub fn without(mask: u64, k: usize) -> u64
     requires in_range { k < 64 }
     ensures gone { chooses result k ≡ false }
     ensures others { (j : ℕ) → j ≢ k → j < 64 → chooses result j ≡ chooses mask j }
-    ensures kept { result ≤ mask }
+    ensures preserved { result ≤ mask }
     ensures fewer { chooses mask k ≡ true → result < mask }
 {
     mask & !(1 << k)

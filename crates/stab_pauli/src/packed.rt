@@ -5,7 +5,7 @@
 //! - `flat`: rows that lie side by side in one slice.
 //! - `part`: eight of these: which of them have X or Y on a qubit, and on which qubits of the same word any has.
 //! - `support`: in which blocks a string has letters other than I, and products in these alone.
-//! - `sparse`: words of which most are 0, kept without these.
+//! - `sparse`: words of which most are 0, stored without these.
 
 pub(crate) mod flat;
 pub(crate) mod ones;

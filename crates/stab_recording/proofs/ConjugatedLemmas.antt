@@ -10,11 +10,11 @@ all-coins d coins first = λ i t. coins (from t i)
     from : (t : ℕ) → d + t ≡ t
     from t = omega (arith, first)
 
-module _ (n window base da db : ℕ) (coins : ℕ → Bool) (strings : ℕ → Option (List Letter)) (flags bits : List Bool) (xs : List Step) (a b : Point) (w v : PropagationState)
+module _ (n window base da db : ℕ) (coins : ℕ → Bool) (strings : ℕ → Option (List Letter)) (randomness bits : List Bool) (xs : List Step) (a b : Point) (w v : PropagationState)
     (fits : All (StepFits n) xs) (near : looks_too_far window xs ≡ false) (from_a : da + w.coin ≡ a.coin) (from_b : db + w.coin ≡ b.coin)
     (differs : DiffersBack n window (frame_at base w) a b) (are_true : AreTrue n (coins_from da coins) strings xs (with_coin w.coin a))
-    (flags_are : (outputs n coins xs a).free ≡ take (all_coins_of xs) (drop w.coin flags)) (bits_are : (outputs n coins xs a).outcomes ≡ bits)
-    (propagated : PropagatesToOthers n strings flags bits (coins_from db coins) xs w v) where
+    (randomness_is : (outputs n coins xs a).free ≡ take (all_coins_of xs) (drop w.coin randomness)) (bits_are : (outputs n coins xs a).outcomes ≡ bits)
+    (propagated : PropagatesToOthers n strings randomness bits (coins_from db coins) xs w v) where
   abbrev pivots : RunPivots
   pivots = pivots_between strings (coins_from da coins) (coins_from db coins)
 
@@ -24,7 +24,7 @@ module _ (n window base da db : ℕ) (coins : ℕ → Bool) (strings : ℕ → O
   went : PropagatesWith n pivots xs w v × ((k : ℕ) → AreEnough n (coins_from da coins) pivots xs (frame_at k w) (with_coin w.coin differs.seen))
   went =
       propagated (coins_from da coins) (with_coin w.coin differs.seen)
-      (gone-over-seen n window w.coin da coins strings flags bits xs a differs.seen near from_a differs.agree are_true flags_are bits_are)
+      (gone-over-seen n window w.coin da coins strings randomness bits xs a differs.seen near from_a differs.agree are_true randomness_is bits_are)
 
   come : (outputs n coins xs b ≡ flipped_output (outputs n coins xs a) frame_flips)
       × DiffersBack n window (frame_over n pivots xs w.coin (frame_at base w)) (point_after n coins xs a) (point_after n coins xs b)

@@ -1,6 +1,6 @@
 -- Replays that differ: if a replay's next coin has another number than the old run's, or its records are others, the two agree at no later
 -- old checkpoint.
-use Rattle.stab_recording.proofs.Names.{◌≡◌, ◌≢◌, ℕ, suc, zero, ◌+◌, ◌-◌, ◌<◌, ◌≤◌, refl, sym, ◌∙◌, ap, subst, Bool, ◌⊎◌, inl, inr, List, [], ◌∷◌, ◌++◌, Option, Some, None, length, take, drop, slice_get, arith, IfSome, cases_lt, length-append, length-drop, drop-drop, take_at, Step, Lengths, Checkpoint, IsCheckpoint, Point, RunOutput, origin, point_after, outputs, all_coins_of, flags-are-coins, records-are-records, records-gathered, records-made, coins-are, Plan, Replay, IsAtStep, Ascending, Misses, IsOnWay, step_among_new, IsOldRun, IsBeside, HasOtherCoins}
+use Rattle.stab_recording.proofs.Names.{◌≡◌, ◌≢◌, ℕ, suc, zero, ◌+◌, ◌-◌, ◌<◌, ◌≤◌, refl, sym, ◌∙◌, ap, subst, Bool, ◌⊎◌, inl, inr, List, [], ◌∷◌, ◌++◌, Option, Some, None, length, take, drop, slice_get, arith, IfSome, cases_lt, length-append, length-drop, drop-drop, take_at, Step, Lengths, Checkpoint, IsCheckpoint, Point, RunOutput, origin, point_after, outputs, all_coins_of, randomness-is-coins, records-are-records, records-gathered, records-made, coins-are, Plan, Replay, IsAtStep, Ascending, Misses, IsOnWay, step_among_new, IsOldRun, IsBeside, HasOtherCoins}
 use Rattle.std.specs.Prelude.{IsSomeAnd}
 use Rattle.stab_recording.proofs.CursorPositionLemmas.{at-number}
 use Rattle.stab_recording.proofs.PointLemmas.{old_later, new_later}
@@ -16,7 +16,7 @@ steps-following xs ys old_end new_end same first le =
 
 -- the number of the next coin at a checkpoint
 checkpoint-coin : (n : ℕ) (coins : ℕ → Bool) (xs : List Step) (c : Checkpoint) → IsCheckpoint n coins xs c → c.lengths.free ≡ (point_after n coins (take c.step xs) origin).coin
-checkpoint-coin n coins xs c is = ap (λ (l : Lengths). l.free) is.lengths ∙ flags-are-coins n coins (take c.step xs)
+checkpoint-coin n coins xs c is = ap (λ (l : Lengths). l.free) is.lengths ∙ randomness-is-coins n coins (take c.step xs)
 
 -- lists whose ends are as long have the same fronts
 same-fronts : (a b x y : List Bool) → a ++ x ≡ b ++ y → length x ≡ length y → a ≡ b
@@ -62,10 +62,10 @@ module _ (n : ℕ) (coins : ℕ → Bool) (p : Plan) (ys : List Step) (checkpoin
       ∙ more-coins n coins (take (c.step - b.step) (drop b.step old.steps)) _ (point_after n coins (take r.step ys) origin)
       (new_later n coins old.steps ys b.step r.step same-steps (c.step - b.step))
       ∙ ap (λ k. k + all_coins_of (take (c.step - b.step) (drop b.step old.steps)))
-      (sym (ap (λ (x : RunOutput). length x.free) at.run.output ∙ flags-are-coins n coins (take r.step ys)))
+      (sym (ap (λ (x : RunOutput). length x.free) at.run.output ∙ randomness-is-coins n coins (take r.step ys)))
 
   misses-moved : b.lengths.free ≢ length r.outputs.free.items → (records : List Bool) → Misses n coins p ys records c
-  misses-moved distinct records xs is kept agree =
+  misses-moved distinct records xs is preserved agree =
       distinct (omega (arith, old-coin, new-coin, checkpoint-coin n coins xs c is, agree.coin))
 
   -- what both make from the one position to the other
@@ -92,11 +92,11 @@ module _ (n : ℕ) (coins : ℕ → Bool) (p : Plan) (ys : List Step) (checkpoin
       ∙ records-gathered n coins between-them new-point
 
   misses-others : take b.lengths.records o.records ≢ r.outputs.records.items → Misses n coins p ys o.records c
-  misses-others distinct xs is kept agree =
+  misses-others distinct xs is preserved agree =
       distinct
       (records-at n coins old.steps o b from old.output
       ∙ same-fronts old-point.records new-point.records (outputs n coins between-them old-point).records (outputs n coins between-them new-point).records
-      (sym old-there ∙ kept ∙ records-are-records n coins (take c.step xs) ∙ agree.records ∙ new-there)
+      (sym old-there ∙ preserved ∙ records-are-records n coins (take c.step xs) ∙ agree.records ∙ new-there)
       (records-made n coins between-them old-point ∙ sym (records-made n coins between-them new-point))
       ∙ sym (ap (λ (x : RunOutput). x.records) at.run.output ∙ records-are-records n coins (take r.step ys)))
 

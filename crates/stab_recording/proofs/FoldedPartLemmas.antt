@@ -1,5 +1,5 @@
 -- Parts repeated: what a replay repeats from one checkpoint to the next, up to a frame if there is one, is what its run gives there.
-use Rattle.stab_recording.proofs.Names.{◌≡◌, ℕ, zero, suc, ◌+◌, ◌-◌, ◌≤◌, refl, sym, ◌∙◌, ap, subst, Bool, false, List, [], ◌∷◌, ◌++◌, length, take, drop, All, Option, None, Some, slice_get, arith, take-append-le, length-drop, take-take, take-append-drop, drop-take, All-take, All-drop, with_sign, strings_anticommute, member, SameGroup, TableauState, stabilises, IsConjugated, Letter, Step, looks_too_far, most_steps, Lengths, ones, Point, RunOutput, origin, joined, point_after, outputs, all_coins_of, StepFits, output_of, lengths_of, AgreeBack, with_coin, flags-are-coins, coins-few, coins-are, ones-append, flipped_output, AreTrue, pivot_at, LooksWithin, PropagationState, frame_at, DiffersBack, ArePropagatedOver, coins_from, PropagatesToOthers, Checkpoint, IsCheckpoint, Replay, between, flips_since, KeepsPivotList, Segment, IsAsAt, DiffersFrom, IsAlike, HasRepeated, MayGoOver, HasPropagated, HasStringsAgain, with_folded, flipped-empty, true-front, true-rest}
+use Rattle.stab_recording.proofs.Names.{◌≡◌, ℕ, zero, suc, ◌+◌, ◌-◌, ◌≤◌, refl, sym, ◌∙◌, ap, subst, Bool, false, List, [], ◌∷◌, ◌++◌, length, take, drop, All, Option, None, Some, slice_get, arith, take-append-le, length-drop, take-take, take-append-drop, drop-take, All-take, All-drop, with_sign, strings_anticommute, member, SameGroup, TableauState, stabilises, IsConjugated, Letter, Step, looks_too_far, most_steps, Lengths, ones, Point, RunOutput, origin, joined, point_after, outputs, all_coins_of, StepFits, output_of, lengths_of, AgreeBack, with_coin, randomness-is-coins, coins-few, coins-are, ones-append, flipped_output, AreTrue, pivot_at, LooksWithin, PropagationState, frame_at, DiffersBack, ArePropagatedOver, coins_from, PropagatesToOthers, Checkpoint, IsCheckpoint, Replay, between, flips_since, KeepsPivotList, Segment, IsAsAt, DiffersFrom, IsAlike, HasRepeated, MayGoOver, HasPropagated, HasStringsAgain, with_folded, flipped-empty, true-front, true-rest}
 use Rattle.std.proofs.Common.{IfSome}
 use Rattle.std.proofs.Math.Seq.{drop-drop}
 use Rattle.stab_recording.proofs.RepeatedRunLemmas.{first-steps, first-point, later-point, part-is, ones-part, same-given, agrees-again}
@@ -67,17 +67,17 @@ module _ (n : ℕ) (coins : ℕ → Bool) (ys : List Step) (r : Replay) (number 
   now = point_after n coins (take r.step ys) origin
 
   coin_here : c.lengths.free ≡ then.coin
-  coin_here = ap (λ (l : Lengths). l.free) k.checkpoint.lengths ∙ flags-are-coins n coins (take c.step ys)
+  coin_here = ap (λ (l : Lengths). l.free) k.checkpoint.lengths ∙ randomness-is-coins n coins (take c.step ys)
 
   coin_now : length r.outputs.free.items ≡ now.coin
-  coin_now = ap (λ (o : RunOutput). length o.free) k.output ∙ flags-are-coins n coins (take r.step ys)
+  coin_now = ap (λ (o : RunOutput). length o.free) k.output ∙ randomness-is-coins n coins (take r.step ys)
 
   last : d.lengths.free ≡ c.lengths.free + all_coins_of part
   last =
       omega (
         arith,
         coin_here,
-        ap (λ (l : Lengths). l.free) k.later.lengths ∙ flags-are-coins n coins (take d.step ys),
+        ap (λ (l : Lengths). l.free) k.later.lengths ∙ randomness-is-coins n coins (take d.step ys),
         ap (λ (a : Point). a.coin) (first-point n coins ys c.step d.step r.step window k.order k.before k.same_steps),
         coins-are n coins part then,
       )
@@ -127,8 +127,8 @@ module _ (n : ℕ) (coins : ℕ → Bool) (ys : List Step) (r : Replay) (number 
         subst (λ k. AgreeBack n window (with_coin (point_after n coins (take k ys) origin).coin (point_after n coins (take d.step ys) origin)) (point_after n coins (take k ys) origin)) (sym gave.step)
         (agrees-again n coins ys c.step d.step r.step window k.order k.before k.same_steps near fixed exact.agree)
 
-    flags : s.outputs.free.items ≡ r.outputs.free.items ++ again.free
-    flags = ap (λ (o : RunOutput). o.free) gave.output
+    randomness : s.outputs.free.items ≡ r.outputs.free.items ++ again.free
+    randomness = ap (λ (o : RunOutput). o.free) gave.output
 
     pub repeated-comes : Comes n coins ys r s c d d.tableau None
     repeated-comes = record {
@@ -151,7 +151,7 @@ module _ (n : ℕ) (coins : ℕ → Bool) (ys : List Step) (r : Replay) (number 
       qubits = k.later.qubits;
       group = λ q size. k.later.group q size ∙ agree.group q size;
       has_pivots =
-          subst (λ x. x) (λ i. KeepsPivotList n coins (take r.step ys ++ part) (sym (ap (λ (x : Replay). x.pivots.strings) rest) i) (sym flags i) window)
+          subst (λ x. x) (λ i. KeepsPivotList n coins (take r.step ys ++ part) (sym (ap (λ (x : Replay). x.pivots.strings) rest) i) (sym randomness i) window)
           (has_pivots-fixed n coins (take r.step ys) part r.pivots.strings r.outputs.free.items again.free window k.has_pivots (ap (λ (o : RunOutput). o.free) k.output) no_coin near_part);
       alike = record {
         fixed =
@@ -159,7 +159,7 @@ module _ (n : ℕ) (coins : ℕ → Bool) (ys : List Step) (r : Replay) (number 
               arith,
               exact.fixed,
               no_coin,
-              ap (λ bits. ones (drop d.lengths.free bits)) flags,
+              ap (λ bits. ones (drop d.lengths.free bits)) randomness,
               ones-following c.lengths.free d.lengths.free r.outputs.free.items again.free (omega (arith, last)),
             );
         agree = agree;
@@ -228,8 +228,8 @@ module _ (n : ℕ) (coins : ℕ → Bool) (ys : List Step) (r : Replay) (number 
           subst (λ cs. AreTrue n cs strings part (with_coin w.coin then)) (sym (all-coins 0 coins refl))
           (subst (λ k. AreTrue n coins strings part (with_coin k then)) (sym walk_here) true_then)
 
-      flags_here : (outputs n coins part then).free ≡ take (all_coins_of part) (drop w.coin r.outputs.free.items)
-      flags_here =
+      randomness_here : (outputs n coins part then).free ≡ take (all_coins_of part) (drop w.coin r.outputs.free.items)
+      randomness_here =
           sym (ap (λ (o : RunOutput). o.free) part_given)
           ∙ ap (λ k. drop c.lengths.free (take k r.outputs.free.items)) last
           ∙ drop-take c.lengths.free (all_coins_of part) r.outputs.free.items
@@ -244,7 +244,7 @@ module _ (n : ℕ) (coins : ℕ → Bool) (ys : List Step) (r : Replay) (number 
           × (v.coin ≡ w.coin + all_coins_of part)
       over =
           comes-over n window stands.base 0 (length r.outputs.free.items - c.lengths.free) coins strings r.outputs.free.items bits part then now w v fits near (omega (arith, walk_here)) from_now stands.differs
-          true_here flags_here (sym (ap (λ (o : RunOutput). o.outcomes) part_given)) propagated
+          true_here randomness_here (sym (ap (λ (o : RunOutput). o.outcomes) part_given)) propagated
 
       later_end : point_after n coins (take s.step ys) origin ≡ point_after n coins part now
       later_end = ap (λ k. point_after n coins (take k ys) origin) gave.step ∙ later-point n coins ys c.step d.step r.step window k.order k.before k.same_steps
@@ -265,12 +265,12 @@ module _ (n : ℕ) (coins : ℕ → Bool) (ys : List Step) (r : Replay) (number 
       number_there : v.number ≡ ones (take d.lengths.free r.outputs.free.items)
       number_there = gave.placed ∙ ap (λ k. ones (take k r.outputs.free.items)) (over.3 ∙ ap (λ k. k + all_coins_of part) stands.coin ∙ sym last)
 
-      kept : ones (take d.lengths.free r.outputs.free.items) ≤ length r.pivots.strings.strings
-      kept =
-          let all_kept = gave.kept in
+      preserved : ones (take d.lengths.free r.outputs.free.items) ≤ length r.pivots.strings.strings
+      preserved =
+          let all_retained = gave.preserved in
           omega (
             arith,
-            all_kept,
+            all_retained,
             number_here,
             ones-take c.lengths.free (take d.lengths.free r.outputs.free.items),
             ap ones (take-take c.lengths.free d.lengths.free r.outputs.free.items (omega (arith, last))),
@@ -279,8 +279,8 @@ module _ (n : ℕ) (coins : ℕ → Bool) (ys : List Step) (r : Replay) (number 
       new_strings : HasStringsAgain (ones (take c.lengths.free r.outputs.free.items)) (ones (take d.lengths.free r.outputs.free.items)) r.pivots.strings s.pivots.strings
       new_strings = subst (λ x. x) (λ i. HasStringsAgain (number_here i) (number_there i) r.pivots.strings s.pivots.strings) gave.strings
 
-      new_flags : s.outputs.free.items ≡ r.outputs.free.items ++ drop c.lengths.free (take d.lengths.free r.outputs.free.items)
-      new_flags =
+      new_randomness : s.outputs.free.items ≡ r.outputs.free.items ++ drop c.lengths.free (take d.lengths.free r.outputs.free.items)
+      new_randomness =
           ap (λ (o : RunOutput). o.free) gave.output
           ∙ ap (λ more. r.outputs.free.items ++ more) (flipped-empty (drop c.lengths.free (take d.lengths.free r.outputs.free.items)))
 
@@ -290,7 +290,7 @@ module _ (n : ℕ) (coins : ℕ → Bool) (ys : List Step) (r : Replay) (number 
       placed : ones (take d.lengths.free r.outputs.free.items) ≡ ones (take v.coin s.outputs.free.items)
       placed =
           ap ones (sym (take-append-le d.lengths.free r.outputs.free.items (drop c.lengths.free (take d.lengths.free r.outputs.free.items)) shorter_after.0))
-          ∙ (λ i. ones (take (sym walked_to i) (sym new_flags i)))
+          ∙ (λ i. ones (take (sym walked_to i) (sym new_randomness i)))
 
       pub by_frame-comes : Comes n coins ys r s c d gave.state (Some v)
       by_frame-comes = record {
@@ -307,9 +307,9 @@ module _ (n : ℕ) (coins : ℕ → Bool) (ys : List Step) (r : Replay) (number 
             ∙ k.later.group (with_sign (strings_anticommute v.letters q.letters) q) size
             ∙ sym (group q size);
         has_pivots =
-            subst (λ bits. KeepsPivotList n coins (take r.step ys ++ part) s.pivots.strings bits window) (sym new_flags)
+            subst (λ bits. KeepsPivotList n coins (take r.step ys ++ part) s.pivots.strings bits window) (sym new_randomness)
             (has_pivots-conjugated n coins (take r.step ys) part r.pivots.strings s.pivots.strings r.outputs.free.items c.lengths.free d.lengths.free window then k.has_pivots
-            (ap (λ (o : RunOutput). o.free) k.output) (sym coin_here) true_then over.2 last kept near_part new_strings);
+            (ap (λ (o : RunOutput). o.free) k.output) (sym coin_here) true_then over.2 last preserved near_part new_strings);
         alike = record {
           base = stands.base;
           differs = differs;

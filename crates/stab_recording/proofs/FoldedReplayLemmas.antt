@@ -75,9 +75,9 @@ position-known P (Some c) position q is h = subst (λ r. IfSome r P) is h
 pub coins-following : (i j : ℕ) (ys : List Step) → i ≤ j → all_coins_of (drop j ys) ≤ all_coins_of (drop i ys)
 coins-following i j ys le = omega (arith, coins-cut i j ys (drop i ys) le refl)
 
--- pivots are kept of all random outcomes up to the second checkpoint
-pub kept-before : (number c m d few : ℕ) (free : List Bool) → number ≡ ones (take c free) → d ≡ c + m → number + ones (drop c (take d free)) ≤ few → ones (take (c + m) free) ≤ few
-kept-before number c m d few free is last le =
+-- pivots are stored of all random outcomes up to the second checkpoint
+pub preserved-before : (number c m d few : ℕ) (free : List Bool) → number ≡ ones (take c free) → d ≡ c + m → number + ones (drop c (take d free)) ≤ few → ones (take (c + m) free) ≤ few
+preserved-before number c m d few free is last le =
     omega (arith, is, le, ap (λ k. ones (take k free)) last, ones-take c (take d free), ap ones (take-take c d free (omega (arith, last))))
 
 -- as many outcomes are random again

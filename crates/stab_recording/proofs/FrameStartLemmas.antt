@@ -52,7 +52,7 @@ frame-found t o old base window n m c string bits others v u w qubits alike long
 
 -- the frame from a checkpoint begins at a point that has the newest records of the checkpoint's run, and the other one's numbers
 module _ (n : ℕ) (coins : ℕ → Bool) (xs ys : List Step) (k : ℕ) (c : Checkpoint) (t : TableauState) (o old : RunOutput) (base window : ℕ) (w : PropagationState)
-    (qubits : t.qubits ≡ n) (is : IsCheckpoint n coins xs c) (kept : old ≡ outputs n coins xs origin) (run : IsRunFromStart n coins (take k ys) (program_state t o))
+    (qubits : t.qubits ≡ n) (is : IsCheckpoint n coins xs c) (preserved : old ≡ outputs n coins xs origin) (run : IsRunFromStart n coins (take k ys) (program_state t o))
     (within : base ≤ length o.records) (same : take base o.records ≡ take base old.records) (fits : All (StepFits n) xs)
     (from : IsFrameFrom t o old base window c w) where
   abbrev pub here : Point
@@ -82,7 +82,7 @@ module _ (n : ℕ) (coins : ℕ → Bool) (xs ys : List Step) (k : ℕ) (c : Che
   own = ap (λ (q : RunOutput). q.records) run.output ∙ records-are-records n coins (take k ys)
 
   pub olds_are : olds ≡ here.records
-  olds_are = records-at n coins xs old c is kept
+  olds_are = records-at n coins xs old c is preserved
 
   pub short : length olds ≡ c.lengths.records
   short =

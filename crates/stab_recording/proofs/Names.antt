@@ -42,7 +42,7 @@ pub use Rattle.stab_frames.specs.FrameSteps.{frame_over, flips_over, frame_after
 pub use Rattle.stab_frames.specs.Frames.{Frame, PointsDifferBy}
 pub use Rattle.stab_frames.specs.Limits.{most_strings}
 pub use Rattle.stab_frames.specs.OtherCoins.{coins_from, pivots_between, PropagatesToOthers}
-pub use Rattle.stab_frames.specs.Pivots.{AreTrue, PivotsState, pivot_at, kept_with, IsNumbered, IsTrueAt, KeepsTrue, front_kept, cut_to}
+pub use Rattle.stab_frames.specs.Pivots.{AreTrue, PivotsState, pivot_at, stored_with, IsNumbered, IsTrueAt, KeepsTrue, front_stored, cut_to}
 pub use Rattle.stab_frames.specs.PivotsOfSteps.{AreEnough}
 pub use Rattle.stab_frames.specs.Propagations.{PropagationState, frame_at, PropagatesWith, IsGone, PropagatesOver, IsPlaced}
 pub use Rattle.stab_frames.specs.RunPivots.{RunPivots, same_coins}
@@ -62,7 +62,7 @@ pub use Rattle.stab_run.proofs.FixedLemmas.{fixed-future}
 pub use Rattle.stab_run.proofs.FutureBackLemmas.{same-future-back, records-made}
 pub use Rattle.stab_run.proofs.FutureLemmas.{same-future}
 pub use Rattle.stab_run.proofs.LookbackLemmas.{looked_up-near, looked_up-far, looked_up-zeros}
-pub use Rattle.stab_run.proofs.PointLemmas.{outcomes-counted, flags-are-coins, records-are-records, rest-joined, front-output, HasAtMost, outputs-short, cut, rest-output, flags-given, records-gathered}
+pub use Rattle.stab_run.proofs.PointLemmas.{outcomes-counted, randomness-is-coins, records-are-records, rest-joined, front-output, HasAtMost, outputs-short, cut, rest-output, randomness-given, records-gathered}
 pub use Rattle.stab_run.proofs.RecordLemmas.{ones-append}
 pub use Rattle.stab_run.proofs.RoundLemmas.{rounds-append, rounds-rounds, rounds-within, length-rounds}
 pub use Rattle.stab_run.proofs.RunLemmas.{after-append, outputs-append, fits-steps}
@@ -118,6 +118,6 @@ pub use Rattle.stab_frames.specs.inner.Propagates.{GoesOver, IsMissing}
 pub use Rattle.stab_frames.proofs.RandomLemmas.{ones-split, asks-later, asks-further, missing-later}
 pub use Rattle.stab_frames.proofs.GoesOverLemmas.{goes-same}
 pub use Rattle.stab_frames.proofs.StepsPropagatedLemmas.{left-over, left-none, drop-over, fits-over, coins-within, coins-less, goes-over, propagation-same, propagation-enough}
-pub use Rattle.stab_frames.specs.inner.RecordedPivots.{PivotsSteps}
+pub use Rattle.stab_frames.specs.inner.RecordedPivots.{PivotsSteps, AreOnQubits, RecordsNoLess}
 pub use Rattle.stab_run.proofs.StepsLeftLemmas.{take-steps, drop-steps, take-none, drop-none, take-empty, drop-empty}
 pub use Rattle.stab_frames.proofs.PivotsStepsLemmas.{pivots-all, pivots-steps}

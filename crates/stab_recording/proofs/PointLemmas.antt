@@ -1,5 +1,5 @@
 -- Points: runs that go on from states on the way, checkpoints of these, and meetings, at which two runs come to points of one future.
-use Rattle.stab_recording.proofs.Names.{◌≡◌, ℕ, ◌+◌, ◌-◌, ◌^◌, ◌<◌, ◌≤◌, refl, sym, ◌∙◌, ap, subst, Bool, ◌⊎◌, inl, inr, List, ◌++◌, length, take, drop, arith, length-append, length-take-le, length-drop, take-append-drop, take-take, take_all, take-add, member, SameGroup, TableauState, stabilises, Step, Lengths, Checkpoint, Meeting, Point, RunOutput, origin, joined, point_after, outputs, looked_up, ones, AgreeAt, MayHaveCoin, ProgramState, IsAt, IsRun, program_state, lengths_of, front_of, rest_of, AgreeBack, with_coin, IsRunFromStart, IsCheckpoint, moved, moved_lengths, moved_checkpoint, Meets, HaveSameFuture, after-append, outputs-append, same-future, flags-are-coins, records-are-records, cut, front-output, rest-output, HasAtMost, outputs-short}
+use Rattle.stab_recording.proofs.Names.{◌≡◌, ℕ, ◌+◌, ◌-◌, ◌^◌, ◌<◌, ◌≤◌, refl, sym, ◌∙◌, ap, subst, Bool, ◌⊎◌, inl, inr, List, ◌++◌, length, take, drop, arith, length-append, length-take-le, length-drop, take-append-drop, take-take, take_all, take-add, member, SameGroup, TableauState, stabilises, Step, Lengths, Checkpoint, Meeting, Point, RunOutput, origin, joined, point_after, outputs, looked_up, ones, AgreeAt, MayHaveCoin, ProgramState, IsAt, IsRun, program_state, lengths_of, front_of, rest_of, AgreeBack, with_coin, IsRunFromStart, IsCheckpoint, moved, moved_lengths, moved_checkpoint, Meets, HaveSameFuture, after-append, outputs-append, same-future, randomness-is-coins, records-are-records, cut, front-output, rest-output, HasAtMost, outputs-short}
 use Rattle.stab_recording.proofs.MeetingLemmas.{looked-last}
 
 -- a run that goes on from a state of a run from the start
@@ -7,7 +7,7 @@ use Rattle.stab_recording.proofs.MeetingLemmas.{looked-last}
 pub shows-from-start : (n : ℕ) (coins : ℕ → Bool) (xs : List Step) (a : ProgramState) → IsRunFromStart n coins xs a → IsAt n a (point_after n coins xs origin)
 shows-from-start n coins xs a h = record {
   group = h.group;
-  coin = ap (λ (o : RunOutput). length o.free) h.output ∙ flags-are-coins n coins xs;
+  coin = ap (λ (o : RunOutput). length o.free) h.output ∙ randomness-is-coins n coins xs;
   records = ap (λ (o : RunOutput). o.records) h.output ∙ records-are-records n coins xs;
 }
 
@@ -68,13 +68,13 @@ begun-from-start n coins xs ys c t o h same tableau front = record {
 -- if the next coin has the same number at a checkpoint, or none decides after it, so it is at the point of the checkpoint
 pub may-have-coin : (n : ℕ) (coins : ℕ → Bool) (xs : List Step) (c : Checkpoint) (free : List Bool) (coin : ℕ) → IsCheckpoint n coins xs c → free ≡ (outputs n coins xs origin).free
     → (coin ≡ c.lengths.free) ⊎ (ones (drop c.lengths.free free) ≡ 0) → MayHaveCoin n coins (drop c.step xs) (point_after n coins (take c.step xs) origin) coin
-may-have-coin n coins xs c free coin h flags (inl same) =
-    inl (sym (flags-are-coins n coins (take c.step xs)) ∙ sym (ap (λ (l : Lengths). l.free) h.lengths) ∙ sym same)
-may-have-coin n coins xs c free coin h flags (inr none) =
+may-have-coin n coins xs c free coin h randomness (inl same) =
+    inl (sym (randomness-is-coins n coins (take c.step xs)) ∙ sym (ap (λ (l : Lengths). l.free) h.lengths) ∙ sym same)
+may-have-coin n coins xs c free coin h randomness (inr none) =
     inr
     (ap ones
     (sym (ap (λ (q : RunOutput). q.free) (rest-output n coins xs c.step))
-    ∙ (λ i. drop (sym (ap (λ (l : Lengths). l.free) h.lengths) i) (sym flags i)))
+    ∙ (λ i. drop (sym (ap (λ (l : Lengths). l.free) h.lengths) i) (sym randomness i)))
     ∙ none)
 
 -- a checkpoint of one run that the other meets is at a point of the same future
@@ -83,9 +83,9 @@ pub meets-agree : (n window : ℕ) (coins : ℕ → Bool) (xs zs : List Step) (c
     → Meets n window t o records free c
     → MayHaveCoin n coins (drop c.step xs) (point_after n coins (take c.step xs) origin) (point_after n coins zs origin).coin
     × AgreeBack n window (with_coin (point_after n coins zs origin).coin (point_after n coins (take c.step xs) origin)) (point_after n coins zs origin)
-meets-agree n window coins xs zs c t o records free h kept flags run meets = (
+meets-agree n window coins xs zs c t o records free h preserved randomness run meets = (
   subst (MayHaveCoin n coins (drop c.step xs) (point_after n coins (take c.step xs) origin)) shown.coin
-      (may-have-coin n coins xs c free (length o.free) h flags meets.coin),
+      (may-have-coin n coins xs c free (length o.free) h randomness meets.coin),
   record {
     group = λ p size. sym (h.group p size) ∙ sym (meets.group p size) ∙ run.group p size;
     coin = refl;
@@ -101,7 +101,7 @@ meets-agree n window coins xs zs c t o records free h kept flags run meets = (
 
     old_records : take c.lengths.records records ≡ (point_after n coins (take c.step xs) origin).records
     old_records =
-        (λ i. take (ap (λ (l : Lengths). l.records) h.lengths i) (kept i))
+        (λ i. take (ap (λ (l : Lengths). l.records) h.lengths i) (preserved i))
         ∙ ap (λ (q : RunOutput). q.records) (front-output n coins xs c.step)
         ∙ records-are-records n coins (take c.step xs)
 
@@ -158,9 +158,9 @@ module _ (n : ℕ) (coins : ℕ → Bool) (xs ys : List Step) (i k : ℕ) (same 
         whole (future (length (drop i xs))).1))))
 
     -- what the one gives from there on is what the other gives
-    pub kept-tail : outputs n coins ys origin
+    pub preserved-tail : outputs n coins ys origin
         ≡ joined (outputs n coins (take k ys) origin) (rest_of (lengths_of (outputs n coins (take i xs) origin)) (outputs n coins xs origin))
-    kept-tail =
+    preserved-tail =
         cut n coins ys k
         ∙ ap (joined (outputs n coins (take k ys) origin))
         (ap (λ zs. outputs n coins zs (point_after n coins (take k ys) origin)) (sym same ∙ sym whole)

@@ -1,5 +1,5 @@
--- Pivots kept: those of the random outcomes of a run, cut and put together as runs are.
-use Rattle.stab_recording.proofs.Names.{◌≡◌, ℕ, zero, suc, ◌+◌, ◌-◌, ◌≤◌, min, refl, sym, ◌∙◌, ap, subst, Bool, true, false, inl, inr, List, [], ◌∷◌, ◌++◌, length, take, drop, All, get_or, nat_lt, arith, if◌then◌else◌, list_any, or_from, leb_tells, length-append, length-drop, length-take, take-length, take-append-drop, get_or-append-add, All-head, All-tail, All-append, All-drop, All-take, All-nil, Letter, Step, makes, lookbacks, looks_too_far, ones, RunOutput, origin, all_coins_of, point_after, outputs, ProgramState, IsAt, ones-append, flags-are-coins, front-output, rest-output, coins-are, most_strings, PivotsState, IsNumbered, AreTrue, KeepsTrue, pivot_at, front_kept, cut_to, LooksWithin, MayHaveCoin, KeepsPivotList, IsSpliced, ArePropagatedOver, true-conjugated, true-append, true-front, true-rest, true-none}
+-- Pivots stored: those of the random outcomes of a run, cut and put together as runs are.
+use Rattle.stab_recording.proofs.Names.{◌≡◌, ℕ, zero, suc, ◌+◌, ◌-◌, ◌≤◌, min, refl, sym, ◌∙◌, ap, subst, Bool, true, false, inl, inr, List, [], ◌∷◌, ◌++◌, length, take, drop, All, get_or, nat_lt, arith, if◌then◌else◌, list_any, or_from, leb_tells, length-append, length-drop, length-take, take-length, take-append-drop, get_or-append-add, All-head, All-tail, All-append, All-drop, All-take, All-nil, Letter, Step, makes, lookbacks, looks_too_far, ones, RunOutput, origin, all_coins_of, point_after, outputs, ProgramState, IsAt, ones-append, randomness-is-coins, front-output, rest-output, coins-are, most_strings, PivotsState, IsNumbered, AreTrue, KeepsTrue, pivot_at, front_stored, cut_to, LooksWithin, MayHaveCoin, KeepsPivotList, IsSpliced, ArePropagatedOver, true-conjugated, true-append, true-front, true-rest, true-none}
 use Rattle.std.proofs.Common.{nat_le}
 use Rattle.std.specs.Prelude.{max}
 use Rattle.stab_recording.proofs.CutLemmas.{ones-take}
@@ -18,14 +18,14 @@ near-enough m r (x ∷ xs) le all =
 
 -- where others are put after them
 
-module _ (s : PivotsState) (flags : List Bool) (numbered : IsNumbered s flags) (strings : List (List Letter)) (free : List Bool) (c : ℕ) where
-  pivot-right : length flags ≡ c → (t : ℕ) → c ≤ t
-      → IsNoneOr (pivot_at (take s.most (s.strings ++ drop (ones (take c free)) strings)) (flags ++ drop c free) t) (pivot_at strings free t)
+module _ (s : PivotsState) (randomness : List Bool) (numbered : IsNumbered s randomness) (strings : List (List Letter)) (free : List Bool) (c : ℕ) where
+  pivot-right : length randomness ≡ c → (t : ℕ) → c ≤ t
+      → IsNoneOr (pivot_at (take s.most (s.strings ++ drop (ones (take c free)) strings)) (randomness ++ drop c free) t) (pivot_at strings free t)
   pivot-right same t le =
-      subst (λ x. x) (λ i. IsNoneOr (pivot_at (take s.most (s.strings ++ drop (ones (take c free)) strings)) (flags ++ drop c free) (from i)) (pivot_at strings free (on i)))
-      (pivot-beyond s flags numbered strings free c (t - c))
+      subst (λ x. x) (λ i. IsNoneOr (pivot_at (take s.most (s.strings ++ drop (ones (take c free)) strings)) (randomness ++ drop c free) (from i)) (pivot_at strings free (on i)))
+      (pivot-beyond s randomness numbered strings free c (t - c))
     where
-      from : length flags + (t - c) ≡ t
+      from : length randomness + (t - c) ≡ t
       from = omega (arith, same, le)
 
       on : c + (t - c) ≡ t
@@ -43,16 +43,16 @@ has_pivots-nothing n coins s free window is empty = record {
 
 -- the front of a run
 module _ (n : ℕ) (coins : ℕ → Bool) (xs : List Step) (s : PivotsState) (free : List Bool) (window : ℕ) (has_pivots : KeepsPivotList n coins xs s free window)
-    (flags : free ≡ (outputs n coins xs origin).free) where
+    (randomness : free ≡ (outputs n coins xs origin).free) where
   front-coins : (i : ℕ) → length (outputs n coins (take i xs) origin).free ≡ all_coins_of (take i xs)
-  front-coins i = flags-are-coins n coins (take i xs) ∙ coins-are n coins (take i xs) origin ∙ omega arith
+  front-coins i = randomness-is-coins n coins (take i xs) ∙ coins-are n coins (take i xs) origin ∙ omega arith
 
-  front-flags : (i : ℕ) → take (all_coins_of (take i xs)) free ≡ (outputs n coins (take i xs) origin).free
-  front-flags i =
-      (λ j. take (sym (front-coins i) j) (flags j))
+  front-randomness : (i : ℕ) → take (all_coins_of (take i xs)) free ≡ (outputs n coins (take i xs) origin).free
+  front-randomness i =
+      (λ j. take (sym (front-coins i) j) (randomness j))
       ∙ ap (λ (o : RunOutput). o.free) (front-output n coins xs i)
 
-  pub has_pivots-front : (i : ℕ) (t : PivotsState) (bits : List Bool) → bits ≡ (outputs n coins (take i xs) origin).free → t ≡ front_kept (ones bits) s
+  pub has_pivots-front : (i : ℕ) (t : PivotsState) (bits : List Bool) → bits ≡ (outputs n coins (take i xs) origin).free → t ≡ front_stored (ones bits) s
       → KeepsPivotList n coins (take i xs) t bits window
   has_pivots-front i t bits is front = record {
     size = ap (λ (u : PivotsState). u.qubits) front ∙ has_pivots.size;
@@ -67,7 +67,7 @@ module _ (n : ℕ) (coins : ℕ → Bool) (xs : List Step) (s : PivotsState) (fr
   }
     where
       front_is : take (all_coins_of (take i xs)) free ≡ bits
-      front_is = front-flags i ∙ sym is
+      front_is = front-randomness i ∙ sym is
 
       few : ones bits ≤ ones free
       few = omega (arith, ones-take (all_coins_of (take i xs)) free, ap ones front_is)
@@ -115,12 +115,12 @@ none-one (false ∷ bits) zero none = refl
 none-one (false ∷ bits) (suc t) none = none-one bits t none
 
 -- a run that goes on by steps which no coin decides records no more pivots
-pub has_pivots-fixed : (n : ℕ) (coins : ℕ → Bool) (xs zs : List Step) (s : PivotsState) (flags more : List Bool) (window : ℕ) → KeepsPivotList n coins xs s flags window
-    → flags ≡ (outputs n coins xs origin).free → ones more ≡ 0 → All (LooksWithin window) zs → KeepsPivotList n coins (xs ++ zs) s (flags ++ more) window
-has_pivots-fixed n coins xs zs s flags more window has_pivots is none near = record {
+pub has_pivots-fixed : (n : ℕ) (coins : ℕ → Bool) (xs zs : List Step) (s : PivotsState) (randomness more : List Bool) (window : ℕ) → KeepsPivotList n coins xs s randomness window
+    → randomness ≡ (outputs n coins xs origin).free → ones more ≡ 0 → All (LooksWithin window) zs → KeepsPivotList n coins (xs ++ zs) s (randomness ++ more) window
+has_pivots-fixed n coins xs zs s randomness more window has_pivots is none near = record {
   size = has_pivots.size;
-  numbered = omega (arith, has_pivots.numbered, ones-append flags more, none);
-  are_true = true-left n coins xs zs s.strings flags more is (omega (arith, has_pivots.numbered)) has_pivots.are_true;
+  numbered = omega (arith, has_pivots.numbered, ones-append randomness more, none);
+  are_true = true-left n coins xs zs s.strings randomness more is (omega (arith, has_pivots.numbered)) has_pivots.are_true;
   near = All-append (LooksWithin window) xs zs has_pivots.near near;
 }
 
@@ -129,21 +129,21 @@ has_pivots-fixed n coins xs zs s flags more window has_pivots is none near = rec
 pub has_pivots-spliced : (n : ℕ) (coins : ℕ → Bool) (xs ys : List Step) (i k : ℕ) → drop i xs ≡ drop k ys
     → MayHaveCoin n coins (drop i xs) (point_after n coins (take i xs) origin) (point_after n coins (take k ys) origin).coin
     → ArePropagatedOver n coins (drop i xs) (point_after n coins (take i xs) origin) (point_after n coins (take k ys) origin)
-    → (s t u : PivotsState) (free flags all : List Bool) (c old_window window : ℕ)
+    → (s t u : PivotsState) (free randomness all : List Bool) (c old_window window : ℕ)
     → KeepsPivotList n coins xs s free old_window → free ≡ (outputs n coins xs origin).free
-    → KeepsPivotList n coins (take k ys) t flags window → flags ≡ (outputs n coins (take k ys) origin).free → old_window ≤ window
+    → KeepsPivotList n coins (take k ys) t randomness window → randomness ≡ (outputs n coins (take k ys) origin).free → old_window ≤ window
     → c ≡ (point_after n coins (take i xs) origin).coin
-    → all ≡ flags ++ drop c free → IsSpliced t s (ones (take c free)) (ones all) u
+    → all ≡ randomness ++ drop c free → IsSpliced t s (ones (take c free)) (ones all) u
     → KeepsPivotList n coins ys u all window
-has_pivots-spliced n coins xs ys i k same coin conjugated s t u free flags all c old_window window old old_flags has_pivots new_flags raised at is spliced = record {
+has_pivots-spliced n coins xs ys i k same coin conjugated s t u free randomness all c old_window window old old_randomness has_pivots new_randomness raised at is spliced = record {
   size = spliced.size ∙ has_pivots.size;
-  numbered = spliced.numbered (omega (arith, long, ap ones is, ones-append flags (drop c free), ones-take c free, old.numbered, has_pivots.numbered));
+  numbered = spliced.numbered (omega (arith, long, ap ones is, ones-append randomness (drop c free), ones-take c free, old.numbered, has_pivots.numbered));
   are_true =
       subst (λ zs. AreTrue n coins (pivot_at u.strings all) zs origin) (take-append-drop k ys)
       (true-append n coins (pivot_at u.strings all) (take k ys) (drop k ys) origin
-      (true-changed n coins (pivot_at t.strings flags) (pivot_at u.strings all) (take k ys) origin
-      (λ m le lt. subst (λ x. x) (λ j. IsNoneOr (pivot_at (sym spliced.strings j) (sym is j) m) (pivot_at t.strings flags m))
-      (pivot-left t flags has_pivots.numbered (drop (ones (take c free)) s.strings) (drop c free) m (omega (arith, lt, coins-are n coins (take k ys) origin, count))))
+      (true-changed n coins (pivot_at t.strings randomness) (pivot_at u.strings all) (take k ys) origin
+      (λ m le lt. subst (λ x. x) (λ j. IsNoneOr (pivot_at (sym spliced.strings j) (sym is j) m) (pivot_at t.strings randomness m))
+      (pivot-left t randomness has_pivots.numbered (drop (ones (take c free)) s.strings) (drop c free) m (omega (arith, lt, coins-are n coins (take k ys) origin, count))))
       has_pivots.are_true)
       (subst (λ zs. AreTrue n coins (pivot_at u.strings all) zs (point_after n coins (take k ys) origin)) same (true_after coin)));
   near =
@@ -152,12 +152,12 @@ has_pivots-spliced n coins xs ys i k same coin conjugated s t u free flags all c
       (subst (All (LooksWithin window)) same (All-drop (LooksWithin window) i xs (within-more old_window window xs raised old.near))));
 }
   where
-    count : length flags ≡ (point_after n coins (take k ys) origin).coin
-    count = ap length new_flags ∙ flags-are-coins n coins (take k ys)
+    count : length randomness ≡ (point_after n coins (take k ys) origin).coin
+    count = ap length new_randomness ∙ randomness-is-coins n coins (take k ys)
 
     rest : drop c free ≡ (outputs n coins (drop i xs) (point_after n coins (take i xs) origin)).free
     rest =
-        (λ j. drop ((at ∙ sym (flags-are-coins n coins (take i xs))) j) (old_flags j))
+        (λ j. drop ((at ∙ sym (randomness-is-coins n coins (take i xs))) j) (old_randomness j))
         ∙ ap (λ (o : RunOutput). o.free) (rest-output n coins xs i)
 
     true_after : MayHaveCoin n coins (drop i xs) (point_after n coins (take i xs) origin) (point_after n coins (take k ys) origin).coin
@@ -165,17 +165,17 @@ has_pivots-spliced n coins xs ys i k same coin conjugated s t u free flags all c
     true_after (inr none) =
         true-none n coins (pivot_at u.strings all) (drop i xs) (point_after n coins (take k ys) origin)
         (λ m le. ap (λ bits. pivot_at u.strings bits m) is
-        ∙ pivot-none u.strings (flags ++ drop c free) m (off m (omega (arith, le, count))))
+        ∙ pivot-none u.strings (randomness ++ drop c free) m (off m (omega (arith, le, count))))
       where
-        off : (m : ℕ) → length flags ≤ m → get_or (flags ++ drop c free) m false ≡ false
+        off : (m : ℕ) → length randomness ≤ m → get_or (randomness ++ drop c free) m false ≡ false
         off m le =
-            ap (λ k. get_or (flags ++ drop c free) k false) {x = m} {y = length flags + (m - length flags)} (omega (arith, le))
-            ∙ get_or-append-add flags (drop c free) (m - length flags) false
-            ∙ none-one (drop c free) (m - length flags) (ap ones rest ∙ none)
+            ap (λ k. get_or (randomness ++ drop c free) k false) {x = m} {y = length randomness + (m - length randomness)} (omega (arith, le))
+            ∙ get_or-append-add randomness (drop c free) (m - length randomness) false
+            ∙ none-one (drop c free) (m - length randomness) (ap ones rest ∙ none)
     true_after (inl same_coin) =
         true-changed n coins (pivot_at s.strings free) (pivot_at u.strings all) (drop i xs) (point_after n coins (take k ys) origin)
         (λ m le lt. subst (λ x. x) (λ j. IsNoneOr (pivot_at (sym spliced.strings j) (sym is j) m) (pivot_at s.strings free m))
-        (pivot-right t flags has_pivots.numbered s.strings free c (count ∙ sym same_coin ∙ sym at) m (omega (arith, le, same_coin, at))))
+        (pivot-right t randomness has_pivots.numbered s.strings free c (count ∙ sym same_coin ∙ sym at) m (omega (arith, le, same_coin, at))))
         (true-conjugated n coins (pivot_at s.strings free) (drop i xs) (point_after n coins (take i xs) origin) (point_after n coins (take k ys) origin) (sym same_coin) conjugated
         (true-rest n coins (pivot_at s.strings free) (take i xs) (drop i xs) origin
         (subst (λ zs. AreTrue n coins (pivot_at s.strings free) zs origin) (sym (take-append-drop i xs)) old.are_true)))
@@ -192,7 +192,7 @@ has_pivots-spliced n coins xs ys i k same coin conjugated s t u free flags all c
 
 pub has_pivots-cut : (n : ℕ) (coins : ℕ → Bool) (xs : List Step) (s t : PivotsState) (free : List Bool) (window : ℕ) → KeepsPivotList n coins xs s free window
     → free ≡ (outputs n coins xs origin).free → t ≡ cut_to (most_strings s.qubits) s → KeepsPivotList n coins xs t free window
-has_pivots-cut n coins xs s t free window has_pivots flags is = record {
+has_pivots-cut n coins xs s t free window has_pivots randomness is = record {
   size = ap (λ (u : PivotsState). u.qubits) is ∙ has_pivots.size;
   numbered =
       omega (
@@ -214,7 +214,7 @@ has_pivots-cut n coins xs s t free window has_pivots flags is = record {
     whole = take-length free
 
     count : length free ≡ all_coins_of xs
-    count = ap length flags ∙ flags-are-coins n coins xs ∙ coins-are n coins xs origin ∙ omega arith
+    count = ap length randomness ∙ randomness-is-coins n coins xs ∙ coins-are n coins xs origin ∙ omega arith
 
 pub cut-few : (n : ℕ) (s t : PivotsState) → s.qubits ≡ n → t ≡ cut_to (most_strings s.qubits) s → t.most ≤ most_strings n
 cut-few n s t size is = omega (arith, ap (λ (u : PivotsState). u.most) is, ap most_strings size)

@@ -1,7 +1,7 @@
 -- Replays: a run that goes on from a checkpoint of an earlier one, what it asks of coins, and where it meets another checkpoint.
-use Rattle.stab_recording.proofs.Names.{◌≡◌, ◌≢◌, ℕ, zero, suc, ◌+◌, ◌-◌, ◌<◌, ◌≤◌, refl, sym, ◌∙◌, ap, subst, Bool, ◌⊎◌, inl, inr, List, [], ◌∷◌, ◌++◌, All, IsSomeAnd, Option, None, Some, slice_get, length, take, drop, arith, option_map, take-append-drop, drop-drop, map-append, All-push, cases_lt, IfSome_then, take-add, TableauState, Step, Lengths, Checkpoint, Replay, Plan, Between, RunOutput, origin, all_coins_of, point_after, outputs, AgreeAt, ProgramState, IsAt, IsRun, program_state, output_of, Near, last_of, lengths_of, IsRunFromStart, IsCheckpoint, checkpoint_steps, KeepsTrue, LooksWithin, KeepsPivotList, IsAtStep, Ascending, MeetsAt, IsPlacedAt, Misses, EndsSoon, step_among_new, spacing_of, checkpoint_of, IsAtStop, IsOnWay, StopsAt, IsArrival, Meets, flags-are-coins, records-are-records, coins-append}
+use Rattle.stab_recording.proofs.Names.{◌≡◌, ◌≢◌, ℕ, zero, suc, ◌+◌, ◌-◌, ◌<◌, ◌≤◌, refl, sym, ◌∙◌, ap, subst, Bool, ◌⊎◌, inl, inr, List, [], ◌∷◌, ◌++◌, All, IsSomeAnd, Option, None, Some, slice_get, length, take, drop, arith, option_map, take-append-drop, drop-drop, map-append, All-push, cases_lt, IfSome_then, take-add, TableauState, Step, Lengths, Checkpoint, Replay, Plan, Between, RunOutput, origin, all_coins_of, point_after, outputs, AgreeAt, ProgramState, IsAt, IsRun, program_state, output_of, Near, last_of, lengths_of, IsRunFromStart, IsCheckpoint, checkpoint_steps, KeepsTrue, LooksWithin, KeepsPivotList, AreOnQubits, RecordsNoLess, IsAtStep, Ascending, MeetsAt, IsPlacedAt, Misses, EndsSoon, step_among_new, spacing_of, checkpoint_of, IsAtStop, IsOnWay, StopsAt, IsArrival, Meets, randomness-is-coins, records-are-records, coins-append}
 use Rattle.std.proofs.Common.{IfSome}
-use Rattle.stab_recording.specs.RecordedSteps.{AreOnQubits, HasRecorded, KeepsRecorded}
+use Rattle.stab_recording.specs.RecordedSteps.{HasRecorded}
 use Rattle.stab_recording.proofs.RecordedReplayLemmas.{has_pivots-on}
 use Rattle.stab_recording.proofs.PointLemmas.{resumed, shows-from-start}
 
@@ -20,10 +20,10 @@ coins-cut i j ys xs le left =
 
 -- it comes to the other
 pub run-on : (n : ℕ) (coins : ℕ → Bool) (ys : List Step) (old new : Replay) → IsAtStep n coins ys old → old.step ≤ new.step → new.step ≤ length ys
-    → new.tableau.qubits ≡ old.tableau.qubits → AreOnQubits n new.string new.pivots → new.cursor.all ≡ old.cursor.all → KeepsRecorded old.pivots new.pivots → {applied later asked after : ℕ}
+    → new.tableau.qubits ≡ old.tableau.qubits → AreOnQubits n new.string new.pivots → new.cursor.all ≡ old.cursor.all → RecordsNoLess old.pivots new.pivots → {applied later asked after : ℕ}
     → HasRecorded n coins (new.step - old.step) old.cursor new.cursor old.pivots new.pivots (program_state old.tableau (output_of old.outputs)) (program_state new.tableau (output_of new.outputs))
     applied later asked after → IsAtStep n coins ys new
-run-on n coins ys old new h order within qubits sized all kept recorded = record {
+run-on n coins ys old new h order within qubits sized all no_less recorded = record {
   qubits = qubits ∙ h.qubits;
   string = sized.string;
   all = all ∙ h.all;
@@ -32,14 +32,14 @@ run-on n coins ys old new h order within qubits sized all kept recorded = record
   run =
       subst (λ xs. IsRunFromStart n coins xs now) (sym (take-add old.step (new.step - old.step) ys) ∙ ap (λ k. take k ys) further)
       (resumed n coins (take old.step ys) (take (new.step - old.step) (drop old.step ys)) before now h.run
-      (subst (λ xs. IsRun n coins (take (new.step - old.step) xs) before now) h.left recorded.steps.run));
+      (subst (λ xs. IsRun n coins (take (new.step - old.step) xs) before now) h.left recorded.done.pivots.run));
   scratch = sized.scratch;
   has_pivots =
       subst (λ xs. KeepsPivotList n coins xs new.pivots.strings new.outputs.free.items new.pivots.window) (sym (take-add old.step (new.step - old.step) ys) ∙ ap (λ k. take k ys) further)
       (has_pivots-on n coins (take old.step ys) (take (new.step - old.step) (drop old.step ys)) old.pivots.strings new.pivots.strings before now old.pivots.window new.pivots.window h.has_pivots
-      (shows-from-start n coins (take old.step ys) before h.run) sized.strings kept.most kept.raised
-      (subst (λ xs. All (LooksWithin new.pivots.window) (take (new.step - old.step) xs)) h.left recorded.steps.within)
-      (subst (λ xs. KeepsTrue n coins (take (new.step - old.step) xs) old.pivots.strings new.pivots.strings before now) h.left recorded.steps.has_pivots));
+      (shows-from-start n coins (take old.step ys) before h.run) sized.strings no_less.most no_less.raised
+      (subst (λ xs. All (LooksWithin new.pivots.window) (take (new.step - old.step) xs)) h.left recorded.done.pivots.within)
+      (subst (λ xs. KeepsTrue n coins (take (new.step - old.step) xs) old.pivots.strings new.pivots.strings before now) h.left recorded.done.pivots.has_pivots));
 }
   where
     before : ProgramState
@@ -78,14 +78,14 @@ near-more K a e (b ∷ xs) h = (h.0, h.1, near-more K b e xs h.2)
 agree-meets : (n window : ℕ) (coins : ℕ → Bool) (xs zs : List Step) (c : Checkpoint) (t : TableauState) (o : RunOutput) (records free : List Bool) → IsRunFromStart n coins zs (program_state t o)
     → IsCheckpoint n coins xs c → take c.lengths.records records ≡ (outputs n coins (take c.step xs) origin).records
     → AgreeAt n (point_after n coins (take c.step xs) origin) (point_after n coins zs origin) → Meets n window t o records free c
-agree-meets n window coins xs zs c t o records free run h kept agree = record {
+agree-meets n window coins xs zs c t o records free run h preserved agree = record {
   group = λ p size. run.group p size ∙ sym (agree.group p size) ∙ sym (h.group p size);
   coin =
       inl (now.coin
       ∙ sym agree.coin
-      ∙ sym (flags-are-coins n coins (take c.step xs))
+      ∙ sym (randomness-is-coins n coins (take c.step xs))
       ∙ sym (ap (λ (l : Lengths). l.free) h.lengths));
-  records = ap (λ bits. drop (length bits - window) bits) (same ∙ sym kept);
+  records = ap (λ bits. drop (length bits - window) bits) (same ∙ sym preserved);
 }
   where
     now : IsAt n (program_state t o) (point_after n coins zs origin)
@@ -181,10 +181,10 @@ module _ (n : ℕ) (coins : ℕ → Bool) (begin : ℕ) (p : Plan) (ys : List St
 
   -- if it does not meet a checkpoint at its step, the runs do not agree there
   misses : (r : Replay) (free : List Bool) (c : Checkpoint) → IsAtStep n coins ys r → step_among_new p c ≡ r.step → (MeetsAt n p r old free c → ⊥) → Misses n coins p ys old c
-  misses r free c h position distinct xs is_checkpoint kept agree =
+  misses r free c h position distinct xs is_checkpoint preserved agree =
       distinct (
         position,
-        agree-meets n p.window coins xs (take r.step ys) c r.tableau (output_of r.outputs) old free h.run is_checkpoint kept
+        agree-meets n p.window coins xs (take r.step ys) c r.tableau (output_of r.outputs) old free h.run is_checkpoint preserved
             (subst (λ k. AgreeAt n (point_after n coins (take c.step xs) origin) (point_after n coins (take k ys) origin)) position agree),
       )
 

@@ -1,5 +1,5 @@
 -- Frames over the rest: a frame propagated over some of the steps, then some more, and the next checkpoint.
-use Rattle.stab_recording.proofs.Names.{All-drop, StepFits, PivotsState, ◌≡◌, ◌≢◌, ℕ, suc, ◌+◌, ◌-◌, ◌<◌, ◌≤◌, refl, sym, ◌∙◌, ap, subst, Bool, true, false, List, [], ◌∷◌, ◌++◌, append-nil, length, replicate, take, drop, slice_get, get_or, All, Option, Some, ◌⊎◌, inl, inr, arith, take-add, take-suc, drop-cons, drop-append_seam, take-append-drop, length-take, length-drop, length-append, drop-drop, slice_get_read, All-nil, All-cons, All-get_or, Letter, I, Signed, TableauState, stabilises, IsConjugated, Step, looked_up, ones, Point, RunOutput, all_coins_of, given, next_point, point_after, outputs, outputs-append, coins-steps, coins-append, coins-are, IsMissing, flags-given, same_coins, frame_over, AreEnough, pivot_at, AreTrue, Stop, Gone, NoString, IsStop, PropagationState, frame_at, IsPlaced, IsGone, PropagatesOver, enough-append, true-rest, over-append, Checkpoint, AreEnoughBy, AreInOrder, IsPropagatedAfter, ArePropagatedCheckpoints, Stabilise, FramesSome, Ending, IsLastDiffering, IsRestFrame}
+use Rattle.stab_recording.proofs.Names.{All-drop, StepFits, PivotsState, ◌≡◌, ◌≢◌, ℕ, suc, ◌+◌, ◌-◌, ◌<◌, ◌≤◌, refl, sym, ◌∙◌, ap, subst, Bool, true, false, List, [], ◌∷◌, ◌++◌, append-nil, length, replicate, take, drop, slice_get, get_or, All, Option, Some, ◌⊎◌, inl, inr, arith, take-add, take-suc, drop-cons, drop-append_seam, take-append-drop, length-take, length-drop, length-append, drop-drop, slice_get_read, All-nil, All-cons, All-get_or, Letter, I, Signed, TableauState, stabilises, IsConjugated, Step, looked_up, ones, Point, RunOutput, all_coins_of, given, next_point, point_after, outputs, outputs-append, coins-steps, coins-append, coins-are, IsMissing, randomness-given, same_coins, frame_over, AreEnough, pivot_at, AreTrue, Stop, Gone, NoString, IsStop, PropagationState, frame_at, IsPlaced, IsGone, PropagatesOver, enough-append, true-rest, over-append, Checkpoint, AreEnoughBy, AreInOrder, IsPropagatedAfter, ArePropagatedCheckpoints, Stabilise, FramesSome, Ending, IsLastDiffering, IsRestFrame}
 use Rattle.stab_recording.specs.declared.propagate.Stop.TheVariants.{After}
 use Rattle.stab_recording.specs.PassedSteps.{MayPropagate}
 use Rattle.stab_recording.proofs.LetterStateLemmas.{conjugated-differs}
@@ -51,20 +51,20 @@ steps-there from at m i window left back c new stop rest le there within stops f
 pub following-determined : (stop : Stop) → stop ≡ After → stop ≢ NoString
 following-determined stop following determined = cc
 
--- flags of steps, one a coin
+-- the randomness of steps, one bit a coin
 
-pub flags-counted : (n : ℕ) (coins : ℕ → Bool) (xs : List Step) (a : Point) → length (outputs n coins xs a).free ≡ all_coins_of xs
-flags-counted n coins [] a = refl
-flags-counted n coins (x ∷ xs) a =
-    let later = flags-counted n coins xs (next_point n coins x a) in
-    omega (arith, later, flags-given n coins x a, length-append (given n coins x a).free (outputs n coins xs (next_point n coins x a)).free)
+pub randomness-counted : (n : ℕ) (coins : ℕ → Bool) (xs : List Step) (a : Point) → length (outputs n coins xs a).free ≡ all_coins_of xs
+randomness-counted n coins [] a = refl
+randomness-counted n coins (x ∷ xs) a =
+    let later = randomness-counted n coins xs (next_point n coins x a) in
+    omega (arith, later, randomness-given n coins x a, length-append (given n coins x a).free (outputs n coins xs (next_point n coins x a)).free)
 
-pub rest-flags : (front rest flags : List Bool) (coin some later : ℕ) → front ++ rest ≡ drop coin flags → length front ≡ some → later ≡ coin + some → rest ≡ drop later flags
-rest-flags front rest flags coin some later e long at =
+pub rest-randomness : (front rest randomness : List Bool) (coin some later : ℕ) → front ++ rest ≡ drop coin randomness → length front ≡ some → later ≡ coin + some → rest ≡ drop later randomness
+rest-randomness front rest randomness coin some later e long at =
     sym (drop-append_seam front rest)
     ∙ (λ i. drop (long i) (e i))
-    ∙ drop-drop some coin flags
-    ∙ ap (λ k. drop k flags) (sym at)
+    ∙ drop-drop some coin randomness
+    ∙ ap (λ k. drop k randomness) (sym at)
 
 -- pivots that are enough over some steps, and then over some more
 
@@ -72,17 +72,17 @@ enough-more : (n : ℕ) (strings : ℕ → Option (List Letter)) (free : List Bo
     → PropagatesOver n strings (take k back) old now → AreEnoughBy n strings free back k old → AreEnoughBy n strings free (drop k back) m now
     → (coins : ℕ → Bool) (a : Point) (base : ℕ) → a.coin ≡ old.coin → AreTrue n coins strings back a → (outputs n coins back a).free ≡ drop old.coin free
     → AreEnough n coins (same_coins strings) (take (k + m) back) (frame_at base old) a
-enough-more n strings free back k m old now over first next coins a base same is flags =
+enough-more n strings free back k m old now over first next coins a base same is randomness =
     subst (λ xs. AreEnough n coins (same_coins strings) xs (frame_at base old) a) (sym (take-add k m back))
-    (enough-append n coins (same_coins strings) (take k back) (take m (drop k back)) (frame_at base old) a (first coins a base same is flags)
+    (enough-append n coins (same_coins strings) (take k back) (take m (drop k back)) (frame_at base old) a (first coins a base same is randomness)
     (subst (λ f. AreEnough n coins (same_coins strings) (take m (drop k back)) f there) frame_is
     (next coins there base coin_is
     (true-rest n coins strings (take k back) (drop k back) a (subst (λ ys. AreTrue n coins strings ys a) (sym (take-append-drop k back)) is))
-    (rest-flags (outputs n coins (take k back) a).free (outputs n coins (drop k back) there).free free old.coin (all_coins_of (take k back)) now.coin
+    (rest-randomness (outputs n coins (take k back) a).free (outputs n coins (drop k back) there).free free old.coin (all_coins_of (take k back)) now.coin
     (sym (ap (λ (o : RunOutput). o.free) (outputs-append n coins (take k back) (drop k back) a))
     ∙ ap (λ ys. (outputs n coins ys a).free) (take-append-drop k back)
-    ∙ flags)
-    (flags-counted n coins (take k back) a) over.coin))))
+    ∙ randomness)
+    (randomness-counted n coins (take k back) a) over.coin))))
   where
     there : Point
     there = point_after n coins (take k back) a
@@ -195,9 +195,9 @@ past-next {n} {strings} {free} {back} {from} {steps} {ts} {old} {new} j checkpoi
     front = ap (λ k. take k checkpoints) {y = suc j} (omega arith) ∙ take-suc checkpoints j c lt ∙ ap (λ d. take j checkpoints ++ d ∷ []) (sym is)
 
 -- a frame that may be propagated over some steps may go on over those that are left of them
-pub may-later : (kept : PivotsState) (free : List Bool) (xs ys : List Step) (a b : ℕ) (w v : PropagationState) (k : ℕ) → MayPropagate kept free 0 xs a w → length v.letters ≡ length w.letters
-    → ys ≡ drop k xs → IsPlaced free v → v.coin + length ys ≤ w.coin + length xs → b + length ys ≤ a + length xs → MayPropagate kept free 0 ys b v
-may-later kept free xs ys a b w v k may size rest placed coin counted = record {
+pub may-later : (stored : PivotsState) (free : List Bool) (xs ys : List Step) (a b : ℕ) (w v : PropagationState) (k : ℕ) → MayPropagate stored free 0 xs a w → length v.letters ≡ length w.letters
+    → ys ≡ drop k xs → IsPlaced free v → v.coin + length ys ≤ w.coin + length xs → b + length ys ≤ a + length xs → MayPropagate stored free 0 ys b v
+may-later stored free xs ys a b w v k may size rest placed coin counted = record {
   same_length = may.same_length ∙ sym size;
   fits = subst (λ m. All (StepFits m) ys) (sym size) (subst (All (StepFits (length w.letters))) (sym rest) (All-drop (StepFits (length w.letters)) k xs may.fits));
   placed = placed;
@@ -212,9 +212,9 @@ module _ {n : ℕ} {strings : List (List Letter)} {free : List Bool} {back : Lis
   pub short-left : length left ≤ length back
   short-left = omega (arith, ap length rest, length-drop k back)
 
-  pub may-further : (kept : PivotsState) (first by_frame : ℕ) → by_frame ≤ first + k → n ≡ length old.letters → MayPropagate kept free 0 back first old → MayPropagate kept free 0 left by_frame now
-  may-further kept first by_frame so size may =
-      may-later kept free back left first by_frame old now k may (past.size ∙ size) rest past.placed
+  pub may-further : (stored : PivotsState) (first by_frame : ℕ) → by_frame ≤ first + k → n ≡ length old.letters → MayPropagate stored free 0 back first old → MayPropagate stored free 0 left by_frame now
+  may-further stored first by_frame so size may =
+      may-later stored free back left first by_frame old now k may (past.size ∙ size) rest past.placed
       (omega (arith, past.propagated.coin, coins-steps (take k back), length-take k back, ap length rest, length-drop k back, past.within))
       (omega (arith, so, ap length rest, length-drop k back, past.within))
 

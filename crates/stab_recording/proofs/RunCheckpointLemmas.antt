@@ -4,7 +4,7 @@ use Rattle.stab_recording.proofs.Names.{◌≡◌, ℕ, ◌≤◌, refl, sym, �
 -- a checkpoint's lists are no longer than the run's
 pub lengths-within : (n : ℕ) (coins : ℕ → Bool) (xs : List Step) (o : RunOutput) (c : Checkpoint) → IsCheckpoint n coins xs c → o ≡ outputs n coins xs origin
     → (c.lengths.free ≤ length o.free) × (c.lengths.records ≤ length o.records)
-lengths-within n coins xs o c is kept = (
+lengths-within n coins xs o c is preserved = (
   omega (arith, ap (λ (l : Lengths). l.free) is.lengths, ap (λ (q : RunOutput). length q.free) whole, length-append front.free back.free),
   omega (arith, ap (λ (l : Lengths). l.records) is.lengths, ap (λ (q : RunOutput). length q.records) whole, length-append front.records back.records),
 )
@@ -16,7 +16,7 @@ lengths-within n coins xs o c is kept = (
     back = outputs n coins (drop c.step xs) (point_after n coins (take c.step xs) origin)
 
     whole : o ≡ joined front back
-    whole = kept ∙ cut n coins xs c.step
+    whole = preserved ∙ cut n coins xs c.step
 
 -- a checkpoint is one of the steps up to a later one
 pub checkpoint-before : (n : ℕ) (coins : ℕ → Bool) (ys : List Step) (k : ℕ) (c : Checkpoint) → IsCheckpoint n coins ys c → c.step ≤ k → k ≤ length ys → IsCheckpoint n coins (take k ys) c
@@ -30,15 +30,15 @@ checkpoint-before n coins ys k c is le within = record {
 -- the records of a run at a checkpoint
 pub records-at : (n : ℕ) (coins : ℕ → Bool) (xs : List Step) (o : RunOutput) (c : Checkpoint) → IsCheckpoint n coins xs c → o ≡ outputs n coins xs origin
     → take c.lengths.records o.records ≡ (point_after n coins (take c.step xs) origin).records
-records-at n coins xs o c is kept =
-    (λ i. take (ap (λ (l : Lengths). l.records) is.lengths i) (kept i).records)
+records-at n coins xs o c is preserved =
+    (λ i. take (ap (λ (l : Lengths). l.records) is.lengths i) (preserved i).records)
     ∙ ap (λ (q : RunOutput). q.records) (front-output n coins xs c.step)
     ∙ records-are-records n coins (take c.step xs)
 
 pub own-records : (n : ℕ) (coins : ℕ → Bool) (ys : List Step) (k : ℕ) (o : RunOutput) (c : Checkpoint) → IsCheckpoint n coins ys c → c.step ≤ k → k ≤ length ys
     → o ≡ outputs n coins (take k ys) origin → take c.lengths.records o.records ≡ (point_after n coins (take c.step ys) origin).records
-own-records n coins ys k o c is before within kept =
-    records-at n coins (take k ys) o c (checkpoint-before n coins ys k c is before within) kept
+own-records n coins ys k o c is before within preserved =
+    records-at n coins (take k ys) o c (checkpoint-before n coins ys k c is before within) preserved
     ∙ ap (λ zs. (point_after n coins zs origin).records) (take-take c.step k ys before)
 
 -- a run that has the state of a checkpoint of its own, and the same newest records, agrees with what it was there

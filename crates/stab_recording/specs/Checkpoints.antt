@@ -22,6 +22,6 @@ pub record IsCheckpoint (n : ℕ) (coins : ℕ → Bool) (xs : List Step) (c : C
   pub group : SameGroup n (stabilises c.tableau) (member (point_after n coins (take c.step xs) origin).trace)
   pub lengths : c.lengths ≡ lengths_of (outputs n coins (take c.step xs) origin)
 
--- the steps that checkpoints are kept before
+-- the steps that checkpoints are stored before
 abbrev pub checkpoint_steps : List Checkpoint → List ℕ
 checkpoint_steps = map (λ c. c.step)

@@ -1,4 +1,4 @@
--- What a replay needs that follows an old run: its steps, its plan, and what is kept of that run.
+-- What a replay needs that follows an old run: its steps, its plan, and what is stored of that run.
 -- Source: this project's own.
 use Rattle.std.specs.Prelude.{◌≡◌, ℕ, ◌+◌, ◌≤◌, Bool, List, [], None, All, length, drop}
 use Rattle.stab_items.specs.Items.{Items}

@@ -7,7 +7,7 @@ use Rattle.stab_run.specs.Records.{ones}
 use Rattle.stab_run.specs.Points.{RunOutput}
 use Rattle.stab_recording.specs.declared.checkpoint.Checkpoint.{Checkpoint}
 
--- a checkpoint of an old run, which has these records and flags, is of a state that another run has come to: the same strings stabilise, the newest
+-- a checkpoint of an old run, which has these records and this randomness, is of a state that another run has come to: the same strings stabilise, the newest
 -- records are the same, and the next coin has the same number, unless no coin decides after the checkpoint
 pub record Meets (n window : ℕ) (t : TableauState) (o : RunOutput) (old free : List Bool) (c : Checkpoint) : Type 0 where
   pub group : SameGroup n (stabilises t) (stabilises c.tableau)

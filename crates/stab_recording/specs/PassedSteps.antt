@@ -12,7 +12,7 @@ use Rattle.stab_recording.specs.declared.propagate.Propagated.{Propagated}
 use Rattle.stab_recording.specs.declared.propagate.Stop.TheVariants.{NoString}
 use Rattle.stab_recording.specs.Stops.{IsStop}
 
--- a frame can be propagated over these steps of a run with these pivots and flags: it is on as many qubits, knows its position among the flags, and
+-- a frame can be propagated over these steps of a run with these pivots and this randomness: it is on as many qubits, knows its position in the randomness, and
 -- coin numbers, of which those of the other run are this much greater, and the count of steps stay far below 2 ^ 64
 pub record MayPropagate (strings : PivotsState) (free : List Bool) (ahead : ℕ) (left : List Step) (passed : ℕ) (w : PropagationState) : Type 0 where
   pub same_length : strings.qubits ≡ length w.letters

@@ -1,12 +1,12 @@
--- Pivots kept: what is kept of a run beside its state, so that frames can be propagated over its steps.
+-- Pivots stored: what is stored of a run beside its state, so that frames can be propagated over its steps.
 -- Source: this project's own.
 use Rattle.std.specs.Prelude.{◌≡◌, ℕ, ◌≤◌, min, Bool, List, All, length, drop}
 use Rattle.stab_items.specs.Steps.{Step}
 use Rattle.stab_run.specs.Points.{origin}
-use Rattle.stab_frames.specs.Pivots.{PivotsState, IsNumbered, AreTrue, pivot_at, kept_with}
+use Rattle.stab_frames.specs.Pivots.{PivotsState, IsNumbered, AreTrue, pivot_at, stored_with}
 use Rattle.stab_items.specs.Steps.{LooksWithin}
 
--- strings that were kept of the run of these steps, which has these flags, exchange its random outcomes; and the steps look back to
+-- strings that were stored of the run of these steps, which has this randomness, exchange its random outcomes; and the steps look back to
 -- no more records than the lookback window
 pub record KeepsPivotList (n : ℕ) (coins : ℕ → Bool) (xs : List Step) (strings : PivotsState) (free : List Bool) (window : ℕ) : Type 0 where
   pub size : strings.qubits ≡ n
@@ -17,5 +17,5 @@ pub record KeepsPivotList (n : ℕ) (coins : ℕ → Bool) (xs : List Step) (str
 -- strings with others after them, from one of these on, if this many outcomes are random in all
 pub record IsSpliced (front others : PivotsState) (from count : ℕ) (new : PivotsState) : Type 0 where
   pub size : new.qubits ≡ front.qubits
-  pub strings : new.strings ≡ kept_with front.most front.strings (drop from others.strings)
+  pub strings : new.strings ≡ stored_with front.most front.strings (drop from others.strings)
   pub numbered : length new.strings ≤ count → length new.strings ≡ min count new.most

@@ -1,4 +1,4 @@
--- Replays: how a run that begins, and may end, like a kept one is made from it.
+-- Replays: how a run that begins, and may end, like an old one is made from it.
 -- Source: this project's own.
 use Rattle.std.specs.Prelude.{◌≡◌, ℕ, ◌+◌, ◌-◌, ◌/◌, ◌<◌, ◌≤◌, min, nat_le, Bool, if◌then◌else◌, ◌⊎◌, Option, Some, None, List, [], ◌∷◌, ◌++◌, All, IfSome, IsSomeAnd, length, take, drop, slice_get}
 use Rattle.stab_items.specs.Steps.{Step}

@@ -15,7 +15,7 @@ use Rattle.stab_frames.specs.Pivots.{AreTrue, pivot_at}
 use Rattle.stab_frames.specs.Propagations.{PropagationState, frame_at, IsGone, PropagatesOver}
 use Rattle.stab_recording.specs.declared.checkpoint.Checkpoint.{Checkpoint}
 
--- a propagation over steps finds enough pivots for every run that these strings and flags are of
+-- a propagation over steps finds enough pivots for every run that these strings and this randomness are of
 abbrev pub AreEnoughBy : ℕ → (ℕ → Option (List Letter)) → List Bool → List Step → ℕ → PropagationState → Type 0
 AreEnoughBy n strings free left steps w =
     (coins : ℕ → Bool) (a : Point) (base : ℕ) → a.coin ≡ w.coin → AreTrue n coins strings left a → (outputs n coins left a).free ≡ drop w.coin free
@@ -59,11 +59,11 @@ FramesSome letters t =
 
 -- how a frame ends that passed this many steps: it passed all, past all checkpoints, or is gone, or it is dropped at the first checkpoint that
 -- was not conjugated
-pub data Ending (n : ℕ) (window : ℕ) (back : List Step) (from steps : ℕ) (kept : List Checkpoint) (conjugated : List TableauState) (last new : PropagationState) : Type 0 where
-  over : steps ≡ length back → length conjugated ≡ length kept → new ≡ last → Ending n window back from steps kept conjugated last new
-  gone : ((base : ℕ) → IsGone n window (frame_at base new)) → new ≡ last → Ending n window back from steps kept conjugated last new
-  dropped : (c : Checkpoint) → slice_get kept (length conjugated) ≡ Some c → c.step - from ≡ steps → IsDropped n window c last new
-      → Ending n window back from steps kept conjugated last new
+pub data Ending (n : ℕ) (window : ℕ) (back : List Step) (from steps : ℕ) (stored : List Checkpoint) (conjugated : List TableauState) (last new : PropagationState) : Type 0 where
+  over : steps ≡ length back → length conjugated ≡ length stored → new ≡ last → Ending n window back from steps stored conjugated last new
+  gone : ((base : ℕ) → IsGone n window (frame_at base new)) → new ≡ last → Ending n window back from steps stored conjugated last new
+  dropped : (c : Checkpoint) → slice_get stored (length conjugated) ≡ Some c → c.step - from ≡ steps → IsDropped n window c last new
+      → Ending n window back from steps stored conjugated last new
 
 -- some stabiliser of the last of the checkpoints that were conjugated is none of what was made of it
 abbrev pub IsLastDiffering : (n : ℕ) → List Checkpoint → List TableauState → Type 0
@@ -74,16 +74,16 @@ IsLastDiffering n (c ∷ checkpoints) (t ∷ u ∷ conjugated) = IsLastDiffering
 
 -- a frame was propagated over this many steps and ended there; its pivots were enough; the checkpoints on its way were conjugated, and if there are any, it
 -- flips a record, or flips the sign of a stabiliser of the last of them
-pub record IsRestFrame (n : ℕ) (strings : List (List Letter)) (free : List Bool) (window : ℕ) (back : List Step) (from : ℕ) (kept : List Checkpoint)
+pub record IsRestFrame (n : ℕ) (strings : List (List Letter)) (free : List Bool) (window : ℕ) (back : List Step) (from : ℕ) (stored : List Checkpoint)
     (conjugated : List TableauState) (old new : PropagationState) : Type 0 where
   pub steps : ℕ
   pub within : steps ≤ length back
   pub last : PropagationState
   pub propagated : PropagatesOver n (pivot_at strings free) (take steps back) old last
   pub enough : AreEnoughBy n (pivot_at strings free) free back steps old
-  pub ends : Ending n window back from steps kept conjugated last new
-  pub checkpoints : ArePropagatedCheckpoints n strings free back from steps old kept conjugated
-  pub differs : 1 ≤ length conjugated → (1 ≤ ones new.flips.records) ⊎ IsLastDiffering n kept conjugated
+  pub ends : Ending n window back from steps stored conjugated last new
+  pub checkpoints : ArePropagatedCheckpoints n strings free back from steps old stored conjugated
+  pub differs : 1 ≤ length conjugated → (1 ≤ ones new.flips.records) ⊎ IsLastDiffering n stored conjugated
 
 -- the first of some checkpoints, with other states
 abbrev pub with_states : List TableauState → List Checkpoint → List Checkpoint

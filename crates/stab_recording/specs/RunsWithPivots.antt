@@ -10,7 +10,7 @@ use Rattle.stab_frames.specs.Limits.{most_strings}
 use Rattle.stab_frames.specs.Pivots.{AreTrue, pivot_at}
 use Rattle.stab_recording.specs.declared.with_pivots.RunWithPivots.{RunWithPivots}
 
--- the shot is the run of the items on n qubits with these coins; the pivots of its first random outcomes are kept, as many as there may
+-- the shot is the run of the items on n qubits with these coins; the pivots of its first random outcomes are stored, as many as there may
 -- be: up to the limit, and more where the run has strings again
 pub record IsRunWithPivots (n : ℕ) (coins : ℕ → Bool) (items : Items) (r : RunWithPivots) : Type 0 where
   pub records : r.shot.records.items ≡ (run_of n coins items).records

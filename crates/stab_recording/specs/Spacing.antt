@@ -1,4 +1,4 @@
--- Spacing: at which steps checkpoints of a run's state are kept.
+-- Spacing: at which steps checkpoints of a run's state are stored.
 -- Source: this project's own.
 use Rattle.std.specs.Prelude.{◌≡◌, ℕ, ◌+◌, ◌<◌, ◌≤◌, List, [], ◌∷◌, ◌++◌, Some, slice_get}
 

@@ -4,7 +4,7 @@ ghost use Rattle.stab_recording.specs.SavedCheckpoints.{saved, all_saved, moved,
 use stab_run::Lengths;
 use stab_tableau::CompactTableau;
 
-/// The state before a step, kept, and how long the lists were there.
+/// The state before a step, stored, and how long the lists were there.
 pub struct Checkpoint {
     pub step: usize,
     pub lengths: Lengths,

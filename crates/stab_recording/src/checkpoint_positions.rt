@@ -13,7 +13,7 @@ const MOST_CHECKPOINTS: usize = 32;
 pub(crate) struct StopSpacing {
     /// How many steps some whole rounds have.
     pub(crate) period: usize,
-    /// How many checkpoints are kept on the way through them, at least 1.
+    /// How many checkpoints are stored on the way through them, at least 1.
     checkpoints: usize,
 }
 
@@ -75,7 +75,7 @@ fn stop_spacing_of(length: usize, least: usize, most: usize) -> Option<StopSpaci
 impl Plan {
     ghost use Rattle.std.specs.Prelude.{◌<◌, ◌≤◌, IfSome};
 
-    /// At which steps of a block checkpoints are kept, so that those of later rounds can be equal to them, if its rounds are not
+    /// At which steps of a block checkpoints are stored, so that those of later rounds can be equal to them, if its rounds are not
     /// too long for that.
     pub(crate) fn stop_spacing(self, block: Repeat) -> Option<StopSpacing>
         requires stride { 1 ≤ self.stride }

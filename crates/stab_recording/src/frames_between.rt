@@ -61,7 +61,7 @@ pub fn frame_between(
     requires same_qubits { checkpoint.now.tableau.qubits ≡ tableau.now.qubits }
     requires within { base ≤ length outputs.now.records.items }
     requires string { length string.old.letters ≡ tableau.now.qubits }
-    requires flags { checkpoint.now.lengths.free ≤ length old.now.free.items }
+    requires randomness { checkpoint.now.lengths.free ≤ length old.now.free.items }
     requires records { checkpoint.now.lengths.records ≤ length old.now.records.items }
     ensures string { length string.new.letters ≡ length string.old.letters }
     ensures propagation { IfOk result (λ found. IfSome found (IsFrameFrom tableau.now (output_of outputs.now) (output_of old.now) base window checkpoint.now)) }

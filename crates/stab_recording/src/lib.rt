@@ -6,13 +6,13 @@
 //! - `recorded_steps`: steps that a run carries out, with pivots of its random outcomes.
 //! - `propagate`: steps on the way of a frame, until all are past, the frame is gone, or a pivot is missing.
 //! - `other_coins`: steps on its way from a run to one that has other coins there.
-//! - `checkpoint`: checkpoints, which are states kept before a step; when they are kept, and how they move.
+//! - `checkpoint`: checkpoints, which are states stored before a step; when they are stored, and how they move.
 //! - `meeting`: whether another run agrees with a checkpoint, or a run with one of its own again.
 //! - `repeated_output`: what a run gave, appended again.
 //! - `frames_between`: the frame by which a run differs from a checkpoint.
 //! - `propagated_output`: what a run gave, repeated as a frame changes it.
 //! - `states`, `rest_of_run`: states that a frame changes, and a frame over the rest of a run.
-//! - `old_run`: what is kept of the run before an edit.
+//! - `old_run`: what is stored of the run before an edit.
 //! - `differing_checkpoints`, `new_checkpoints`, `checkpoint_positions`, `recurrence`, `loop_folding`, `replay`: a run from a checkpoint
 //!   on, up to a checkpoint of an older run at which they agree; where its checkpoints are; and loop folding: rounds of a block that
 //!   come again in it, exactly or up to a frame.
@@ -26,10 +26,10 @@
 //! Sources: Stim's circuit file format, for what the steps of a circuit do to records, detectors and observables;
 //! D. Gottesman, Stabilizer codes and quantum error correction (1997), and S. Aaronson and D. Gottesman, Improved
 //! simulation of stabilizer circuits (2004), section III, for its qubits; C. Gidney, Stim: a fast stabilizer circuit
-//! simulator (2021), for Pauli frames. When checkpoints are kept, and how loops fold, is this project's own.
+//! simulator (2021), for Pauli frames. When checkpoints are stored, and how loops fold, is this project's own.
 //!
 //! Proved: a frame propagated over the steps of a cursor has the letters and flips that the laws of `stab_frames` say, and its pivots
-//! are enough for them. A run gives the records, flags, detectors and observables that the group rules of `stab_run`
+//! are enough for them. A run gives the records, randomness, detectors and observables that the group rules of `stab_run`
 //! (`specs/Runs.antt`) give for the circuit's unrolled steps, and depends on no coin but those that decide; its trace is
 //! sound. Each shot of a sampler is such a run, whatever became of the shots before it. A replay gives what comes after a checkpoint of
 //! its circuit's run, and ends after the last step or at a checkpoint of the older run (`specs/Replays.antt`). `meets`

@@ -106,19 +106,19 @@ impl<'a> Replay<'a> {
     }
 
     /// How many coins a frame asks for that is propagated over a segment once more, if that may be done: if the pivots of all its
-    /// random outcomes are kept, before which there are this many pivots.
+    /// random outcomes are stored, before which there are this many pivots.
     fn coins_again(&self, segment: Segment, number: usize) -> Option<usize>
         ensures count { IfSome result (λ asked. asked ≡ ones (drop segment.from.free (take segment.to.free self.now.outputs.free.items))) }
-        ensures kept { IfSome result (λ asked. number + asked ≤ length self.now.pivots.strings.strings) }
+        ensures preserved { IfSome result (λ asked. number + asked ≤ length self.now.pivots.strings.strings) }
     {
-        let flags = between(
+        let randomness = between(
             self.outputs.free.as_slice(),
             segment.from.free,
             segment.to.free,
         );
-        let asked = count_ones(flags);
-        let kept = self.pivots.strings.len();
-        if number > kept || asked > kept - number {
+        let asked = count_ones(randomness);
+        let preserved = self.pivots.strings.len();
+        if number > preserved || asked > preserved - number {
             return None;
         }
         Some(asked)

@@ -67,11 +67,11 @@ pub fn comes_again(
         && checkpoint.tableau.is_of(tableau)
 }
 
-/// Whether no coin decided, by the flags after this many.
-pub fn are_fixed(flags: &[bool], count: usize) -> bool
-    ensures value { IsTrue result ↔ (ones (drop count flags.now) ≡ 0) }
+/// Whether no coin decided, by the randomness after this many coins.
+pub fn are_fixed(randomness: &[bool], count: usize) -> bool
+    ensures value { IsTrue result ↔ (ones (drop count randomness.now) ≡ 0) }
 {
-    let (_, following) = flags.split_at(count.min(flags.len()));
+    let (_, following) = randomness.split_at(count.min(randomness.len()));
     !has_one(following)
 }
 
@@ -157,7 +157,7 @@ fn same_by_stabilisers(
     Ok(same)
 }
 
-/// Whether the stabilisers of a state from one number to another stabilise another state. If not, the number that is kept
+/// Whether the stabilisers of a state from one number to another stabilise another state. If not, the number that is stored
 /// becomes that of the first that does not.
 ///
 /// Refusal `OutOfMemory` alone.
@@ -211,7 +211,7 @@ fn is_shared(
     }
 }
 
-/// Whether the next coin may have this number at a checkpoint, in a run with these flags: it has it there, or no coin decides later.
+/// Whether the next coin may have this number at a checkpoint, in a run with this randomness: it has it there, or no coin decides later.
 pub fn may_have_coin(checkpoint: &Checkpoint, free: &[bool], coin: usize) -> bool
     ensures value { IsTrue result ↔ ((coin ≡ checkpoint.now.lengths.free) ⊎ (ones (drop checkpoint.now.lengths.free free.now) ≡ 0)) }
 {

@@ -32,7 +32,7 @@ impl Plan {
         ensures near { result ≤ from + self.stride }
         ensures before { IfSome position (λ p. result ≤ p) }
     {
-        // A stride with little room beyond its spacing is kept to.
+        // A stride with little room beyond its spacing is followed.
         if self.stride / 8 <= LOOKED_AT {
             return stop;
         }

@@ -3,7 +3,7 @@
 use crate::checkpoint::Checkpoint;
 use stab_run::Outputs;
 
-/// What is kept of the run of the circuit as it was before an edit.
+/// What is stored of the run of the circuit as it was before an edit.
 #[derive(Clone, Copy)]
 pub struct OldRun<'a> {
     pub checkpoints: &'a [Checkpoint],

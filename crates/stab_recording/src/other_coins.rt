@@ -41,8 +41,8 @@ impl Draw for OtherCoins<'_> {
 }
 
 /// Propagates a frame over the steps that a cursor has left, up to this many, from a run that passed them to one with other coins,
-/// whose next coin has a number this much greater. The one run had these flags, these outcomes there,
-/// and pivots of all its random outcomes so far are kept. It asks for the coin of each random outcome at most once, and for no other.
+/// whose next coin has a number this much greater. The one run had this randomness, these outcomes there,
+/// and pivots of all its random outcomes so far are stored. It asks for the coin of each random outcome at most once, and for no other.
 pub fn propagate_with_coins<C: Coins>(
     propagation: &mut Propagation,
     strings: &Pivots,
@@ -57,7 +57,7 @@ pub fn propagate_with_coins<C: Coins>(
     requires fits { All (StepFits (length propagation.old.letters)) cursor.old.left }
     requires placed { IsPlaced free.now propagation.old }
     requires few { ahead + (propagation.old.coin + length cursor.old.left) < 2 ^ 63 }
-    requires kept { ones (take (propagation.old.coin + all_coins_of (take most cursor.old.left)) free.now) ≤ length strings.now.strings }
+    requires preserved { ones (take (propagation.old.coin + all_coins_of (take most cursor.old.left)) free.now) ≤ length strings.now.strings }
     ensures all { cursor.new.all ≡ cursor.old.all }
     ensures left { OnOk result (cursor.new.left ≡ drop most cursor.old.left) }
     ensures length { length propagation.new.letters ≡ length propagation.old.letters }

@@ -23,7 +23,7 @@ pub enum Stop {
     After,
     /// The frame is gone: what comes after is as it was.
     Gone,
-    /// It can't go on: the pivot of a random outcome wasn't kept, and the frame anticommutes with what is measured. No clause says that
+    /// It can't go on: the pivot of a random outcome wasn't stored, and the frame anticommutes with what is measured. No clause says that
     /// it stops for that reason alone.
     NoString,
 }
@@ -88,8 +88,8 @@ pub fn propagate<D: Draw, C: Coins>(
     })
 }
 
-/// Propagates a frame over the steps that a cursor has left, up to this many, of a run with these kept
-/// strings and flags, none of whose steps looks back further than `window` records. It ends if the frame is gone,
+/// Propagates a frame over the steps that a cursor has left, up to this many, of a run with these stored
+/// strings and randomness, none of whose steps looks back further than `window` records. It ends if the frame is gone,
 /// if it may, and else goes on without one. The steps are counted as `propagate` counts them.
 pub fn propagate_steps(
     propagation: &mut Propagation,

@@ -77,7 +77,7 @@ pub fn append_propagated(
     Ok(())
 }
 
-/// Puts strings after the others again, from the one with a number up to another's, unless no further ones are kept.
+/// Puts strings after the others again, from the one with a number up to another's, unless no further ones are stored.
 ///
 /// Refusal `OutOfMemory` alone.
 pub fn repeat_pivots(strings: &mut Pivots, from: usize, to: usize) -> Result<(), Refusal>

@@ -4,7 +4,8 @@ ghost use Rattle.std.specs.Prelude.{◌≡◌, ◌+◌, ◌<◌, ◌≤◌, ◌^
 ghost use Rattle.stab_io.specs.declared.refusal.Refusal.TheVariants.{OutOfMemory};
 ghost use Rattle.stab_run.specs.Points.{all_coins_of};
 ghost use Rattle.stab_run.specs.ProgramStates.{StepFits, program_state, output_of};
-ghost use Rattle.stab_recording.specs.RecordedSteps.{AreOnQubits, HasRecorded, KeepsRecorded};
+ghost use Rattle.stab_frames.specs.inner.RecordedPivots.{AreOnQubits, RecordsNoLess};
+ghost use Rattle.stab_recording.specs.RecordedSteps.{HasRecorded};
 
 use stab_frames::PivotRecorder;
 use stab_io::Refusal;
@@ -38,7 +39,7 @@ pub fn run_recording_pivots<C: Coins>(
     ensures same_coins { C.sequence coins.new ≡ C.sequence coins.old }
     ensures asks { C.asks coins.new ≤ C.asks coins.old + all_coins_of (take most cursor.old.left) }
     ensures recorded { OnOk result (HasRecorded tableau.old.qubits (C.sequence coins.old) most cursor.old cursor.new pivots.old pivots.new (program_state tableau.old (output_of outputs.old)) (program_state tableau.new (output_of outputs.new)) applied.old applied.new (C.asks coins.old) (C.asks coins.new)) }
-    ensures kept { KeepsRecorded pivots.old pivots.new }
+    ensures no_less { RecordsNoLess pivots.old pivots.new }
     ensures err { IfErr result (λ r. r ≡ OutOfMemory) }
 {
     let mut left = most;

@@ -40,7 +40,7 @@ pub struct Replay<'a> {
     pub applied: u64,
     /// How many steps a frame was propagated over.
     pub by_frame: u64,
-    /// The checkpoints kept on the way.
+    /// The checkpoints stored on the way.
     pub saved: Vec<Checkpoint>,
 }
 

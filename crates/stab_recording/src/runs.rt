@@ -40,7 +40,7 @@ fn can_have_frame(repeats: &[Repeat]) -> bool {
 }
 
 /// What strings a run on n qubits keeps before its first step, if only its own frames need some. If no frame can come to be propagated
-/// over rounds of a block, none will be kept, since to find them costs up to a seventh of a run.
+/// over rounds of a block, none will be stored, since to find them costs up to a seventh of a run.
 pub fn pivots_of_frames(alloc: Global, n: usize, repeats: &[Repeat]) -> Pivots
     ensures size { result.qubits ≡ n }
     ensures none { result.strings ≡ [] }

@@ -11,8 +11,7 @@ ghost use Rattle.stab_run.specs.Laws.{DependsOnCoinsAt};
 use crate::whole_run::{Shot, run_whole};
 use stab_io::{Fault, Refusal};
 use stab_items::{Circuit, Repeat};
-use stab_rounds::find_rounds;
-use stab_run::Coins;
+use stab_run::{Coins, find_rounds};
 use std::alloc::Global;
 use std::marker::Model;
 
@@ -110,7 +109,7 @@ impl<'a> Sampler<'a> {
     /// within nested blocks, and for pivots of random outcomes, at most 16 MiB of them, and a pointer
     /// for each that rounds have again. Refusal `OutOfMemory` alone.
     pub fn shot<C: Coins>(&mut self, alloc: Global, coins: &mut C) -> Result<Shot, Refusal>
-        ensures kept { self.new ≡ self.old }
+        ensures preserved { self.new ≡ self.old }
         ensures records { IfOk result (λ s. s.records.items ≡ (run_of self.old.qubits (C.sequence coins.old) self.old.items).records) }
         ensures free { IfOk result (λ s. s.free.items ≡ (run_of self.old.qubits (C.sequence coins.old) self.old.items).free) }
         ensures detectors { IfOk result (λ s. s.detectors.items ≡ (run_of self.old.qubits (C.sequence coins.old) self.old.items).detectors) }

@@ -12,8 +12,7 @@ use crate::whole_run::{Shot, shot_of};
 use stab_frames::{PivotRecorder, Pivots};
 use stab_io::Refusal;
 use stab_items::Circuit;
-use stab_rounds::find_rounds;
-use stab_run::Coins;
+use stab_run::{Coins, find_rounds};
 use std::alloc::Global;
 
 /// A run, and the pivots of its random outcomes: of the first ones, if not all fit.

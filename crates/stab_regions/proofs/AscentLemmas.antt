@@ -1,5 +1,5 @@
 -- Ascents: an ascending list of numbers is that of the numbers that it names.
-use Rattle.stab_regions.proofs.Names.{◌≡◌, ℕ, zero, suc, ◌+◌, ◌<◌, ◌≤◌, refl, sym, ap, ◌∙◌, subst, Bool, true, false, List, [], ◌∷◌, ⊎_elim, arith, ◌==◌, if◌then◌else◌, cases_eq, cases_lt, nat_tests, ◌⊕◌, odd, numbers_where, is_stored, kept_of, AscendsFrom}
+use Rattle.stab_regions.proofs.Names.{◌≡◌, ℕ, zero, suc, ◌+◌, ◌<◌, ◌≤◌, refl, sym, ap, ◌∙◌, subst, Bool, true, false, List, [], ◌∷◌, ⊎_elim, arith, ◌==◌, if◌then◌else◌, cases_eq, cases_lt, nat_tests, ◌⊕◌, odd, numbers_where, is_stored, retained_of, AscendsFrom}
 use Rattle.std.specs.Prelude.{◌&&◌}
 
 -- numbers ascend, from one on up to below another
@@ -114,15 +114,15 @@ ascends-below from below (k ∷ ks) a others =
 
 -- those whose bit is set
 
-kept-step : (kept : List Bool) (f : ℕ → Bool) (i : ℕ) (rest : List ℕ) (b c : Bool) → f i ≡ b → is_stored kept i ≡ c →
-    kept_of kept (if b then i ∷ rest else rest) ≡ (if c && b then i ∷ kept_of kept rest else kept_of kept rest)
-kept-step kept f i rest true true e d = ap (λ t. if t then i ∷ kept_of kept rest else kept_of kept rest) d
-kept-step kept f i rest true false e d = ap (λ t. if t then i ∷ kept_of kept rest else kept_of kept rest) d
-kept-step kept f i rest false true e d = refl
-kept-step kept f i rest false false e d = refl
+preserved-step : (preserved : List Bool) (f : ℕ → Bool) (i : ℕ) (rest : List ℕ) (b c : Bool) → f i ≡ b → is_stored preserved i ≡ c →
+    retained_of preserved (if b then i ∷ rest else rest) ≡ (if c && b then i ∷ retained_of preserved rest else retained_of preserved rest)
+preserved-step preserved f i rest true true e d = ap (λ t. if t then i ∷ retained_of preserved rest else retained_of preserved rest) d
+preserved-step preserved f i rest true false e d = ap (λ t. if t then i ∷ retained_of preserved rest else retained_of preserved rest) d
+preserved-step preserved f i rest false true e d = refl
+preserved-step preserved f i rest false false e d = refl
 
-pub kept-where : (kept : List Bool) (f : ℕ → Bool) (i k : ℕ) → kept_of kept (numbers_where f i k) ≡ numbers_where (λ m. is_stored kept m && f m) i k
-kept-where kept f i zero = refl
-kept-where kept f i (suc k) =
-    kept-step kept f i (numbers_where f (i + 1) k) (f i) (is_stored kept i) refl refl
-    ∙ ap (λ (rest : List ℕ). if is_stored kept i && f i then i ∷ rest else rest) (kept-where kept f (i + 1) k)
+pub preserved-where : (preserved : List Bool) (f : ℕ → Bool) (i k : ℕ) → retained_of preserved (numbers_where f i k) ≡ numbers_where (λ m. is_stored preserved m && f m) i k
+preserved-where preserved f i zero = refl
+preserved-where preserved f i (suc k) =
+    preserved-step preserved f i (numbers_where f (i + 1) k) (f i) (is_stored preserved i) refl refl
+    ∙ ap (λ (rest : List ℕ). if is_stored preserved i && f i then i ∷ rest else rest) (preserved-where preserved f (i + 1) k)

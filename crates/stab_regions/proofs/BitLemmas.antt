@@ -1,6 +1,6 @@
 -- Bits by their numbers: a bit of a run is that of a detector or an observable, and what the pass finds of a parity is what it
 -- finds of that one.
-use Rattle.stab_regions.proofs.Names.{◌≡◌, ℕ, ◌-◌, ◌<◌, ◌≤◌, ◌⊎◌, inl, inr, sym, ◌∙◌, ap, arith, Bool, false, List, [], ◌++◌, lt-ltb, le-ltb, cases_lt, cond-true, cond-false, get_or_append_left, get_or-append_right, Letter, single, anticommute, strings_anticommute-blank_right, diagonal, Step, detectors_of, State, start, run, RunsArePointsWithOutputs, region_of, keep_region, asks_nothing, asks_observable, is_deterministic, steps_before_detector, named_by, region_of_detector, detectors_before, parity_region, parity_kept, parity_deterministic, parity_flips, bit, deterministic_bit, parity_bit}
+use Rattle.stab_regions.proofs.Names.{◌≡◌, ℕ, ◌-◌, ◌<◌, ◌≤◌, ◌⊎◌, inl, inr, sym, ◌∙◌, ap, arith, Bool, false, List, [], ◌++◌, lt-ltb, le-ltb, cases_lt, cond-true, cond-false, get_or_append_left, get_or-append_right, Letter, single, anticommute, strings_anticommute-blank_right, diagonal, Step, detectors_of, State, start, run, RunsArePointsWithOutputs, region_of, keep_region, asks_nothing, asks_observable, is_deterministic, steps_before_detector, named_by, region_of_detector, detectors_before, parity_region, parity_preserved, parity_deterministic, parity_flips, bit, deterministic_bit, parity_bit}
 use Rattle.std.proofs.Common.{nat_lt}
 use Rattle.std.specs.Prelude.{◌&&◌}
 use Rattle.stab_regions.proofs.DetectorLemmas.{detector_bit, count-detectors}
@@ -8,7 +8,7 @@ use Rattle.stab_regions.proofs.RandomLemmas.{flips_asked}
 use Rattle.stab_regions.proofs.ObservableLemmas.{observable_bit}
 use Rattle.stab_regions.proofs.TableLemmas.{flips_detector}
 use Rattle.stab_items.proofs.StepLemmas.{detectors_of-append}
-use Rattle.stab_regions.proofs.ParityLemmas.{region-observable, kept-observable, region-front}
+use Rattle.stab_regions.proofs.ParityLemmas.{region-observable, retained-observable, region-front}
 
 -- the bits of a run
 
@@ -32,10 +32,10 @@ module _ (n D i : ℕ) (back : List Step) where
   region-detector : i < D → detectors_before D back ≤ i → parity_region n D i back ≡ region_of_detector n (i - detectors_before D back) back
   region-detector lt le = cond-true (nat_lt i D) _ _ (lt-ltb i D lt) ∙ cond-false (nat_lt i (detectors_before D back)) _ _ (le-ltb i (detectors_before D back) le)
 
-  kept-detector : i < D → detectors_before D back ≤ i
-      → parity_kept n D i back
+  retained-detector : i < D → detectors_before D back ≤ i
+      → parity_preserved n D i back
       ≡ keep_region n asks_nothing (steps_before_detector (i - detectors_before D back) back) (region_of n (named_by (i - detectors_before D back) back))
-  kept-detector lt le = cond-true (nat_lt i D) _ _ (lt-ltb i D lt) ∙ cond-false (nat_lt i (detectors_before D back)) _ _ (le-ltb i (detectors_before D back) le)
+  retained-detector lt le = cond-true (nat_lt i D) _ _ (lt-ltb i D lt) ∙ cond-false (nat_lt i (detectors_before D back)) _ _ (le-ltb i (detectors_before D back) le)
 
 -- what the pass over all steps finds deterministic
 
@@ -46,7 +46,7 @@ module _ (n i : ℕ) (xs : List Step) where
 
   pub deterministic-detector : i < detectors_of xs → parity_deterministic n (detectors_of xs) i xs ≡ is_deterministic n asks_nothing (steps_before_detector i xs) (named_by i xs)
   deterministic-detector lt =
-      (λ t. kept-detector n (detectors_of xs) i xs lt (omega arith) t && diagonal (region-detector n (detectors_of xs) i xs lt (omega arith) t).string.letters)
+      (λ t. retained-detector n (detectors_of xs) i xs lt (omega arith) t && diagonal (region-detector n (detectors_of xs) i xs lt (omega arith) t).string.letters)
       ∙ ap (λ d. is_deterministic n asks_nothing (steps_before_detector d xs) (named_by d xs)) site
 
   pub value-detector : i < detectors_of xs → parity_bit n (detectors_of xs) i xs ≡ deterministic_bit n asks_nothing (steps_before_detector i xs) (named_by i xs)
@@ -55,7 +55,7 @@ module _ (n i : ℕ) (xs : List Step) where
 
   pub deterministic-observable : detectors_of xs ≤ i → parity_deterministic n (detectors_of xs) i xs ≡ is_deterministic n (asks_observable (i - detectors_of xs)) xs []
   deterministic-observable le =
-      (λ t. kept-observable n (detectors_of xs) i xs le t && diagonal (region-observable n (detectors_of xs) i xs le t).string.letters)
+      (λ t. retained-observable n (detectors_of xs) i xs le t && diagonal (region-observable n (detectors_of xs) i xs le t).string.letters)
 
   pub value-observable : detectors_of xs ≤ i → parity_bit n (detectors_of xs) i xs ≡ deterministic_bit n (asks_observable (i - detectors_of xs)) xs []
   value-observable le = ap (λ r. r.string.negative) (region-observable n (detectors_of xs) i xs le)

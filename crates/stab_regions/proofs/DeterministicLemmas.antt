@@ -40,19 +40,19 @@ module _ (n : ℕ) (coins : ℕ → Bool) (asked : Step → List ℕ) (ks : List
 
   step-reads : (x : Step) (xs : List Step) (p : Point) (b : Bool) → StepFits n x → keep_region n asked (x ∷ xs) (region_of n ks) ≡ true
       → Reads p (at (x ∷ xs)) b → Reads (next_point n coins x p) (at xs) (b ⊕ parity p.records (asked x))
-  step-reads x xs p b fits kept h =
-      reads-next n coins x p (at xs) (b ⊕ parity p.records (asked x)) fits (size-at xs) (and-left _ _ kept)
+  step-reads x xs p b fits preserved h =
+      reads-next n coins x p (at xs) (b ⊕ parity p.records (asked x)) fits (size-at xs) (and-left _ _ preserved)
       (reads-asked (asked x) p (region_before n x (at xs)) b h)
 
   -- what is read is what is asked for at the end
   pub reads-bit : (xs : List Step) (p : Point) (b : Bool) → All (StepFits n) xs → keep_region n asked xs (region_of n ks) ≡ true → IsGood n p.trace
       → Reads p (at xs) b → bit_asked n coins asked xs ks p ≡ b
-  reads-bit [] p b fits kept good h = reads-end n p ks b good h
-  reads-bit (x ∷ xs) p b fits kept good h =
+  reads-bit [] p b fits preserved good h = reads-end n p ks b good h
+  reads-bit (x ∷ xs) p b fits preserved good h =
       let here : StepFits n x = All-head (StepFits n) x xs fits in
       ap (λ y. parity p.records (asked x) ⊕ y)
-      (reads-bit xs (next_point n coins x p) (b ⊕ parity p.records (asked x)) (All-tail (StepFits n) x xs fits) (and-right _ _ kept)
-      (good-next n coins x p here good) (step-reads x xs p b here kept h))
+      (reads-bit xs (next_point n coins x p) (b ⊕ parity p.records (asked x)) (All-tail (StepFits n) x xs fits) (and-right _ _ preserved)
+      (good-next n coins x p here good) (step-reads x xs p b here preserved h))
       ∙ round (parity p.records (asked x)) b
 
 -- the start: all qubits are zero

@@ -118,22 +118,22 @@ clears-reset x q l recorded inverted resets old new e clears =
       };
     })
 
-pub numbers-kept : (x : Step) (old new : RegionRows) → ClearsReset x old new → HasNumbers old x → HasNumbers new x
-numbers-kept x old new clears has = record {
+pub numbers-unchanged : (x : Step) (old new : RegionRows) → ClearsReset x old new → HasNumbers old x → HasNumbers new x
+numbers-unchanged x old new clears has = record {
   record_few = subst (λ k. k < 2 ^ 32) (sym clears.record_end) has.record_few;
   detector_few = subst (λ k. k < 2 ^ 32) (sym clears.detector_end) has.detector_few;
   own = subst (λ d. HasOwn d new.observable x) (sym clears.detector_end) (subst (λ o. HasOwn old.detector_end o x) (sym clears.observable) has.own);
 }
 
 -- what is asked for is not taken away
-asks-kept : (x : Step) (ks : List ℕ) (r : Region) → with_looks ks (cleared_by x r) ≡ cleared_by x (with_looks ks r)
-asks-kept (one g q) ks r = refl
-asks-kept (two g a b) ks r = refl
-asks-kept (controlled l k q) ks r = refl
-asks-kept (collapse l q recorded inverted resets) ks r = refl
-asks-kept (product factors inverted) ks r = refl
-asks-kept (detector js) ks r = refl
-asks-kept (observable j js) ks r = refl
+asks-preserved : (x : Step) (ks : List ℕ) (r : Region) → with_looks ks (cleared_by x r) ≡ cleared_by x (with_looks ks r)
+asks-preserved (one g q) ks r = refl
+asks-preserved (two g a b) ks r = refl
+asks-preserved (controlled l k q) ks r = refl
+asks-preserved (collapse l q recorded inverted resets) ks r = refl
+asks-preserved (product factors inverted) ks r = refl
+asks-preserved (detector js) ks r = refl
+asks-preserved (observable j js) ks r = refl
 
 step-detectors : (b : Bool) (end total made : ℕ) → end ≡ total - made → (if b then end - 1 else end) ≡ total - (if b then 1 + made else made)
 step-detectors true end total made e = omega (arith, e)
@@ -156,7 +156,7 @@ effects-move x old mid new clears moves = λ c back at.
           region_before c.qubits (corrected_by false x)
           (with_looks (asked_about ((clears.record_end ∙ at.record_end) t) ((clears.detector_end ∙ at.detector_end) t) ((clears.observable ∙ at.observable) t) i x)
           (cleared_by x (effect_region c i back))))
-          ∙ ap (region_before c.qubits (corrected_by false x)) (asks-kept x _ (effect_region c i back)))
+          ∙ ap (region_before c.qubits (corrected_by false x)) (asks-preserved x _ (effect_region c i back)))
           (moved.regions i (cleared_by x (effect_region c i back)) (cleared_by-size x (effect_region c i back) ∙ region-size c i back)
           (clears.regions i (effect_region c i back) (at.regions i)));
     }

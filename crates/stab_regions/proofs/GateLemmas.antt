@@ -86,9 +86,9 @@ row-exchanged : (bit : Bool) (old new : List (List ℕ)) (q : ℕ) (r : List ℕ
 row-exchanged true old new q r i lt e = ap (λ rows. odd i (row rows q)) e ∙ ap (odd i) (get_or-set_same old q r [] lt)
 row-exchanged false old new q r i lt e = ap (λ rows. odd i (row rows q)) e
 
-row-kept : (bit : Bool) (old new : List (List ℕ)) (q k : ℕ) (r : List ℕ) → k ≢ q → new ≡ (if bit then set old q r else old) → row new k ≡ row old k
-row-kept true old new q k r ne e = ap (λ rows. row rows k) e ∙ get_or-set_other old q k r [] ne
-row-kept false old new q k r ne e = ap (λ rows. row rows k) e
+row-retained : (bit : Bool) (old new : List (List ℕ)) (q k : ℕ) (r : List ℕ) → k ≢ q → new ≡ (if bit then set old q r else old) → row new k ≡ row old k
+row-retained true old new q k r ne e = ap (λ rows. row rows k) e ∙ get_or-set_other old q k r [] ne
+row-retained false old new q k r ne e = ap (λ rows. row rows k) e
 
 pub images-mix : (g : Gate) (of_x of_z : Letter) (exchanged x_both z_both : Bool) (q : ℕ) (x z mid_x mid_z new_x new_z : List (List ℕ)) → q < length x → q < length z
     → of_x ≡ (letter_image g X).letter → of_z ≡ (letter_image g Z).letter
@@ -107,6 +107,6 @@ images-mix g of_x of_z exchanged x_both z_both q x z mid_x mid_z new_x new_z lx 
       z_here = λ i.
           tz.here i ∙ (λ k. row-exchanged exchanged z mid_z q (row x q) i lz ez k ⊕ (z_both && at_x i k))
           ∙ (λ k. z_mixed (e k) (fx k) (fz k) (odd i (row x q)) (odd i (row z q))) ∙ z-mixed g _ _;
-      x_elsewhere = λ k ne. tx.elsewhere k ne ∙ row-kept exchanged x mid_x q k (row z q) ne ex;
-      z_elsewhere = λ k ne. tz.elsewhere k ne ∙ row-kept exchanged z mid_z q k (row x q) ne ez;
+      x_elsewhere = λ k ne. tx.elsewhere k ne ∙ row-retained exchanged x mid_x q k (row z q) ne ex;
+      z_elsewhere = λ k ne. tz.elsewhere k ne ∙ row-retained exchanged z mid_z q k (row x q) ne ez;
     }

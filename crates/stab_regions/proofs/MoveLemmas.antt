@@ -1,5 +1,5 @@
 -- Moves: what regions at a point become one step before it, if the rows, the records and the marks are changed.
-use Rattle.stab_regions.proofs.Names.{◌≡◌, ℕ, ◌+◌, ◌-◌, ◌<◌, ◌≤◌, ◌^◌, ◌⊎◌, inl, inr, refl, sym, ◌∙◌, ap, subst, arith, Bool, true, false, not, ◌||◌, ◌&&◌, List, [], ◌∷◌, ◌++◌, append-nil, length, take, ne_eqb, cases_lt, Vec, if◌then◌else◌, nat_lt, ◌==◌, slice_index_or, with_items, drop_of_length-le, take-length, length-replicate, I, Step, one, two, controlled, collapse, product, detector, observable, is_detector, Region, region_of, region_before, region_through, with_looks, keeps_region, asks_nothing, asks_observable, named_by_detector, steps_before_detector, named_by, region_of_detector, detectors_before, parity_region, parity_kept, RegionWalk, ShowsNumber, AreRowsSized, HasParity, HasOwn, HasNumbers, asked_of, asked_about, in_front_of, corrected_by, MovesRows, MovesTo}
+use Rattle.stab_regions.proofs.Names.{◌≡◌, ℕ, ◌+◌, ◌-◌, ◌<◌, ◌≤◌, ◌^◌, ◌⊎◌, inl, inr, refl, sym, ◌∙◌, ap, subst, arith, Bool, true, false, not, ◌||◌, ◌&&◌, List, [], ◌∷◌, ◌++◌, append-nil, length, take, ne_eqb, cases_lt, Vec, if◌then◌else◌, nat_lt, ◌==◌, slice_index_or, with_items, drop_of_length-le, take-length, length-replicate, I, Step, one, two, controlled, collapse, product, detector, observable, is_detector, Region, region_of, region_before, region_through, with_looks, keeps_region, asks_nothing, asks_observable, named_by_detector, steps_before_detector, named_by, region_of_detector, detectors_before, parity_region, parity_preserved, RegionWalk, ShowsNumber, AreRowsSized, HasParity, HasOwn, HasNumbers, asked_of, asked_about, in_front_of, corrected_by, MovesRows, MovesTo}
 use Rattle.stab_regions.proofs.DetectorLemmas.{count-other, count-detector}
 use Rattle.stab_regions.proofs.EffectLemmas.{test-same}
 use Rattle.stab_regions.proofs.ReadLemmas.{size-through}
@@ -174,8 +174,8 @@ moves-to x old new there m long marks n D count back h =
           (shown i (region_of n []) (length-replicate n I) (h.others i le));
       random = λ i lt.
           marked_new i (parity_region n D i back) (long-parity n D i back) (h.regions i lt) (omega (arith, lt, h.marks))
-          ∙ marked (keeps_region n x (parity_region n D i back)) (parity_kept n D i back) _ (h.random i lt)
-          ∙ ap not (sym (next i).kept);
+          ∙ marked (keeps_region n x (parity_region n D i back)) (parity_preserved n D i back) _ (h.random i lt)
+          ∙ ap not (sym (next i).preserved);
     }
 
 -- the numbers of a step fit, if its parity is there

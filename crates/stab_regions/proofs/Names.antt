@@ -17,9 +17,9 @@ pub use Rattle.stab_items.specs.StepValues.{step_shown}
 pub use Rattle.stab_items.specs.Items.{Items, done, next, block}
 pub use Rattle.stab_items.specs.Steps.{Step, one, two, collapse, detector, observable, measured, product as measured_product, controlled_step, steps_of, rounds, unroll, past, named_observables, observables_of, detectors_of, controlled, product, is_detector, factor_qubits, check_of, HasDistinctQubits}
 pub use Rattle.stab_items.specs.Views.{circuit_items}
-pub use Rattle.stab_search.proofs.AscendingLemmas.{named-ascending}
-pub use Rattle.stab_search.proofs.Totals.{odd-append}
-pub use Rattle.stab_search.specs.Ascending.{AscendsFrom, IsAscending}
+pub use Rattle.stab_parities.proofs.AscendingLemmas.{named-ascending}
+pub use Rattle.stab_parities.proofs.MergeLemmas.{odd-append}
+pub use Rattle.stab_parities.specs.Ascending.{AscendsFrom, IsAscending}
 pub use Rattle.stab_frames.proofs.ImageLemmas.{first_by, second_by, first_controlled, second_controlled}
 pub use Rattle.stab_frames.proofs.SignLemmas.{sign-sign, product-sign_right, product-sign_left, back-letter}
 pub use Rattle.stab_frames.specs.Images.{has_both, exchanges, controlled_letter}
@@ -64,10 +64,10 @@ pub use Rattle.stab_regions.specs.SingleErrorLaws.{DeterministicParities, Determ
 pub use Rattle.stab_regions.specs.SingleErrors.{numbers_where, bit, Site, SingleError, in_front, single_error_on, single_errors_on, single_errors_from, single_errors_of, sites_at, bits_in, IsDeterministic, IsSingleErrorTable, flips, flipped_by_single_error, single_error_at, RowsAdd, AreDeterministic, with_gate, gates_at, with_gates_from, with_gates, following, marked_at, all_at}
 pub use Rattle.stab_regions.specs.Frames.{SingleErrorFrame, single_error_frame_after, flipped_coins, all_flipped_coins, flipped_from, flipped_with}
 pub use Rattle.stab_regions.specs.Laws.{bit_asked, DeterministicBits, RandomBits}
-pub use Rattle.stab_regions.specs.Parities.{detectors_before, parity_region, parity_kept, parity_deterministic, parity_bit, parity_flips}
+pub use Rattle.stab_regions.specs.Parities.{detectors_before, parity_region, parity_preserved, parity_deterministic, parity_bit, parity_flips}
 pub use Rattle.stab_regions.specs.Regions.{region_of, region_through, keep_region, asks_nothing, asks_observable, is_deterministic, names_newest, product_where, earlier, look_where, Region, region_before, with_looks, keeps_region, before_measured, deterministic_bit}
 pub use Rattle.stab_regions.specs.Rows.{ShowsLetters, MovesLetters, multiplied, MovesRegion, Toggles, TogglesWhere, ShowsLooks, ShowsRegion, bits_at, SameRows}
-pub use Rattle.stab_search.specs.Tables.{odd, row}
+pub use Rattle.stab_parities.specs.OddNumbers.{odd, row}
 pub use Rattle.stab_regions.specs.Tables.{steps_before_detector, named_by, region_of_detector, named_by_detector}
 pub use Rattle.stab_regions.specs.declared.sites.Asked.{Asked}
 pub use Rattle.stab_regions.specs.declared.sites.Asked.TheVariants.{Nowhere, Marked, Everywhere}
@@ -81,5 +81,5 @@ pub use Rattle.stab_regions.specs.inner.Passes.{NamesBelow, numbers_before, Fits
 pub use Rattle.stab_regions.specs.inner.RegionsAt.{AreRowsSized, IsRegionsAt, DetermineDeterministic, HasParity, asked_of, MovesTo}
 pub use Rattle.stab_regions.specs.inner.RowMoves.{ShowsNumber, in_front_of, asked_about, HasOwn, HasNumbers, BeginsRecord, corrected_by, MovesRows}
 pub use Rattle.stab_regions.specs.inner.Sites.{where_asked, sites_asked, step_qubits, sides_asked}
-pub use Rattle.stab_regions.specs.inner.StoredRows.{is_stored, kept_of, rows_cut, Rises, ends_kept}
+pub use Rattle.stab_regions.specs.inner.StoredRows.{is_stored, retained_of, rows_cut, Rises, ends_retained}
 pub use Rattle.stab_regions.specs.inner.Sweeps.{IsWalkAt, parity_row, row_of, IsSwept}

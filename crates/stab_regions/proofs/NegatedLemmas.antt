@@ -1,5 +1,5 @@
 -- Negated regions: one more ! at a record negates each region that names it, and nothing else of any region in front of it.
-use Rattle.stab_regions.proofs.Names.{◌≡◌, ℕ, ◌+◌, ◌-◌, ◌≤◌, refl, sym, ap, ◌∙◌, arith, Bool, true, false, not, ◌&&◌, List, ◌∷◌, [], ◌++◌, if◌then◌else◌, Letter, ◌⊕◌, Factor, Signed, single, with_sign, anticommute, signed_path, sign-sign, inverse, and-left, and-right, Step, one, two, controlled, collapse, product, detector, observable, is_detector, detectors_of, string_of, flip_of, Region, names_newest, earlier, product_where, before_measured, region_before, with_looks, keeps_region, detectors_before, parity_region, parity_kept, asked_of}
+use Rattle.stab_regions.proofs.Names.{◌≡◌, ℕ, ◌+◌, ◌-◌, ◌≤◌, refl, sym, ap, ◌∙◌, arith, Bool, true, false, not, ◌&&◌, List, ◌∷◌, [], ◌++◌, if◌then◌else◌, Letter, ◌⊕◌, Factor, Signed, single, with_sign, anticommute, signed_path, sign-sign, inverse, and-left, and-right, Step, one, two, controlled, collapse, product, detector, observable, is_detector, detectors_of, string_of, flip_of, Region, names_newest, earlier, product_where, before_measured, region_before, with_looks, keeps_region, detectors_before, parity_region, parity_preserved, asked_of}
 use Rattle.stab_regions.proofs.SignLemmas.{parity-left, image-sign, pair-sign}
 use Rattle.stab_regions.proofs.DetectorLemmas.{count-detector}
 use Rattle.stab_regions.proofs.ParityLemmas.{IsNext, is-next}
@@ -23,14 +23,14 @@ measured-negated m recorded inverted corrected b r distinct =
     ∙ times-sign (counts ⊕ corrected) b m (with_sign (counts && inverted) r.string) distinct)
 
 negated-before : (n : ℕ) (x : Step) (b : Bool) (r : Region) → keeps_region n x r ≡ true → region_before n x (negated b r) ≡ negated b (region_before n x r)
-negated-before n (one g q) b r kept = ap (λ s. record { string = s; looks = r.looks }) (image-sign (inverse g) q b r.string)
-negated-before n (two g i j) b r kept = ap (λ s. record { string = s; looks = r.looks }) (pair-sign g i j b r.string)
-negated-before n (controlled l k q) b r kept = refl
-negated-before n (collapse l q recorded inverted resets) b r kept =
-    measured-negated (single n q l) recorded inverted (resets && anticommute (single n q (flip_of l)) r.string) b r (commuting (single n q l) r.string kept)
-negated-before n (product factors inverted) b r kept = measured-negated (string_of n factors) true inverted false b r (commuting (string_of n factors) r.string kept)
-negated-before n (detector ks) b r kept = refl
-negated-before n (observable j ks) b r kept = refl
+negated-before n (one g q) b r preserved = ap (λ s. record { string = s; looks = r.looks }) (image-sign (inverse g) q b r.string)
+negated-before n (two g i j) b r preserved = ap (λ s. record { string = s; looks = r.looks }) (pair-sign g i j b r.string)
+negated-before n (controlled l k q) b r preserved = refl
+negated-before n (collapse l q recorded inverted resets) b r preserved =
+    measured-negated (single n q l) recorded inverted (resets && anticommute (single n q (flip_of l)) r.string) b r (commuting (single n q l) r.string preserved)
+negated-before n (product factors inverted) b r preserved = measured-negated (string_of n factors) true inverted false b r (commuting (string_of n factors) r.string preserved)
+negated-before n (detector ks) b r preserved = refl
+negated-before n (observable j ks) b r preserved = refl
 
 keeps-negated : (n : ℕ) (x : Step) (b : Bool) (r : Region) → keeps_region n x (negated b r) ≡ keeps_region n x r
 keeps-negated n (one g q) b r = refl
@@ -60,7 +60,7 @@ count-following (x ∷ xs) back = omega (arith, count-following xs back, count-l
 -- these steps have, of a parity, the region of those, negated if the bit is 1
 pub record AreNegated (n D i : ℕ) (b : Bool) (new old : List Step) : Type 0 where
   pub region : parity_region n D i new ≡ negated b (parity_region n D i old)
-  pub kept : parity_kept n D i new ≡ parity_kept n D i old
+  pub preserved : parity_preserved n D i new ≡ parity_preserved n D i old
   pub detectors : detectors_of new ≡ detectors_of old
 
 module _ (n D i : ℕ) where
@@ -68,23 +68,23 @@ module _ (n D i : ℕ) where
   pub next-of : (x : Step) (back : List Step) → detectors_of (x ∷ back) ≤ D → IsNext n D i x back
   next-of x back few = is-next n D i x back (λ e. let one_more = count-detector x back e in omega (arith, few, one_more))
 
-  -- what is kept is kept by each step
+  -- what is preserved is so by each step
 
-  pub kept-following : (x : Step) (back : List Step) → detectors_of (x ∷ back) ≤ D → parity_kept n D i (x ∷ back) ≡ true → parity_kept n D i back ≡ true
-  kept-following x back few kept = and-right (keeps_region n x (parity_region n D i back)) (parity_kept n D i back) (sym (next-of x back few).kept ∙ kept)
+  pub preserved-following : (x : Step) (back : List Step) → detectors_of (x ∷ back) ≤ D → parity_preserved n D i (x ∷ back) ≡ true → parity_preserved n D i back ≡ true
+  preserved-following x back few preserved = and-right (keeps_region n x (parity_region n D i back)) (parity_preserved n D i back) (sym (next-of x back few).preserved ∙ preserved)
 
-  pub kept-here : (x : Step) (back : List Step) → detectors_of (x ∷ back) ≤ D → parity_kept n D i (x ∷ back) ≡ true → keeps_region n x (parity_region n D i back) ≡ true
-  kept-here x back few kept = and-left (keeps_region n x (parity_region n D i back)) (parity_kept n D i back) (sym (next-of x back few).kept ∙ kept)
+  pub preserved-here : (x : Step) (back : List Step) → detectors_of (x ∷ back) ≤ D → parity_preserved n D i (x ∷ back) ≡ true → keeps_region n x (parity_region n D i back) ≡ true
+  preserved-here x back few preserved = and-left (keeps_region n x (parity_region n D i back)) (parity_preserved n D i back) (sym (next-of x back few).preserved ∙ preserved)
 
-  pub kept-last : (front back : List Step) → detectors_of (front ++ back) ≤ D → parity_kept n D i (front ++ back) ≡ true → parity_kept n D i back ≡ true
-  kept-last [] back few kept = kept
-  kept-last (x ∷ xs) back few kept = kept-last xs back (omega (arith, few, count-least x (xs ++ back))) (kept-following x (xs ++ back) few kept)
+  pub preserved-last : (front back : List Step) → detectors_of (front ++ back) ≤ D → parity_preserved n D i (front ++ back) ≡ true → parity_preserved n D i back ≡ true
+  preserved-last [] back few preserved = preserved
+  preserved-last (x ∷ xs) back few preserved = preserved-last xs back (omega (arith, few, count-least x (xs ++ back))) (preserved-following x (xs ++ back) few preserved)
 
   -- negated regions stay so
 
-  negated-more : (b : Bool) (x : Step) (new old : List Step) → AreNegated n D i b new old → detectors_of (x ∷ old) ≤ D → parity_kept n D i (x ∷ old) ≡ true
+  negated-more : (b : Bool) (x : Step) (new old : List Step) → AreNegated n D i b new old → detectors_of (x ∷ old) ≤ D → parity_preserved n D i (x ∷ old) ≡ true
       → AreNegated n D i b (x ∷ new) (x ∷ old)
-  negated-more b x new old a few kept =
+  negated-more b x new old a few preserved =
       let same : detectors_of (x ∷ new) ≡ detectors_of (x ∷ old) = count-same x new old a.detectors in
       let r : Region = parity_region n D i old in
       let there = next-of x new (omega (arith, few, same)) in
@@ -95,22 +95,22 @@ module _ (n D i : ℕ) where
             there.region
             ∙ ap (λ d. with_looks (asked_of D (D - d) i x) (region_before n x (parity_region n D i new))) a.detectors
             ∙ ap (λ s. with_looks looks (region_before n x s)) a.region
-            ∙ ap (with_looks looks) (negated-before n x b r (kept-here x old few kept))
+            ∙ ap (with_looks looks) (negated-before n x b r (preserved-here x old few preserved))
             ∙ sym (ap (negated b) here.region);
-        kept =
-            there.kept
-            ∙ (λ t. keeps_region n x (a.region t) && a.kept t)
-            ∙ ap (λ c. c && parity_kept n D i old) (keeps-negated n x b r)
-            ∙ sym here.kept;
+        preserved =
+            there.preserved
+            ∙ (λ t. keeps_region n x (a.region t) && a.preserved t)
+            ∙ ap (λ c. c && parity_preserved n D i old) (keeps-negated n x b r)
+            ∙ sym here.preserved;
         detectors = same;
       }
 
   pub negated-front : (b : Bool) (new old : List Step) → AreNegated n D i b new old → (front : List Step) → detectors_of (front ++ old) ≤ D
-      → parity_kept n D i (front ++ old) ≡ true → AreNegated n D i b (front ++ new) (front ++ old)
-  negated-front b new old a [] few kept = a
-  negated-front b new old a (x ∷ xs) few kept =
+      → parity_preserved n D i (front ++ old) ≡ true → AreNegated n D i b (front ++ new) (front ++ old)
+  negated-front b new old a [] few preserved = a
+  negated-front b new old a (x ∷ xs) few preserved =
       negated-more b x (xs ++ new) (xs ++ old)
-      (negated-front b new old a xs (omega (arith, few, count-least x (xs ++ old))) (kept-following x (xs ++ old) few kept)) few kept
+      (negated-front b new old a xs (omega (arith, few, count-least x (xs ++ old))) (preserved-following x (xs ++ old) few preserved)) few preserved
 
 -- one more ! at a record
 measured-inverted : (m : Signed) (inverted corrected : Bool) (r : Region) → anticommute m r.string ≡ false
@@ -143,24 +143,24 @@ module _ (n D i : ℕ) (back : List Step) where
             there.region
             ∙ (λ t. with_looks (asked t) (turns t))
             ∙ sym (ap (negated named_there) here.region);
-        kept = there.kept ∙ ap (λ c. c && parity_kept n D i back) keeps ∙ sym here.kept;
+        preserved = there.preserved ∙ ap (λ c. c && parity_preserved n D i back) keeps ∙ sym here.preserved;
         detectors = same;
       }
 
   pub collapse-negated : (l : Letter) (q : ℕ) (inverted resets : Bool) → detectors_of (collapse l q true inverted resets ∷ back) ≤ D
-      → parity_kept n D i (collapse l q true inverted resets ∷ back) ≡ true
+      → parity_preserved n D i (collapse l q true inverted resets ∷ back) ≡ true
       → AreNegated n D i named_there (collapse l q true (not inverted) resets ∷ back) (collapse l q true inverted resets ∷ back)
-  collapse-negated l q inverted resets few kept =
+  collapse-negated l q inverted resets few preserved =
       let r : Region = parity_region n D i back in
       inverted-negated (collapse l q true inverted resets) (collapse l q true (not inverted) resets) refl few refl refl
       (measured-inverted (single n q l) inverted (resets && anticommute (single n q (flip_of l)) r.string) r
-      (commuting (single n q l) r.string (kept-here n D i (collapse l q true inverted resets) back few kept)))
+      (commuting (single n q l) r.string (preserved-here n D i (collapse l q true inverted resets) back few preserved)))
 
   pub product-negated : (factors : List Factor) (inverted : Bool) → detectors_of (product factors inverted ∷ back) ≤ D
-      → parity_kept n D i (product factors inverted ∷ back) ≡ true
+      → parity_preserved n D i (product factors inverted ∷ back) ≡ true
       → AreNegated n D i named_there (product factors (not inverted) ∷ back) (product factors inverted ∷ back)
-  product-negated factors inverted few kept =
+  product-negated factors inverted few preserved =
       let r : Region = parity_region n D i back in
       inverted-negated (product factors inverted) (product factors (not inverted)) refl few refl refl
       (measured-inverted (string_of n factors) inverted false r
-      (commuting (string_of n factors) r.string (kept-here n D i (product factors inverted) back few kept)))
+      (commuting (string_of n factors) r.string (preserved-here n D i (product factors inverted) back few preserved)))

@@ -1,5 +1,5 @@
--- Parities one step backwards: how the region of each before a step, and whether it is kept, follow from those after it.
-use Rattle.stab_regions.proofs.Names.{◌≡◌, ℕ, suc, ◌+◌, ◌-◌, ◌<◌, ◌≤◌, ◌⊎◌, inl, inr, refl, sym, ◌∙◌, ap, subst, arith, Bool, true, false, not, ◌&&◌, List, [], ◌∷◌, append-nil, set, le-ltb, lt-ltb, ne_eqb, if◌then◌else◌, nat_lt, ◌==◌, replicate, cases_lt, cases_eq, eq-eqb, set-get_or, and-false, Letter, I, plain, Signed, identity, single, anticommute, strings_anticommute-blank_right, signed_path, Gate, PairGate, letter_at, letter_image, inverse, put_letter, put_letters, pair_letters, back, back_pair, Step, one, two, controlled, collapse, product, detector, observable, is_detector, string_of, flip_of, Region, region_of, look_where, before_measured, region_before, region_through, with_looks, keeps_region, keep_region, asks_nothing, asks_observable, named_by_detector, steps_before_detector, named_by, region_of_detector, detectors_before, parity_region, parity_kept, asked_of}
+-- Parities one step backwards: how the region of each before a step, and whether it is preserved, follow from those after it.
+use Rattle.stab_regions.proofs.Names.{◌≡◌, ℕ, suc, ◌+◌, ◌-◌, ◌<◌, ◌≤◌, ◌⊎◌, inl, inr, refl, sym, ◌∙◌, ap, subst, arith, Bool, true, false, not, ◌&&◌, List, [], ◌∷◌, append-nil, set, le-ltb, lt-ltb, ne_eqb, if◌then◌else◌, nat_lt, ◌==◌, replicate, cases_lt, cases_eq, eq-eqb, set-get_or, and-false, Letter, I, plain, Signed, identity, single, anticommute, strings_anticommute-blank_right, signed_path, Gate, PairGate, letter_at, letter_image, inverse, put_letter, put_letters, pair_letters, back, back_pair, Step, one, two, controlled, collapse, product, detector, observable, is_detector, string_of, flip_of, Region, region_of, look_where, before_measured, region_before, region_through, with_looks, keeps_region, keep_region, asks_nothing, asks_observable, named_by_detector, steps_before_detector, named_by, region_of_detector, detectors_before, parity_region, parity_preserved, asked_of}
 use Rattle.stab_regions.proofs.FactorLemmas.{blank-at}
 use Rattle.stab_regions.proofs.DetectorLemmas.{count-other, before-other, named-other}
 use Rattle.std.proofs.lemmas.Bool.{cond-true, cond-false}
@@ -44,14 +44,14 @@ none-before n (product factors inverted) = none-measured n (string_of n factors)
 none-before n (detector ks) = refl
 none-before n (observable j ks) = refl
 
-none-kept : (n : ℕ) (x : Step) → keeps_region n x (region_of n []) ≡ true
-none-kept n (one g q) = refl
-none-kept n (two g a b) = refl
-none-kept n (controlled l k q) = refl
-none-kept n (collapse l q recorded inverted resets) = ap not (none-commutes n (single n q l))
-none-kept n (product factors inverted) = ap not (none-commutes n (string_of n factors))
-none-kept n (detector ks) = refl
-none-kept n (observable j ks) = refl
+none-preserved : (n : ℕ) (x : Step) → keeps_region n x (region_of n []) ≡ true
+none-preserved n (one g q) = refl
+none-preserved n (two g a b) = refl
+none-preserved n (controlled l k q) = refl
+none-preserved n (collapse l q recorded inverted resets) = ap not (none-commutes n (single n q l))
+none-preserved n (product factors inverted) = ap not (none-commutes n (string_of n factors))
+none-preserved n (detector ks) = refl
+none-preserved n (observable j ks) = refl
 
 -- parities: observables, detectors in front, and detectors among the last steps
 
@@ -59,14 +59,14 @@ module _ (n D i : ℕ) (back : List Step) where
   pub region-observable : D ≤ i → parity_region n D i back ≡ region_through n (asks_observable (i - D)) back (region_of n [])
   region-observable le = cond-false (nat_lt i D) _ _ (le-ltb i D le)
 
-  pub kept-observable : D ≤ i → parity_kept n D i back ≡ keep_region n (asks_observable (i - D)) back (region_of n [])
-  kept-observable le = cond-false (nat_lt i D) _ _ (le-ltb i D le)
+  pub retained-observable : D ≤ i → parity_preserved n D i back ≡ keep_region n (asks_observable (i - D)) back (region_of n [])
+  retained-observable le = cond-false (nat_lt i D) _ _ (le-ltb i D le)
 
   pub region-front : i < D → i < detectors_before D back → parity_region n D i back ≡ region_of n []
   region-front lt before = cond-true (nat_lt i D) _ _ (lt-ltb i D lt) ∙ cond-true (nat_lt i (detectors_before D back)) _ _ (lt-ltb i (detectors_before D back) before)
 
-  kept-front : i < D → i < detectors_before D back → parity_kept n D i back ≡ true
-  kept-front lt before = cond-true (nat_lt i D) _ _ (lt-ltb i D lt) ∙ cond-true (nat_lt i (detectors_before D back)) _ _ (lt-ltb i (detectors_before D back) before)
+  preserved-front : i < D → i < detectors_before D back → parity_preserved n D i back ≡ true
+  preserved-front lt before = cond-true (nat_lt i D) _ _ (lt-ltb i D lt) ∙ cond-true (nat_lt i (detectors_before D back)) _ _ (lt-ltb i (detectors_before D back) before)
 
   following : (d : ℕ) → detectors_before D back + d ≡ i → detectors_before D back ≤ i
   following d e = omega (arith, e)
@@ -80,9 +80,9 @@ module _ (n D i : ℕ) (back : List Step) where
       else region_through n (asks_observable (i - D)) back (region_of n []))
       ∙ ap (λ k. region_of_detector n k back) (number d e)
 
-  kept-among : (d : ℕ) → i < D → detectors_before D back + d ≡ i
-      → parity_kept n D i back ≡ keep_region n asks_nothing (steps_before_detector d back) (region_of n (named_by d back))
-  kept-among d lt e =
+  retained-among : (d : ℕ) → i < D → detectors_before D back + d ≡ i
+      → parity_preserved n D i back ≡ keep_region n asks_nothing (steps_before_detector d back) (region_of n (named_by d back))
+  retained-among d lt e =
       (λ t. if lt-ltb i D lt t then (if le-ltb i (detectors_before D back) (following d e) t then true
       else keep_region n asks_nothing (steps_before_detector (i - detectors_before D back) back) (region_of n (named_by (i - detectors_before D back) back)))
       else keep_region n (asks_observable (i - D)) back (region_of n []))
@@ -100,32 +100,32 @@ asked-detector D before i x here lt e =
 pub asked-other : (D before i : ℕ) (x : Step) → i < D → is_detector x ≡ false → asked_of D before i x ≡ []
 asked-other D before i x lt e = asked-detector D before i x false lt (ap (λ b. b && (i + 1 == before)) e)
 
--- the region of a parity before a step, and whether it is kept, by what they are after it
+-- the region of a parity before a step, and whether it is preserved, by what they are after it
 pub record IsNext (n D i : ℕ) (x : Step) (back : List Step) : Type 0 where
   pub region : parity_region n D i (x ∷ back) ≡ with_looks (asked_of D (detectors_before D back) i x) (region_before n x (parity_region n D i back))
-  pub kept : parity_kept n D i (x ∷ back) ≡ (keeps_region n x (parity_region n D i back) && parity_kept n D i back)
+  pub preserved : parity_preserved n D i (x ∷ back) ≡ (keeps_region n x (parity_region n D i back) && parity_preserved n D i back)
 
 -- by what each of them is
 next-by : (n D i : ℕ) (x : Step) (back : List Step) (looks : List ℕ) (old new : Region) (was is : Bool)
-    → parity_region n D i back ≡ old → parity_kept n D i back ≡ was → parity_region n D i (x ∷ back) ≡ new → parity_kept n D i (x ∷ back) ≡ is
+    → parity_region n D i back ≡ old → parity_preserved n D i back ≡ was → parity_region n D i (x ∷ back) ≡ new → parity_preserved n D i (x ∷ back) ≡ is
     → asked_of D (detectors_before D back) i x ≡ looks → new ≡ with_looks looks (region_before n x old) → is ≡ (keeps_region n x old && was) → IsNext n D i x back
-next-by n D i x back looks old new was is region_old kept_old region_new kept_new asked r k = record {
+next-by n D i x back looks old new was is region_old stored_old region_new stored_new asked r k = record {
   region = region_new ∙ r ∙ (λ t. with_looks (sym asked t) (region_before n x (sym region_old t)));
-  kept = kept_new ∙ k ∙ (λ t. keeps_region n x (sym region_old t) && sym kept_old t);
+  preserved = stored_new ∙ k ∙ (λ t. keeps_region n x (sym region_old t) && sym stored_old t);
 }
 
 next-observable : (n D i : ℕ) (x : Step) (back : List Step) → D ≤ i → IsNext n D i x back
 next-observable n D i x back le =
-    next-by n D i x back (asks_observable (i - D) x) _ _ _ _ (region-observable n D i back le) (kept-observable n D i back le) (region-observable n D i (x ∷ back) le)
-    (kept-observable n D i (x ∷ back) le) (asked-observable D (detectors_before D back) i x le) refl refl
+    next-by n D i x back (asks_observable (i - D) x) _ _ _ _ (region-observable n D i back le) (retained-observable n D i back le) (region-observable n D i (x ∷ back) le)
+    (retained-observable n D i (x ∷ back) le) (asked-observable D (detectors_before D back) i x le) refl refl
 
 -- a detector in front stays in front
 next-front : (n D i : ℕ) (x : Step) (back : List Step) → i < D → i < detectors_before D back → i < detectors_before D (x ∷ back)
     → asked_of D (detectors_before D back) i x ≡ [] → IsNext n D i x back
 next-front n D i x back lt front still asked =
-    next-by n D i x back [] (region_of n []) (region_of n []) true true (region-front n D i back lt front) (kept-front n D i back lt front)
-    (region-front n D i (x ∷ back) lt still) (kept-front n D i (x ∷ back) lt still) asked (ap (with_looks []) (sym (none-before n x)))
-    (ap (λ b. b && true) (sym (none-kept n x)))
+    next-by n D i x back [] (region_of n []) (region_of n []) true true (region-front n D i back lt front) (preserved-front n D i back lt front)
+    (region-front n D i (x ∷ back) lt still) (preserved-front n D i (x ∷ back) lt still) asked (ap (with_looks []) (sym (none-before n x)))
+    (ap (λ b. b && true) (sym (none-preserved n x)))
 
 module _ (n D i : ℕ) (x : Step) (back : List Step) (lt : i < D) where
   -- a step that is no detector
@@ -134,10 +134,10 @@ module _ (n D i : ℕ) (x : Step) (back : List Step) (lt : i < D) where
       next-front n D i x back lt front (let same = count-other x back e in omega arith) (asked-other D (detectors_before D back) i x lt e)
   next-other e (inr le) =
       let d : ℕ = i - detectors_before D back in
-      next-by n D i x back [] _ _ _ _ (region-among n D i back d lt (omega arith)) (kept-among n D i back d lt (omega arith))
+      next-by n D i x back [] _ _ _ _ (region-among n D i back d lt (omega arith)) (retained-among n D i back d lt (omega arith))
       (region-among n D i (x ∷ back) d lt (let same = count-other x back e in omega arith)
       ∙ (λ t. region_through n asks_nothing (before-other x back d e t) (region_of n (named-other x back d e t))))
-      (kept-among n D i (x ∷ back) d lt (let same = count-other x back e in omega arith)
+      (retained-among n D i (x ∷ back) d lt (let same = count-other x back e in omega arith)
       ∙ (λ t. keep_region n asks_nothing (before-other x back d e t) (region_of n (named-other x back d e t))))
       (asked-other D (detectors_before D back) i x lt e) refl refl
 
@@ -148,16 +148,16 @@ module _ (n D i : ℕ) (ks : List ℕ) (back : List Step) (lt : i < D) (room : 0
   -- a detector
   next-detector : (i < before) ⊎ (before ≤ i) → (i + 1 ≡ before) ⊎ (i + 1 ≡ before → ⊥) → IsNext n D i (detector ks) back
   next-detector (inl front) (inl e) =
-      next-by n D i (detector ks) back ks (region_of n []) (region_of n ks) true true (region-front n D i back lt front) (kept-front n D i back lt front)
-      (region-among n D i (detector ks ∷ back) 0 lt (omega arith)) (kept-among n D i (detector ks ∷ back) 0 lt (omega arith))
+      next-by n D i (detector ks) back ks (region_of n []) (region_of n ks) true true (region-front n D i back lt front) (preserved-front n D i back lt front)
+      (region-among n D i (detector ks ∷ back) 0 lt (omega arith)) (retained-among n D i (detector ks ∷ back) 0 lt (omega arith))
       (asked-detector D before i (detector ks) true lt (eq-eqb (i + 1) before e))
       (ap (λ looks. record { string = identity n; looks = looks }) (sym (append-nil ks))) refl
   next-detector (inl front) (inr ne) =
       next-front n D i (detector ks) back lt front (omega arith) (asked-detector D before i (detector ks) false lt (ne_eqb (i + 1) before ne))
   next-detector (inr le) e =
       let d : ℕ = i - before in
-      next-by n D i (detector ks) back [] _ _ _ _ (region-among n D i back d lt (omega arith)) (kept-among n D i back d lt (omega arith))
-      (region-among n D i (detector ks ∷ back) (suc d) lt (omega arith)) (kept-among n D i (detector ks ∷ back) (suc d) lt (omega arith))
+      next-by n D i (detector ks) back [] _ _ _ _ (region-among n D i back d lt (omega arith)) (retained-among n D i back d lt (omega arith))
+      (region-among n D i (detector ks ∷ back) (suc d) lt (omega arith)) (retained-among n D i (detector ks ∷ back) (suc d) lt (omega arith))
       (asked-detector D before i (detector ks) false lt (ne_eqb (i + 1) before (λ same. omega arith))) refl refl
 
 -- a detector has its number

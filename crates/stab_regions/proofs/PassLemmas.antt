@@ -1,9 +1,9 @@
 -- Passes: what a letter in front of a step flips, said by letters after it.
-use Rattle.stab_regions.proofs.Names.{◌≡◌, ◌≢◌, ℕ, ◌<◌, ◌≤◌, refl, sym, ap, ◌∙◌, arith, Bool, true, false, not, ◌&&◌, List, [], ◌∷◌, length, set, get_or-set_same, get_or-set_other, length-set, parity-false, Letter, I, ◌⊕◌, letters_anticommute, Factor, letter_of, is_on, names_twice, Signed, single, with_sign, anticommute, Gate, PairGate, letter_image, letter_at, inverse, pair_letters, back, length-one_letter, here_one_letter, off_one_letter, one_letter-anticommute, length-replicate, replicate, or-left, Step, one, two, controlled, collapse, product, detector, observable, detectors_of, string_of, length-string_of, flip_of, Region, names_newest, region_before, parity_region, parity_kept, parity_flips, detectors_before, nat_lt, X, Y, Z, strings_anticommute-blank_right}
+use Rattle.stab_regions.proofs.Names.{◌≡◌, ◌≢◌, ℕ, ◌<◌, ◌≤◌, refl, sym, ap, ◌∙◌, arith, Bool, true, false, not, ◌&&◌, List, [], ◌∷◌, length, set, get_or-set_same, get_or-set_other, length-set, parity-false, Letter, I, ◌⊕◌, letters_anticommute, Factor, letter_of, is_on, names_twice, Signed, single, with_sign, anticommute, Gate, PairGate, letter_image, letter_at, inverse, pair_letters, back, length-one_letter, here_one_letter, off_one_letter, one_letter-anticommute, length-replicate, replicate, or-left, Step, one, two, controlled, collapse, product, detector, observable, detectors_of, string_of, length-string_of, flip_of, Region, names_newest, region_before, parity_region, parity_preserved, parity_flips, detectors_before, nat_lt, X, Y, Z, strings_anticommute-blank_right}
 use Rattle.stab_regions.proofs.FramePointLemmas.{moved-gate, moved-pair, anticommute-times_right}
 use Rattle.stab_regions.proofs.MoveLemmas.{long-parity, region_where}
 use Rattle.stab_regions.proofs.FactorLemmas.{blank-at, letter-off}
-use Rattle.stab_regions.proofs.NegatedLemmas.{next-of, kept-here}
+use Rattle.stab_regions.proofs.NegatedLemmas.{next-of, preserved-here}
 use Rattle.stab_gates.proofs.LetterLemmas.{letters_anticommute-I}
 
 -- letters, through gates
@@ -216,14 +216,14 @@ module _ (n D i : ℕ) where
           ∙ passes-beside (parity_flips n D i (flip_of l) q back) k q (single n q l) (meets-measured k ∙ beside)
 
       pub reset-stops : (inverted : Bool) (k : Letter) → letters_anticommute k l ≡ true → detectors_of (collapse l q false inverted true ∷ back) ≤ D
-          → parity_kept n D i (collapse l q false inverted true ∷ back) ≡ true → parity_flips n D i k q (collapse l q false inverted true ∷ back) ≡ false
-      reset-stops inverted k other few kept =
+          → parity_preserved n D i (collapse l q false inverted true ∷ back) ≡ true → parity_flips n D i k q (collapse l q false inverted true ∷ back) ≡ false
+      reset-stops inverted k other few preserved =
           collapse-flips l q false inverted true k q few
           ∙ ap (λ c. (parity_flips n D i (flip_of l) q back && c) ⊕ parity_flips n D i k q back) (meets-measured k ∙ other)
           ∙ whole (parity_flips n D i (flip_of l) q back) (parity_flips n D i k q back)
           ∙ (λ t. flips-letter (flip_of l) q back lt t ⊕ flips-letter k q back lt t)
           ∙ reset-absorbs l k (letter_at letters q) other
-          (sym (flips-letter l q back lt) ∙ off (parity_flips n D i l q back) (kept-here n D i (collapse l q false inverted true) back few kept))
+          (sym (flips-letter l q back lt) ∙ off (parity_flips n D i l q back) (preserved-here n D i (collapse l q false inverted true) back few preserved))
         where
           whole : (a b : Bool) → (a && true) ⊕ b ≡ a ⊕ b
           whole a b = grind arith

@@ -137,12 +137,12 @@ module _ (n : ℕ) (asked : Step → List ℕ) (ks : List ℕ) (coins : ℕ → 
   first_lost : (a b : Bool) → (a && b) ≡ false → b ≡ true → a ≡ false
   first_lost a b e f = grind arith
 
-  unkept : (xs : List Step) (p : Point) → All (StepFits n) xs → IsGood n p.trace → keep_region n asked xs (region_of n ks) ≡ false → OtherBit xs p
-  unkept [] p fits good e = absurd (not_both true e refl)
-  unkept (x ∷ xs) p fits good e =
+  unstored : (xs : List Step) (p : Point) → All (StepFits n) xs → IsGood n p.trace → keep_region n asked xs (region_of n ks) ≡ false → OtherBit xs p
+  unstored [] p fits good e = absurd (not_both true e refl)
+  unstored (x ∷ xs) p fits good e =
       other-following x xs p
       (by_rest (keep_region n asked xs (region_of n ks)) refl
-      (unkept xs (next_point n coins x p) (All-tail (StepFits n) x xs fits) (good-next n coins x p here good)))
+      (unstored xs (next_point n coins x p) (All-tail (StepFits n) x xs fits) (good-next n coins x p here good)))
     where
       here : StepFits n x
       here = All-head (StepFits n) x xs fits
@@ -163,11 +163,11 @@ module _ (n : ℕ) (asked : Step → List ℕ) (ks : List ℕ) (coins : ℕ → 
       none a b e = grind arith
 
   pub other-bit : (xs : List Step) → All (StepFits n) xs → is_deterministic n asked xs ks ≡ false → OtherBit xs origin
-  other-bit xs fits random = by_kept (keep_region n asked xs (region_of n ks)) refl
+  other-bit xs fits random = by_preserved (keep_region n asked xs (region_of n ks)) refl
     where
-      by_kept : (b : Bool) → keep_region n asked xs (region_of n ks) ≡ b → OtherBit xs origin
-      by_kept false e = unkept xs origin fits (good-origin n) e
-      by_kept true e = not_at_zeros xs fits (second_lost _ _ random e)
+      by_preserved : (b : Bool) → keep_region n asked xs (region_of n ks) ≡ b → OtherBit xs origin
+      by_preserved false e = unstored xs origin fits (good-origin n) e
+      by_preserved true e = not_at_zeros xs fits (second_lost _ _ random e)
         where
           second_lost : (a b : Bool) → (a && b) ≡ false → a ≡ true → b ≡ false
           second_lost a b e f = grind arith

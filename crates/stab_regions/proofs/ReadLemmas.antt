@@ -99,13 +99,13 @@ module _ (t : List Event) (records : List Bool) (m : Signed) (r : Region) (b rec
 -- a step that keeps the region
 pub reads-next : (n : ℕ) (coins : ℕ → Bool) (x : Step) (p : Point) (r : Region) (b : Bool) → StepFits n x → length r.string.letters ≡ n
     → keeps_region n x r ≡ true → Reads p (region_before n x r) b → Reads (next_point n coins x p) r b
-reads-next n coins (one g q) p r b fits long kept h =
+reads-next n coins (one g q) p r b fits long preserved h =
     ap (λ rs. member p.trace (back g q (with_sign (b ⊕ parity rs r.looks) r.string))) (append-nil p.records)
     ∙ ap (member p.trace) (image-sign (inverse g) q (b ⊕ parity p.records r.looks) r.string) ∙ h
-reads-next n coins (two g i j) p r b fits long kept h =
+reads-next n coins (two g i j) p r b fits long preserved h =
     ap (λ rs. member p.trace (back_pair g i j (with_sign (b ⊕ parity rs r.looks) r.string))) (append-nil p.records)
     ∙ ap (member p.trace) (pair-sign g i j (b ⊕ parity p.records r.looks) r.string) ∙ h
-reads-next n coins (controlled l k q) p r b fits long kept h =
+reads-next n coins (controlled l k q) p r b fits long preserved h =
     ap (λ rs. member (applied_where (looked_up p.records k) l q p.trace) (with_sign (b ⊕ parity rs r.looks) r.string)) (append-nil p.records)
     ∙ member-where n q l (looked_up p.records k) p.trace _ long fits
     ∙ ap (member p.trace)
@@ -114,13 +114,13 @@ reads-next n coins (controlled l k q) p r b fits long kept h =
     (feedback-signs (looked_up p.records k) (anticommute (single n q l) r.string) b (parity p.records r.looks)
     ∙ ap (λ x. b ⊕ x) (sym (parity-where p.records (anticommute (single n q l) r.string) k r.looks))))
     ∙ h
-reads-next n coins (collapse l q recorded inverted resets) p r b fits long kept h =
-    measured-reads p.trace p.records (single n q l) r b recorded inverted (commuting (single n q l) r.string kept) n q (flip_of l) resets
+reads-next n coins (collapse l q recorded inverted resets) p r b fits long preserved h =
+    measured-reads p.trace p.records (single n q l) r b recorded inverted (commuting (single n q l) r.string preserved) n q (flip_of l) resets
     (outcome_at coins (single n q l) p.trace p.coin) fits long h
-reads-next n coins (product factors inverted) p r b fits long kept h =
-    product-reads p.trace p.records (string_of n factors) r b true inverted (commuting (string_of n factors) r.string kept)
+reads-next n coins (product factors inverted) p r b fits long preserved h =
+    product-reads p.trace p.records (string_of n factors) r b true inverted (commuting (string_of n factors) r.string preserved)
     (outcome_at coins (string_of n factors) p.trace p.coin) h
-reads-next n coins (detector ks) p r b fits long kept h =
+reads-next n coins (detector ks) p r b fits long preserved h =
     ap (λ rs. member p.trace (with_sign (b ⊕ parity rs r.looks) r.string)) (append-nil p.records) ∙ h
-reads-next n coins (observable j ks) p r b fits long kept h =
+reads-next n coins (observable j ks) p r b fits long preserved h =
     ap (λ rs. member p.trace (with_sign (b ⊕ parity rs r.looks) r.string)) (append-nil p.records) ∙ h

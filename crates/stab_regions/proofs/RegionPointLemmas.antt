@@ -1,5 +1,5 @@
 -- Points: what regions at the end of all steps are, and which parities are deterministic, by those at the start.
-use Rattle.stab_regions.proofs.Names.{◌≡◌, ℕ, zero, suc, ◌+◌, ◌-◌, ◌^◌, ◌<◌, refl, sym, ◌∙◌, ap, subst, arith, Bool, true, false, not, ◌||◌, ◌&&◌, List, [], ◌∷◌, length, if◌then◌else◌, nat_lt, slice_index_or, replicate, list_any, length-replicate, get_or-replicate, Letter, I, X, Y, Z, letters_anticommute, letter_at, diagonal, RegionWalk, region_of, keep_region, asks_nothing, asks_observable, steps_before_detector, named_by, detectors_before, parity_region, parity_kept, odd, row, ShowsRegion, ShowsNumber, IsRegionsAt, DetermineDeterministic}
+use Rattle.stab_regions.proofs.Names.{◌≡◌, ℕ, zero, suc, ◌+◌, ◌-◌, ◌^◌, ◌<◌, refl, sym, ◌∙◌, ap, subst, arith, Bool, true, false, not, ◌||◌, ◌&&◌, List, [], ◌∷◌, length, if◌then◌else◌, nat_lt, slice_index_or, replicate, list_any, length-replicate, get_or-replicate, Letter, I, X, Y, Z, letters_anticommute, letter_at, diagonal, RegionWalk, region_of, keep_region, asks_nothing, asks_observable, steps_before_detector, named_by, detectors_before, parity_region, parity_preserved, odd, row, ShowsRegion, ShowsNumber, IsRegionsAt, DetermineDeterministic}
 use Rattle.stab_regions.proofs.FactorLemmas.{blank-at}
 use Rattle.stab_regions.proofs.MoveLemmas.{region_where, long-parity}
 use Rattle.stab_gates.proofs.LetterLemmas.{letters_anticommute-I}
@@ -22,8 +22,8 @@ end-region n D i = by_site (nat_lt i D) (nat_lt i (detectors_before D []))
     by_site true false = refl
     by_site false c = refl
 
-end-kept : (n D i : ℕ) → parity_kept n D i [] ≡ true
-end-kept n D i = by_site (nat_lt i D) (nat_lt i (detectors_before D []))
+end-preserved : (n D i : ℕ) → parity_preserved n D i [] ≡ true
+end-preserved n D i = by_site (nat_lt i D) (nat_lt i (detectors_before D []))
   where
     by_site : (b c : Bool)
         → (if b then (if c then true else keep_region n asks_nothing (steps_before_detector (i - detectors_before D []) []) (region_of n (named_by (i - detectors_before D []) [])))
@@ -65,7 +65,7 @@ is-at-end n D count r few is_x is_z is_records records detectors before random =
       regions = λ i lt. subst (ShowsNumber r.rows i) (sym (end-region n D i)) (none i);
       others = λ i le. none i;
       random = λ i lt.
-          ap (λ bits. slice_index_or bits i false) random ∙ get_or-replicate (D + count) i false false lt ∙ ap not (sym (end-kept n D i));
+          ap (λ bits. slice_index_or bits i false) random ∙ get_or-replicate (D + count) i false false lt ∙ ap not (sym (end-preserved n D i));
     }
 
 -- the start
@@ -96,7 +96,7 @@ determines-deterministic r deterministic long each = record {
   count = long;
   value = λ n D count back h i lt.
       each i (omega (arith, lt, h.marks))
-      ∙ neither (list_any (odd i) r.rows.by_z.items) (slice_index_or r.random.items i false) (parity_kept n D i back) (diagonal (parity_region n D i back).string.letters)
+      ∙ neither (list_any (odd i) r.rows.by_z.items) (slice_index_or r.random.items i false) (parity_preserved n D i back) (diagonal (parity_region n D i back).string.letters)
       (diagonal-rows i (parity_region n D i back).string.letters r.rows.by_z.items (h.sized.rows ∙ h.qubits ∙ sym (long-parity n D i back)) (h.regions i lt).letters.z)
       (h.random i lt);
 }

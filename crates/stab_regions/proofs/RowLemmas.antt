@@ -1,6 +1,6 @@
 -- Rows of numbers: one of them written anew, and looked up.
 use Rattle.stab_regions.proofs.Names.{◌≡◌, ℕ, ◌<◌, refl, sym, subst, ◌∙◌, ap, Bool, false, List, [], length, get_or, set, get_or-set_same, get_or-set_other, true, ◌&&◌, parity-false, ◌⊕◌, odd, row, Toggles, TogglesWhere}
-use Rattle.stab_search.proofs.IndexLemmas.{row-in}
+use Rattle.stab_parities.proofs.MergeLemmas.{row-in}
 
 -- writing a row toggles it
 pub toggles_set : (old : List (List ℕ)) (site : ℕ) (numbers new : List ℕ) → site < length old

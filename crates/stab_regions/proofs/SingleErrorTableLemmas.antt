@@ -1,7 +1,7 @@
--- Single error tables: bits that the pass finds deterministic are so, and its rows, of which these bits are kept, are those that single errors flip.
-use Rattle.stab_regions.proofs.Names.{◌≡◌, ℕ, ◌<◌, refl, sym, ap, ◌∙◌, subst, Bool, true, false, List, [], ◌∷◌, map, length, drop, reverse, arith, All, slice_index_or, reverse_aux, All-head, All-tail, Items, Step, unroll, observables_of, detectors_of, StepFits, parity_deterministic, parity_flips, Site, SingleError, single_errors_of, sites_at, bits_in, IsDeterministic, AreDeterministic, flips, flipped_by_single_error, DeterministicParities, SitesFlipDeterministicParities, RegionWalk, is_stored, kept_of, numbers_before, IsRegionsAt, DetermineDeterministic, inserted_from, parity_row, zero-add, range_with_len, length-map-range_with_len, get_or-map-range_with_len}
+-- Single error tables: bits that the pass finds deterministic are so, and its rows, reduced to these bits, are those that single errors flip.
+use Rattle.stab_regions.proofs.Names.{◌≡◌, ℕ, ◌<◌, refl, sym, ap, ◌∙◌, subst, Bool, true, false, List, [], ◌∷◌, map, length, drop, reverse, arith, All, slice_index_or, reverse_aux, All-head, All-tail, Items, Step, unroll, observables_of, detectors_of, StepFits, parity_deterministic, parity_flips, Site, SingleError, single_errors_of, sites_at, bits_in, IsDeterministic, AreDeterministic, flips, flipped_by_single_error, DeterministicParities, SitesFlipDeterministicParities, RegionWalk, is_stored, retained_of, numbers_before, IsRegionsAt, DetermineDeterministic, inserted_from, parity_row, zero-add, range_with_len, length-map-range_with_len, get_or-map-range_with_len}
 use Rattle.std.specs.Prelude.{◌&&◌, ◌↔◌}
-use Rattle.stab_regions.proofs.AscentLemmas.{kept-where, where-same}
+use Rattle.stab_regions.proofs.AscentLemmas.{preserved-where, where-same}
 use Rattle.stab_regions.proofs.InsertedLemmas.{inserted_of, inserted-are, inserted-same, single_errors-within}
 
 -- bits that say which parities are found deterministic
@@ -31,15 +31,15 @@ pub determine-found : (n : ℕ) (items : Items) (r : RegionWalk) (deterministic 
     AreFound n items deterministic
 determine-found n items r deterministic determines at = determines.value n (detectors_of (unroll items)) (observables_of items) (unroll items) at
 
--- the row of a single error, of which the deterministic bits are kept
+-- the row of a single error, reduced to its deterministic bits
 row-flips : (n : ℕ) (items : Items) (deterministic : List Bool) (coins : ℕ → Bool) (f : SingleError) → SitesFlipDeterministicParities → All (StepFits n) (unroll items) →
-    AreFound n items deterministic → f.qubit < n → kept_of deterministic (parity_row (numbers_before n items) (inserted_of (unroll items) f)) ≡ flipped_by_single_error n items deterministic coins f
+    AreFound n items deterministic → f.qubit < n → retained_of deterministic (parity_row (numbers_before n items) (inserted_of (unroll items) f)) ≡ flipped_by_single_error n items deterministic coins f
 row-flips n items deterministic coins f law fits found lt =
-    kept-where deterministic flipped 0 (bits_in items)
+    preserved-where deterministic flipped 0 (bits_in items)
     ∙ where-same (λ m. is_stored deterministic m && flipped m) (λ m. is_stored deterministic m && flips n items coins f m) 0 (bits_in items)
     (λ m ge inside.
     let within : m < bits_in items = omega (arith, inside) in
-    and-same (is_stored deterministic m) (flipped m) (flips n items coins f m) (λ kept. sym (law n items m f fits within lt (sym (found m within) ∙ kept) coins)))
+    and-same (is_stored deterministic m) (flipped m) (flips n items coins f m) (λ stored. sym (law n items m f fits within lt (sym (found m within) ∙ stored) coins)))
   where
     flipped : ℕ → Bool
     flipped m = parity_flips n (detectors_of (unroll items)) m f.letter f.qubit (drop f.before (unroll items))
@@ -52,7 +52,7 @@ row-flips n items deterministic coins f law fits found lt =
 
 rows-flip : (n : ℕ) (items : Items) (deterministic : List Bool) (coins : ℕ → Bool) (fs : List SingleError) → SitesFlipDeterministicParities →
     All (StepFits n) (unroll items) → AreFound n items deterministic → All (λ f. f.qubit < n) fs →
-    map (kept_of deterministic) (map (parity_row (numbers_before n items)) (map (inserted_of (unroll items)) fs)) ≡ map (flipped_by_single_error n items deterministic coins) fs
+    map (retained_of deterministic) (map (parity_row (numbers_before n items)) (map (inserted_of (unroll items)) fs)) ≡ map (flipped_by_single_error n items deterministic coins) fs
 rows-flip n items deterministic coins [] law fits found within = refl
 rows-flip n items deterministic coins (f ∷ fs) law fits found within =
     (λ i. row-flips n items deterministic coins f law fits found (All-head (λ f. f.qubit < n) f fs within) i
@@ -61,9 +61,9 @@ rows-flip n items deterministic coins (f ∷ fs) law fits found within =
 pub table-flips : (n : ℕ) (everywhere : Bool) (items : Items) (deterministic : List Bool) (coins : ℕ → Bool) (sites : Step → List Site) (rows : List (List ℕ)) →
     SitesFlipDeterministicParities → All (StepFits n) (unroll items) → AreFound n items deterministic → ((x : Step) → sites x ≡ sites_at everywhere x) →
     rows ≡ map (parity_row (numbers_before n items)) (inserted_from sites (unroll items)) →
-    map (kept_of deterministic) rows ≡ map (flipped_by_single_error n items deterministic coins) (single_errors_of everywhere (unroll items))
+    map (retained_of deterministic) rows ≡ map (flipped_by_single_error n items deterministic coins) (single_errors_of everywhere (unroll items))
 table-flips n everywhere items deterministic coins sites rows law fits found same are =
-    ap (map (kept_of deterministic))
+    ap (map (retained_of deterministic))
     (are ∙ ap (map (parity_row (numbers_before n items))) (inserted-same sites (sites_at everywhere) (unroll items) same ∙ inserted-are everywhere (unroll items) (unroll items) 0 refl))
     ∙ rows-flip n items deterministic coins (single_errors_of everywhere (unroll items)) law fits found (single_errors-within n everywhere 0 (unroll items) fits)
 
@@ -71,7 +71,7 @@ backwards-onto : (f : List ℕ → List ℕ) (rows others : List (List ℕ)) →
 backwards-onto f [] others = refl
 backwards-onto f (row ∷ rows) others = backwards-onto f rows (row ∷ others)
 
--- kept backwards, the rows are still those of which the bits are kept
-pub table-backwards : (deterministic bits : List Bool) (rows kept : List (List ℕ)) → bits ≡ deterministic → kept ≡ map (kept_of bits) rows → reverse kept ≡ map (kept_of deterministic) (reverse rows)
-table-backwards deterministic bits rows kept same is =
-    ap reverse (is ∙ ap (λ (b : List Bool). map (kept_of b) rows) same) ∙ backwards-onto (kept_of deterministic) rows []
+-- going backwards, the rows stay reduced to the bits
+pub table-backwards : (deterministic bits : List Bool) (rows stored : List (List ℕ)) → bits ≡ deterministic → stored ≡ map (retained_of bits) rows → reverse stored ≡ map (retained_of deterministic) (reverse rows)
+table-backwards deterministic bits rows stored same is =
+    ap reverse (is ∙ ap (λ (b : List Bool). map (retained_of b) rows) same) ∙ backwards-onto (retained_of deterministic) rows []

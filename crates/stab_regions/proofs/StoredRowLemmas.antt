@@ -1,5 +1,5 @@
 -- Stored rows: one more row, one of them, and what is left of them once numbers are taken out.
-use Rattle.stab_regions.proofs.Names.{◌≡◌, ℕ, zero, suc, ◌+◌, ◌-◌, ◌<◌, ◌≤◌, refl, sym, ap, ◌∙◌, subst, Bool, true, false, List, [], ◌∷◌, ◌++◌, length, get_or, take, drop, map, arith, slice_set, if◌then◌else◌, length-drop, length-append, length-take, drop_all, take-append-drop, take-append-le, drop-append-le, take_all, take_at, drop_at, drop-drop, drop_more, take_more_set, drop-set-lt, nil_from_length, filter-append, rows_cut, Rises, is_stored, kept_of, ends_kept}
+use Rattle.stab_regions.proofs.Names.{◌≡◌, ℕ, zero, suc, ◌+◌, ◌-◌, ◌<◌, ◌≤◌, refl, sym, ap, ◌∙◌, subst, Bool, true, false, List, [], ◌∷◌, ◌++◌, length, get_or, take, drop, map, arith, slice_set, if◌then◌else◌, length-drop, length-append, length-take, drop_all, take-append-drop, take-append-le, drop-append-le, take_all, take_at, drop_at, drop-drop, drop_more, take_more_set, drop-set-lt, nil_from_length, filter-append, rows_cut, Rises, is_stored, retained_of, ends_retained}
 use Rattle.std.proofs.lemmas.List.{append-nil, append_assoc}
 
 -- ends
@@ -74,79 +74,79 @@ row-is ends numbers k begin end r lt b e =
 
 -- fewer numbers
 
-kept-split : (kept : List Bool) (m : ℕ) (rest : List ℕ) → kept_of kept rest ≡ kept_of kept (take m rest) ++ kept_of kept (drop m rest)
-kept-split kept m rest = ap (kept_of kept) (sym (take-append-drop m rest)) ∙ filter-append (is_stored kept) (take m rest) (drop m rest)
+preserved-split : (retained : List Bool) (m : ℕ) (rest : List ℕ) → retained_of retained rest ≡ retained_of retained (take m rest) ++ retained_of retained (drop m rest)
+preserved-split retained m rest = ap (retained_of retained) (sym (take-append-drop m rest)) ∙ filter-append (is_stored retained) (take m rest) (drop m rest)
 
-pub cut-kept : (kept : List Bool) (count b : ℕ) (es rest : List ℕ) →
-    rows_cut count (ends_kept kept count b es rest) (kept_of kept rest) ≡ map (kept_of kept) (rows_cut b es rest)
-cut-kept kept count b [] rest = refl
-cut-kept kept count b (e ∷ es) rest =
-    let front : List ℕ = kept_of kept (take (e - b) rest) in
-    let back : List ℕ = kept_of kept (drop (e - b) rest) in
+pub cut-retained : (retained : List Bool) (count b : ℕ) (es rest : List ℕ) →
+    rows_cut count (ends_retained retained count b es rest) (retained_of retained rest) ≡ map (retained_of retained) (rows_cut b es rest)
+cut-retained retained count b [] rest = refl
+cut-retained retained count b (e ∷ es) rest =
+    let front : List ℕ = retained_of retained (take (e - b) rest) in
+    let back : List ℕ = retained_of retained (drop (e - b) rest) in
     let after : ℕ = count + length front in
     let long : length front ≡ after - count = omega arith in
-    let ends : List ℕ = ends_kept kept after e es (drop (e - b) rest) in
-    ap (λ (x : List ℕ). x ∷ rows_cut after ends (drop (after - count) (kept_of kept rest)))
-    (ap (take (after - count)) (kept-split kept (e - b) rest) ∙ take_at front back (after - count) long)
+    let ends : List ℕ = ends_retained retained after e es (drop (e - b) rest) in
+    ap (λ (x : List ℕ). x ∷ rows_cut after ends (drop (after - count) (retained_of retained rest)))
+    (ap (take (after - count)) (preserved-split retained (e - b) rest) ∙ take_at front back (after - count) long)
     ∙ ap (λ (x : List (List ℕ)). front ∷ x)
-    (ap (rows_cut after ends) (ap (drop (after - count)) (kept-split kept (e - b) rest) ∙ drop_at front back (after - count) long)
-    ∙ cut-kept kept after e es (drop (e - b) rest))
+    (ap (rows_cut after ends) (ap (drop (after - count)) (preserved-split retained (e - b) rest) ∙ drop_at front back (after - count) long)
+    ∙ cut-retained retained after e es (drop (e - b) rest))
 
-pub rises-kept : (kept : List Bool) (count b : ℕ) (es rest : List ℕ) (t : ℕ) → t ≡ b + length rest → Rises b es t →
-    Rises count (ends_kept kept count b es rest) (count + length (kept_of kept rest))
-rises-kept kept count b [] rest t is r =
+pub rises-retained : (retained : List Bool) (count b : ℕ) (es rest : List ℕ) (t : ℕ) → t ≡ b + length rest → Rises b es t →
+    Rises count (ends_retained retained count b es rest) (count + length (retained_of retained rest))
+rises-retained retained count b [] rest t is r =
     let empty : rest ≡ [] = nil_from_length rest (omega (arith, r)) in
-    let none : length (kept_of kept rest) ≡ 0 = ap (λ (x : List ℕ). length (kept_of kept x)) empty in
+    let none : length (retained_of retained rest) ≡ 0 = ap (λ (x : List ℕ). length (retained_of retained x)) empty in
     omega (arith, none)
-rises-kept kept count b (e ∷ es) rest t is r =
+rises-retained retained count b (e ∷ es) rest t is r =
     let le : e - b ≤ length rest = omega (arith, rises-below e es t r.1) in
     let left : t ≡ e + length (drop (e - b) rest) = omega (arith, length-drop (e - b) rest, le, r.0, is) in
-    let front : List ℕ = kept_of kept (take (e - b) rest) in
-    let back : List ℕ = kept_of kept (drop (e - b) rest) in
-    let total : count + length front + length back ≡ count + length (kept_of kept rest) =
-    omega (arith, ap length (kept-split kept (e - b) rest), length-append front back) in
-    (omega arith, subst (Rises (count + length front) (ends_kept kept (count + length front) e es (drop (e - b) rest))) total (rises-kept kept (count + length front) e es (drop (e - b) rest) t left r.1))
+    let front : List ℕ = retained_of retained (take (e - b) rest) in
+    let back : List ℕ = retained_of retained (drop (e - b) rest) in
+    let total : count + length front + length back ≡ count + length (retained_of retained rest) =
+    omega (arith, ap length (preserved-split retained (e - b) rest), length-append front back) in
+    (omega arith, subst (Rises (count + length front) (ends_retained retained (count + length front) e es (drop (e - b) rest))) total (rises-retained retained (count + length front) e es (drop (e - b) rest) t left r.1))
 
 -- one end is moved
 
 pub rises-drop : (b : ℕ) (es : List ℕ) (t k : ℕ) → k < length es → Rises b (drop k es) t → (b ≤ get_or es k 0) × Rises (get_or es k 0) (drop (k + 1) es) t
 rises-drop b es t k lt r = subst (λ (x : List ℕ). Rises b x t) (drop_more es k 0 lt) r
 
-pub ends-step : (kept : List Bool) (count b k : ℕ) (ends numbers target : List ℕ) (after : ℕ) → k < length ends → b ≤ get_or ends k 0 →
-    after ≡ count + length (kept_of kept (take (get_or ends k 0 - b) (drop b numbers))) →
-    take k ends ++ ends_kept kept count b (drop k ends) (drop b numbers) ≡ target →
-    take (k + 1) (slice_set ends k after) ++ ends_kept kept after (get_or ends k 0) (drop (k + 1) (slice_set ends k after)) (drop (get_or ends k 0) numbers) ≡ target
-ends-step kept count b k ends numbers target after lt le is so_far =
+pub ends-step : (retained : List Bool) (count b k : ℕ) (ends numbers target : List ℕ) (after : ℕ) → k < length ends → b ≤ get_or ends k 0 →
+    after ≡ count + length (retained_of retained (take (get_or ends k 0 - b) (drop b numbers))) →
+    take k ends ++ ends_retained retained count b (drop k ends) (drop b numbers) ≡ target →
+    take (k + 1) (slice_set ends k after) ++ ends_retained retained after (get_or ends k 0) (drop (k + 1) (slice_set ends k after)) (drop (get_or ends k 0) numbers) ≡ target
+ends-step retained count b k ends numbers target after lt le is so_far =
     let e : ℕ = get_or ends k 0 in
     let later : List ℕ = drop (k + 1) ends in
     let there : b + (e - b) ≡ e = omega (arith, le) in
-    (λ i. take_more_set ends k after lt i ++ ends_kept kept after e (drop-set-lt (k + 1) ends k after (omega arith) i) (drop e numbers))
-    ∙ append_assoc (take k ends) (after ∷ []) (ends_kept kept after e later (drop e numbers))
-    ∙ (λ i. take k ends ++ is i ∷ ends_kept kept (is i) e later (sym (drop-drop (e - b) b numbers ∙ ap (λ n. drop n numbers) there) i))
-    ∙ ap (λ (x : List ℕ). take k ends ++ ends_kept kept count b x (drop b numbers)) (sym (drop_more ends k 0 lt))
+    (λ i. take_more_set ends k after lt i ++ ends_retained retained after e (drop-set-lt (k + 1) ends k after (omega arith) i) (drop e numbers))
+    ∙ append_assoc (take k ends) (after ∷ []) (ends_retained retained after e later (drop e numbers))
+    ∙ (λ i. take k ends ++ is i ∷ ends_retained retained (is i) e later (sym (drop-drop (e - b) b numbers ∙ ap (λ n. drop n numbers) there) i))
+    ∙ ap (λ (x : List ℕ). take k ends ++ ends_retained retained count b x (drop b numbers)) (sym (drop_more ends k 0 lt))
     ∙ so_far
 
 -- no more numbers are left than were there, and a part has as many as it reaches over
-pub kept-few : (kept : List Bool) (xs : List ℕ) → length (kept_of kept xs) ≤ length xs
-kept-few kept [] = omega arith
-kept-few kept (x ∷ xs) = counted (is_stored kept x) (kept-few kept xs)
+pub preserved-few : (retained : List Bool) (xs : List ℕ) → length (retained_of retained xs) ≤ length xs
+preserved-few retained [] = omega arith
+preserved-few retained (x ∷ xs) = counted (is_stored retained x) (preserved-few retained xs)
   where
-    counted : (b : Bool) → length (kept_of kept xs) ≤ length xs → length (if b then x ∷ kept_of kept xs else kept_of kept xs) ≤ suc (length xs)
+    counted : (b : Bool) → length (retained_of retained xs) ≤ length xs → length (if b then x ∷ retained_of retained xs else retained_of retained xs) ≤ suc (length xs)
     counted true le = omega arith
     counted false le = omega arith
 
-pub part-long : (kept : List Bool) (numbers : List ℕ) (b e : ℕ) → length (kept_of kept (take (e - b) (drop b numbers))) ≤ e - b
-part-long kept numbers b e =
-    omega (arith, kept-few kept (take (e - b) (drop b numbers)), length-take (e - b) (drop b numbers))
+pub part-long : (retained : List Bool) (numbers : List ℕ) (b e : ℕ) → length (retained_of retained (take (e - b) (drop b numbers))) ≤ e - b
+part-long retained numbers b e =
+    omega (arith, preserved-few retained (take (e - b) (drop b numbers)), length-take (e - b) (drop b numbers))
 
 -- what is left to be moved at the end is nothing
-pub ends-end : (kept : List Bool) (count b k : ℕ) (ends numbers target : List ℕ) → length ends ≤ k →
-    take k ends ++ ends_kept kept count b (drop k ends) (drop b numbers) ≡ target → ends ≡ target
-ends-end kept count b k ends numbers target le so_far =
+pub ends-end : (retained : List Bool) (count b k : ℕ) (ends numbers target : List ℕ) → length ends ≤ k →
+    take k ends ++ ends_retained retained count b (drop k ends) (drop b numbers) ≡ target → ends ≡ target
+ends-end retained count b k ends numbers target le so_far =
     sym (append-nil ends)
-    ∙ (λ i. sym (take_all k ends le) i ++ ends_kept kept count b (sym (drop_all k ends le) i) (drop b numbers))
+    ∙ (λ i. sym (take_all k ends le) i ++ ends_retained retained count b (sym (drop_all k ends le) i) (drop b numbers))
     ∙ so_far
 
-pub length-kept : (kept : List Bool) (count b : ℕ) (es rest : List ℕ) → length (ends_kept kept count b es rest) ≡ length es
-length-kept kept count b [] rest = refl
-length-kept kept count b (e ∷ es) rest = ap suc (length-kept kept (count + length (kept_of kept (take (e - b) rest))) e es (drop (e - b) rest))
+pub length-retained : (retained : List Bool) (count b : ℕ) (es rest : List ℕ) → length (ends_retained retained count b es rest) ≡ length es
+length-retained retained count b [] rest = refl
+length-retained retained count b (e ∷ es) rest = ap suc (length-retained retained (count + length (retained_of retained (take (e - b) rest))) e es (drop (e - b) rest))

@@ -21,8 +21,8 @@ FlipsDetector n front l q back count d =
     ≡ detector_bit n coins (front ++ back) count d ⊕ flips_detector n d front l q back
 
 -- a bit that is not flipped
-kept-bit : (flipped plain flips : Bool) → flipped ≡ plain → flips ≡ false → flipped ≡ plain ⊕ flips
-kept-bit flipped plain flips same e = same ∙ sym (parity-false plain) ∙ ap (λ b. plain ⊕ b) (sym e)
+preserved-bit : (flipped plain flips : Bool) → flipped ≡ plain → flips ≡ false → flipped ≡ plain ⊕ flips
+preserved-bit flipped plain flips same e = same ∙ sym (parity-false plain) ∙ ap (λ b. plain ⊕ b) (sym e)
 
 module _ (law : RunsArePointsWithOutputs) (n : ℕ) (front back : List Step) (l : Letter) (q count : ℕ) (lt_q : q < n) (ff : All (StepFits n) front) (fb : All (StepFits n) back) where
   -- a detector before the letter
@@ -44,7 +44,7 @@ module _ (law : RunsArePointsWithOutputs) (n : ℕ) (front back : List Step) (l 
     flips-first : FlipsDetector n front l q back count d
     flips-first coins =
         let others : ℕ → Bool = flipped_with n front l q back coins in
-        kept-bit (detector_bit n others (with_single_error front l q back) count d) (detector_bit n coins (front ++ back) count d) (flips_detector n d front l q back)
+        preserved-bit (detector_bit n others (with_single_error front l q back) count d) (detector_bit n coins (front ++ back) count d) (flips_detector n d front l q back)
         (bit-first others (one (gate_of l) q ∷ back)
         ∙ bit-same n coins others asks_nothing (steps_before_detector d front) (named_by d front) origin
         (λ t less. flipped-before (all_coins_of front) _ coins t (omega (arith, less, coins-before d front)))

@@ -21,8 +21,8 @@ parity_region n D i back =
     else region_through n (asks_observable (i - D)) back (region_of n [])
 
 -- whether the last steps keep it
-abbrev pub parity_kept : (n D i : ℕ) → (back : List Step) → Bool
-parity_kept n D i back =
+abbrev pub parity_preserved : (n D i : ℕ) → (back : List Step) → Bool
+parity_preserved n D i back =
     if nat_lt i D then
     (if nat_lt i (detectors_before D back) then true
     else keep_region n asks_nothing (steps_before_detector (i - detectors_before D back) back) (region_of n (named_by (i - detectors_before D back) back)))
@@ -30,7 +30,7 @@ parity_kept n D i back =
 
 -- whether the pass over all steps finds parity i deterministic: all keep it, and at the start its letters are I and Z alone
 abbrev pub parity_deterministic : (n D i : ℕ) → (xs : List Step) → Bool
-parity_deterministic n D i xs = parity_kept n D i xs && diagonal (parity_region n D i xs).string.letters
+parity_deterministic n D i xs = parity_preserved n D i xs && diagonal (parity_region n D i xs).string.letters
 
 -- the bit that it then is, for all random bits: the sign of its string at the start
 abbrev pub parity_bit : (n D i : ℕ) → (xs : List Step) → Bool

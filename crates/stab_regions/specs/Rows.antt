@@ -7,7 +7,7 @@ use Rattle.stab_gates.specs.Letters.{◌⊕◌, letters_anticommute}
 use Rattle.stab_pauli.specs.Paulis.{Signed, single}
 use Rattle.stab_tableau.specs.Gates.{letter_at}
 use Rattle.stab_items.specs.Steps.{Step}
-use Rattle.stab_search.specs.Tables.{odd, row}
+use Rattle.stab_parities.specs.OddNumbers.{odd, row}
 use Rattle.stab_regions.specs.Regions.{Region, product_where, region_before}
 
 -- in one row these numbers are named once more, and the other rows stay

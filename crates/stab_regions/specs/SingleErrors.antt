@@ -8,7 +8,7 @@ use Rattle.stab_gates.specs.declared.gate.Gate.TheVariants as gate
 use Rattle.stab_items.specs.Items.{Items}
 use Rattle.stab_items.specs.Steps.{Step, one, two, controlled, collapse, product, detector, observable, unroll, observables_of, detectors_of}
 use Rattle.stab_run.specs.Runs.{State, start, run, gate_of}
-use Rattle.stab_search.specs.Tables.{odd, row}
+use Rattle.stab_parities.specs.OddNumbers.{odd, row}
 
 -- a site of single errors: a qubit, in front of a step or after it
 pub record Site : Type 0 where

@@ -3,7 +3,7 @@ ghost use Rattle.stab_frames.specs.inner.Touches.{acts};
 ghost use Rattle.stab_items.specs.Steps.{HasDistinctQubits};
 ghost use Rattle.stab_items.specs.StepValues.{step_shown};
 ghost use Rattle.stab_run.specs.ProgramStates.{StepFits};
-ghost use Rattle.stab_search.specs.Tables.{row};
+ghost use Rattle.stab_parities.specs.OddNumbers.{row};
 ghost use Rattle.stab_regions.specs.inner.RowMoves.{HasNumbers};
 ghost use Rattle.stab_regions.specs.inner.EffectsAt.{numbers_in, IsEffectsAt, ClearsQubit, ClearsReset, EffectsMoveTo};
 

@@ -2,7 +2,7 @@ ghost use Rattle.std.specs.Prelude.{◌≡◌, ◌≢◌, ◌<◌, Some, length,
 ghost use Rattle.stab_tableau.specs.Gates.{back, back_pair};
 ghost use Rattle.stab_frames.specs.Images.{controlled_letter as letter_controlled};
 ghost use Rattle.stab_regions.specs.Rows.{MovesLetters};
-ghost use Rattle.stab_search.specs.Tables.{row};
+ghost use Rattle.stab_parities.specs.OddNumbers.{row};
 
 use crate::parities::Parities;
 use crate::rows::{toggle_if, toggle_within_if};

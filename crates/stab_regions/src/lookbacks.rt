@@ -1,7 +1,7 @@
 ghost use Rattle.std.specs.Prelude.{◌≡◌, ◌≢◌, ℕ, ◌+◌, ◌-◌, ◌<◌, List, ◌++◌, length, OnOk};
 ghost use Rattle.stab_regions.specs.Regions.{look_where};
 ghost use Rattle.stab_regions.specs.Rows.{Toggles, SameRows, ShowsLooks};
-ghost use Rattle.stab_search.specs.Tables.{odd, row};
+ghost use Rattle.stab_parities.specs.OddNumbers.{odd, row};
 
 use crate::parities::Parities;
 use std::alloc::{AllocError, Global};

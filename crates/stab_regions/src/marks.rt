@@ -1,6 +1,6 @@
 ghost use Rattle.std.specs.Prelude.{◌≡◌, ℕ, Bool, false, not, ◌<◌, ◌||◌, nat_eq, length, slice_index_or};
-ghost use Rattle.stab_search.specs.Ascending.{IsAscending};
-ghost use Rattle.stab_search.specs.Tables.{odd};
+ghost use Rattle.stab_parities.specs.Ascending.{IsAscending};
+ghost use Rattle.stab_parities.specs.OddNumbers.{odd};
 
 /// Makes a bit 1; a number past the end has none.
 fn set_at(bits: &mut [bool], site: usize)

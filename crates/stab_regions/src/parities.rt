@@ -1,4 +1,4 @@
-use stab_search::merge_into;
+use stab_parities::merge_into;
 use std::alloc::{AllocError, Global};
 use std::marker::Model;
 
@@ -10,7 +10,7 @@ pub struct Parities {
 
 impl Model for Parities {
     ghost use Rattle.std.specs.Prelude.{ℕ, List};
-    ghost use Rattle.stab_search.specs.Ascending.{IsAscending};
+    ghost use Rattle.stab_parities.specs.Ascending.{IsAscending};
 
     ghost Value = { List ℕ };
 
@@ -22,8 +22,8 @@ impl Model for Parities {
 impl Parities {
     ghost use Rattle.std.specs.Prelude.{◌≡◌, ℕ, false, [], ◌∷◌, nat_eq, length, IfOk};
     ghost use Rattle.stab_gates.specs.Letters.{◌⊕◌};
-    ghost use Rattle.stab_search.specs.Ascending.{IsAscending};
-    ghost use Rattle.stab_search.specs.Tables.{odd};
+    ghost use Rattle.stab_parities.specs.Ascending.{IsAscending};
+    ghost use Rattle.stab_parities.specs.OddNumbers.{odd};
 
     /// None, which takes no memory.
     pub fn none(alloc: Global) -> Parities

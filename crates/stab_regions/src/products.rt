@@ -5,7 +5,7 @@ ghost use Rattle.stab_items.specs.Steps.{product};
 ghost use Rattle.stab_run.specs.Runs.{string_of};
 ghost use Rattle.stab_regions.specs.Regions.{product_where};
 ghost use Rattle.stab_regions.specs.Rows.{ShowsLetters, MovesLetters, MovesRegion};
-ghost use Rattle.stab_search.specs.Tables.{odd};
+ghost use Rattle.stab_parities.specs.OddNumbers.{odd};
 
 use crate::lookbacks::newest;
 use crate::parities::Parities;

@@ -55,7 +55,7 @@ impl RegionRows {
     ghost use Rattle.stab_items.specs.StepValues.{step_shown};
     ghost use Rattle.stab_run.specs.ProgramStates.{StepFits};
     ghost use Rattle.stab_regions.specs.Regions.{Region, keeps_region};
-    ghost use Rattle.stab_search.specs.Tables.{odd};
+    ghost use Rattle.stab_parities.specs.OddNumbers.{odd};
     ghost use Rattle.stab_regions.specs.inner.RowMoves.{ShowsNumber, HasNumbers, BeginsRecord, corrected_by, MovesRows};
 
     /// Moves to the point before a gate on a qubit.

@@ -1,6 +1,6 @@
 ghost use Rattle.std.specs.Prelude.{◌≡◌, ℕ, ◌<◌, Bool, length, IfOk, OnOk};
 ghost use Rattle.stab_regions.specs.Rows.{Toggles, TogglesWhere, bits_at, MovesLetters, multiplied};
-ghost use Rattle.stab_search.specs.Tables.{odd, row};
+ghost use Rattle.stab_parities.specs.OddNumbers.{odd, row};
 
 use crate::parities::Parities;
 use stab_pauli::Letter;

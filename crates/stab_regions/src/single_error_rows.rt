@@ -1,5 +1,5 @@
 ghost use Rattle.std.specs.Prelude.{◌≡◌, ◌-◌, ◌<◌, ◌≤◌, [], ◌∷◌, length, take, drop, slice_index, slice_index_or};
-ghost use Rattle.stab_regions.specs.inner.StoredRows.{rows_cut, Rises, ends_kept, is_stored, kept_of};
+ghost use Rattle.stab_regions.specs.inner.StoredRows.{rows_cut, Rises, ends_retained, is_stored, retained_of};
 
 use std::alloc::{AllocError, Global};
 use std::marker::Model;
@@ -34,7 +34,7 @@ impl Model for SingleErrorRows {
 
 impl SingleErrorRows {
     ghost use Rattle.std.specs.Prelude.{◌≡◌, ◌<◌, [], ◌∷◌, ◌++◌, length, map, slice_index_or, OnOk};
-    ghost use Rattle.stab_regions.specs.inner.StoredRows.{kept_of};
+    ghost use Rattle.stab_regions.specs.inner.StoredRows.{retained_of};
 
     /// None, which takes no memory.
     pub fn new(alloc: Global) -> SingleErrorRows
@@ -80,11 +80,11 @@ impl SingleErrorRows {
     }
 
     /// Takes out of each row the numbers whose bit isn't set.
-    pub fn keep(&mut self, kept: &[bool])
-        ensures value { self.new ≡ map (kept_of kept.now) self.old }
+    pub fn keep(&mut self, retained: &[bool])
+        ensures value { self.new ≡ map (retained_of retained.now) self.old }
     {
-        move_ends(&mut self.ends, self.numbers.as_slice(), kept);
-        self.numbers.retain(|number| is_stored(kept, *number));
+        move_ends(&mut self.ends, self.numbers.as_slice(), retained);
+        self.numbers.retain(|number| is_stored(retained, *number));
     }
 }
 
@@ -117,32 +117,32 @@ fn row_of<'a>(ends: &[usize], numbers: &'a [u32], k: usize) -> &'a [u32]
 }
 
 /// Whether a number's bit is set.
-fn is_stored(kept: &[bool], number: u32) -> bool
-    ensures value { result ≡ is_stored kept.now number }
+fn is_stored(retained: &[bool], number: u32) -> bool
+    ensures value { result ≡ is_stored retained.now number }
 {
-    kept.get(number as usize).copied().unwrap_or(false)
+    retained.get(number as usize).copied().unwrap_or(false)
 }
 
 /// How many numbers' bits are set.
-fn count_kept(kept: &[bool], numbers: &[u32]) -> usize
-    ensures value { result ≡ length (kept_of kept.now numbers.now) }
+fn count_retained(retained: &[bool], numbers: &[u32]) -> usize
+    ensures value { result ≡ length (retained_of retained.now numbers.now) }
 {
     numbers
         .iter()
-        .filter(|number| is_stored(kept, **number))
+        .filter(|number| is_stored(retained, **number))
         .count()
 }
 
 /// Moves the ends of rows to where they are once only those numbers are there whose bit is set.
-fn move_ends(ends: &mut [usize], numbers: &[u32], kept: &[bool])
+fn move_ends(ends: &mut [usize], numbers: &[u32], retained: &[bool])
     requires rises { Rises 0 ends.old (length numbers.now) }
-    ensures value { ends.new ≡ ends_kept kept.now 0 0 ends.old numbers.now }
+    ensures value { ends.new ≡ ends_retained retained.now 0 0 ends.old numbers.now }
 {
     let mut begin = 0;
     let mut count = 0;
     'rows: for k in 0..ends.len() {
         let end = ends[k];
-        count += count_kept(kept, part(numbers, begin, end));
+        count += count_retained(retained, part(numbers, begin, end));
         ends[k] = count;
         begin = end;
     }

@@ -2,7 +2,7 @@ ghost use Rattle.std.specs.Prelude.{◌≡◌, ℕ, Bool, ◌+◌, ◌<◌, ◌&
 ghost use Rattle.stab_items.specs.Steps.{controlled, collapse};
 ghost use Rattle.stab_run.specs.Runs.{flip_of};
 ghost use Rattle.stab_regions.specs.Rows.{bits_at, MovesRegion};
-ghost use Rattle.stab_search.specs.Tables.{odd, row};
+ghost use Rattle.stab_parities.specs.OddNumbers.{odd, row};
 
 use crate::lookbacks::{look_back, newest};
 use crate::parities::Parities;

@@ -30,7 +30,7 @@ pub(crate) struct Sweep {
     /// The rows of the single errors after the point, the last single error's first.
     pub rows: SingleErrorRows,
     // The rows of the letters after the step that is passed.
-    kept: SingleErrorRows,
+    preserved: SingleErrorRows,
 }
 
 impl Sweep {
@@ -50,7 +50,7 @@ impl Sweep {
         Ok(Sweep {
             walk: RegionWalk::at_end(alloc, numbered, counts)?,
             rows: SingleErrorRows::new(alloc),
-            kept: SingleErrorRows::new(alloc),
+            preserved: SingleErrorRows::new(alloc),
         })
     }
 
@@ -62,7 +62,7 @@ impl Sweep {
     {
         let sides = sides_at(asked, step);
         keep_all(
-            &mut self.kept,
+            &mut self.preserved,
             self.walk.rows.by_x.as_slice(),
             self.walk.rows.by_z.as_slice(),
             sides.following,
@@ -73,7 +73,7 @@ impl Sweep {
             &mut self.rows,
             self.walk.rows.by_x.as_slice(),
             self.walk.rows.by_z.as_slice(),
-            &self.kept,
+            &self.preserved,
             sides,
             step,
         )?;

@@ -1,6 +1,6 @@
 ghost use Rattle.std.specs.Prelude.{◌≡◌, ℕ, ◌<◌, false, ◌||◌, [], List, length, replicate, slice_index_or, IfOk};
 ghost use Rattle.std.specs.List.{list_any};
-ghost use Rattle.stab_search.specs.Tables.{odd};
+ghost use Rattle.stab_parities.specs.OddNumbers.{odd};
 
 use crate::counts::Counts;
 use crate::effects::{before_effects, effects_at_end};

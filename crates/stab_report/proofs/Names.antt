@@ -15,7 +15,8 @@ pub use Rattle.stab_items.specs.Paths.{Path, path_text}
 pub use Rattle.stab_items.specs.StepPaths.{paths_of, outside}
 pub use Rattle.stab_items.specs.Steps.{Step, one, two, controlled, collapse, product, detector, observable, unroll, is_detector, detectors_of, observables_of, check_within, qubits_of}
 pub use Rattle.stab_items.specs.Views.{circuit_items}
-pub use Rattle.stab_search.specs.Tables.{row, ErrorTable}
+pub use Rattle.stab_search.specs.Tables.{ErrorTable}
+pub use Rattle.stab_parities.specs.OddNumbers.{row}
 pub use Rattle.stab_error_model.specs.ErrorTables.{ErrorTableState, IsErrorTable}
 pub use Rattle.stab_error_model.specs.Errors.{Error, first_single_error}
 pub use Rattle.stab_error_model.specs.Placed.{error_shown, single_error_shown}

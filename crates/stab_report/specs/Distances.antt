@@ -16,7 +16,7 @@ use Rattle.stab_results.specs.Formats.{entry}
 use Rattle.stab_regions.specs.SingleErrors.{SingleError, bits_in, IsDeterministic}
 use Rattle.stab_search.specs.declared.answer.Answer.{Answer}
 use Rattle.stab_search.specs.declared.answer.Answer.TheVariants.{Least, NoneWithin, NoneAtAll}
-use Rattle.stab_search.specs.Tables.{row}
+use Rattle.stab_parities.specs.OddNumbers.{row}
 use Rattle.stab_search.specs.Progress.{Heard, Hears, begins}
 use Rattle.stab_search.specs.Problems.{Clauses, problem_text}
 use Rattle.stab_search.specs.Questions.{Asks}

@@ -1,4 +1,4 @@
-ghost use Rattle.std.specs.Prelude.{◌≡◌, ◌≤◌, List, ℕ, [], ◌∷◌, take, OnOk};
+ghost use Rattle.std.specs.Prelude.{◌≡◌, ◌≤◌, ◌+◌, ◌++◌, List, ℕ, [], ◌∷◌, length, take, OnOk};
 ghost use Rattle.std.specs.Fmt.{decimal};
 ghost use Rattle.stab_results.specs.inner.ByteBuffer.{Puts};
 
@@ -56,6 +56,28 @@ impl ByteBuffer {
         }
         self.bytes[self.held] = byte;
         self.held += 1;
+        Ok(())
+    }
+
+    /// Holds bytes for which there is room.
+    fn hold(&mut self, bytes: &[u8])
+        requires room { length self.old + length bytes.now ≤ 1024 }
+        ensures held { self.new ≡ self.old ++ bytes.now }
+    {
+        let end = self.held + bytes.len();
+        self.bytes[self.held..end].copy_from_slice(bytes);
+        self.held = end;
+    }
+
+    /// Puts a block of bytes; what is held goes out first if there is no room.
+    pub(crate) fn put_bytes<O: Output>(&mut self, out: &mut O, bytes: &[u8]) -> Result<(), Refusal>
+        requires short { length bytes.now ≤ 1024 }
+        ensures puts { Puts (O.seen out.old) (O.seen out.new) self.old self.new bytes.now result }
+    {
+        if bytes.len() > ROOM - self.held {
+            self.send(out)?;
+        }
+        self.hold(bytes);
         Ok(())
     }
 

@@ -75,10 +75,22 @@ impl ByteBuffer {
     fn put_f01<O: Output>(&mut self, out: &mut O, bits: &[bool]) -> Result<(), Refusal>
         ensures puts { Puts (O.seen out.old) (O.seen out.new) self.old self.new (f01_bytes bits.now) result }
     {
-        for bit in bits {
-            self.push(out, digit(*bit))?;
+        for block in bits.chunks(BLOCK) {
+            self.put_digits(out, block)?;
         }
         self.push(out, b'\n')
+    }
+
+    /// Puts the characters of a block's bits, at most as many as a block has.
+    fn put_digits<O: Output>(&mut self, out: &mut O, bits: &[bool]) -> Result<(), Refusal>
+        requires short { length bits.now ≤ 64 }
+        ensures puts { Puts (O.seen out.old) (O.seen out.new) self.old self.new (flat_map digit bits.now) result }
+    {
+        let mut digits = [b'0'; BLOCK];
+        for (position, bit) in bits.iter().enumerate() {
+            digits[position] = digit(*bit);
+        }
+        self.put_bytes(out, digits.split_at(bits.len()).0)
     }
 
     fn put_b8<O: Output>(&mut self, out: &mut O, bits: &[bool]) -> Result<(), Refusal>

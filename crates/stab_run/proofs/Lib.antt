@@ -14,3 +14,9 @@ pub mod FitLemmas
 pub mod SoundLemmas
 pub mod CoinLemmas
 pub mod StepsLeftLemmas
+pub mod SameLemmas
+pub mod AlikeLemmas
+mod SearchLemmas
+mod PartLemmas
+mod SpanLemmas
+mod SeamLemmas

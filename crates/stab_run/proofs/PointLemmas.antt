@@ -1,24 +1,24 @@
--- Points: the flags and records after steps, and what steps give in two parts.
+-- Points: the randomness and records after steps, and what steps give in two parts.
 use Rattle.stab_run.proofs.Names.{◌≡◌, ℕ, ◌+◌, ◌≤◌, refl, sym, ◌∙◌, ap, subst, Bool, true, false, List, [], ◌∷◌, ◌++◌, append_assoc, append-nil, length, take, drop, arith, length-append, take-append-drop, take_at, drop_at, Step, one, two, controlled, collapse, product, detector, observable, Point, RunOutput, origin, joined, given, coins_of, next_point, point_after, outputs, lengths_of, front_of, rest_of}
 use Rattle.stab_run.proofs.RunLemmas.{outputs-append}
 
--- the flags and records after some steps
+-- the randomness and records after some steps
 
-pub flags-given : (n : ℕ) (coins : ℕ → Bool) (x : Step) (p : Point) → length (given n coins x p).free ≡ coins_of x
-flags-given n coins (one g q) p = refl
-flags-given n coins (two g a b) p = refl
-flags-given n coins (controlled l k q) p = refl
-flags-given n coins (collapse l q recorded inverted resets) p = refl
-flags-given n coins (product factors inverted) p = refl
-flags-given n coins (detector ks) p = refl
-flags-given n coins (observable j ks) p = refl
+pub randomness-given : (n : ℕ) (coins : ℕ → Bool) (x : Step) (p : Point) → length (given n coins x p).free ≡ coins_of x
+randomness-given n coins (one g q) p = refl
+randomness-given n coins (two g a b) p = refl
+randomness-given n coins (controlled l k q) p = refl
+randomness-given n coins (collapse l q recorded inverted resets) p = refl
+randomness-given n coins (product factors inverted) p = refl
+randomness-given n coins (detector ks) p = refl
+randomness-given n coins (observable j ks) p = refl
 
-pub flags-counted : (n : ℕ) (coins : ℕ → Bool) (xs : List Step) (p : Point) → (point_after n coins xs p).coin ≡ p.coin + length (outputs n coins xs p).free
-flags-counted n coins [] p = omega arith
-flags-counted n coins (x ∷ xs) p =
+pub randomness-counted : (n : ℕ) (coins : ℕ → Bool) (xs : List Step) (p : Point) → (point_after n coins xs p).coin ≡ p.coin + length (outputs n coins xs p).free
+randomness-counted n coins [] p = omega arith
+randomness-counted n coins (x ∷ xs) p =
     let next = next_point n coins x p in
-    let later : (point_after n coins xs next).coin ≡ (p.coin + coins_of x) + length (outputs n coins xs next).free = flags-counted n coins xs next in
-    omega (arith, later, flags-given n coins x p, length-append (given n coins x p).free (outputs n coins xs next).free)
+    let later : (point_after n coins xs next).coin ≡ (p.coin + coins_of x) + length (outputs n coins xs next).free = randomness-counted n coins xs next in
+    omega (arith, later, randomness-given n coins x p, length-append (given n coins x p).free (outputs n coins xs next).free)
 
 pub records-gathered : (n : ℕ) (coins : ℕ → Bool) (xs : List Step) (p : Point) → (point_after n coins xs p).records ≡ p.records ++ (outputs n coins xs p).records
 records-gathered n coins [] p = sym (append-nil p.records)
@@ -26,8 +26,8 @@ records-gathered n coins (x ∷ xs) p =
     records-gathered n coins xs (next_point n coins x p)
     ∙ append_assoc p.records (given n coins x p).records (outputs n coins xs (next_point n coins x p)).records
 
-pub flags-are-coins : (n : ℕ) (coins : ℕ → Bool) (xs : List Step) → length (outputs n coins xs origin).free ≡ (point_after n coins xs origin).coin
-flags-are-coins n coins xs = omega (arith, flags-counted n coins xs origin)
+pub randomness-is-coins : (n : ℕ) (coins : ℕ → Bool) (xs : List Step) → length (outputs n coins xs origin).free ≡ (point_after n coins xs origin).coin
+randomness-is-coins n coins xs = omega (arith, randomness-counted n coins xs origin)
 
 pub records-are-records : (n : ℕ) (coins : ℕ → Bool) (xs : List Step) → (outputs n coins xs origin).records ≡ (point_after n coins xs origin).records
 records-are-records n coins xs = sym (records-gathered n coins xs origin)

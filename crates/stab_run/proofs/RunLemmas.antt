@@ -59,13 +59,13 @@ IsRun-same n m c d xs a b same_size same_coins f = subst (λ k. IsRun k c xs a b
 one-run : (n : ℕ) (coins : ℕ → Bool) (x : Step) (a b : ProgramState) (p : Point) → IsAt n a p
     → SameGroup n b.stabilised (member (trace_after n coins x p))
     → length (given n coins x p).free ≡ coins_of x → b.output ≡ joined a.output (given n coins x p) → ProgramComesTo n coins (x ∷ []) a b p
-one-run n coins x a b p s group flags output = record {
+one-run n coins x a b p s group randomness output = record {
   shows = record {
     group = group;
     coin =
         ap (λ (o : RunOutput). length o.free) output
         ∙ length-append a.output.free (given n coins x p).free
-        ∙ (λ i. s.coin i + flags i);
+        ∙ (λ i. s.coin i + randomness i);
     records = ap (λ (o : RunOutput). o.records) output ∙ ap (λ r. r ++ (given n coins x p).records) s.records;
   };
   output = output ∙ ap (joined a.output) (sym (joined-nothing (given n coins x p)));

@@ -58,7 +58,7 @@ same_outcome : (trace : List Event) (p : Signed) (coin other : Bool) (flag : Boo
 same_outcome trace p coin other true e same = ap (outcome trace p) (sym (same refl))
 same_outcome trace p coin other false e same = fixed-outcome trace p e other coin
 
--- the flags are as many as the coin numbers used up
+-- the randomness has as many bits as the coin numbers used up
 
 counted-effect : (n : ℕ) (coins : ℕ → Bool) (x : Step) (s : State) → s.coin ≡ length s.free → (effect n coins x s).coin ≡ length (effect n coins x s).free
 counted-effect n coins (one g q) s e = e

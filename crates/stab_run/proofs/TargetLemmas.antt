@@ -1,5 +1,5 @@
 -- Targets of one instruction: the steps that they stand for, carried out one after another.
-use Rattle.stab_run.proofs.Names.{◌≡◌, ℕ, ◌+◌, ◌<◌, ◌≤◌, refl, sym, ◌∙◌, ap, subst, arith, Bool, List, [], ◌∷◌, ◌++◌, All, length, map, take, get_or, map_more, get_or-map, length-map, take_all, All-get_or, MeasureTarget, Measurement, Step, measured, all_coins_of, StepFits, ProgramState, IsRun}
+use Rattle.stab_run.proofs.Names.{◌≡◌, ℕ, ◌+◌, ◌<◌, ◌≤◌, refl, sym, ◌∙◌, ap, subst, arith, Bool, List, [], ◌∷◌, ◌++◌, All, length, map, take, get_or, map_more, get_or-map, length-map, take_all, All-get_or, MeasureTarget, Measurement, Step, measured, all_coins_of, StepFits, ProgramState, IsRun, CostsAtMost}
 use Rattle.stab_run.proofs.RunLemmas.{IsRun-append, IsRun-same}
 
 -- what the step of the target at a position needs
@@ -31,3 +31,11 @@ run-targets n c step xs i a b all f = subst (λ ys. IsRun n c (map step ys) a b)
 pub coins-measured : (m : Measurement) (targets : List MeasureTarget) → all_coins_of (map (measured m) targets) ≡ length targets
 coins-measured m [] = refl
 coins-measured m (t ∷ targets) = let e = coins-measured m targets in omega (arith, e)
+
+-- what measured targets cost, if each costs one step and one coin at most
+pub costs-measured : (m : Measurement) (targets : List MeasureTarget) (applied later asked after : ℕ) → later ≤ applied + length targets → after ≤ asked + length targets
+    → applied + after ≤ later + asked → CostsAtMost (map (measured m) targets) applied later asked after
+costs-measured m targets applied later asked after most asks each =
+    let coins = coins-measured m targets in
+    let count = length-map targets (measured m) in
+    record { most = omega (arith, most, count); asks = omega (arith, asks, coins); asks_counted = each }

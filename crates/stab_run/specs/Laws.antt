@@ -30,15 +30,15 @@ CoinsDecideRandomOutcomes =
     (is_random trace p ≡ true → (coin : Bool) → outcome trace p coin ≡ coin)
     × (is_random trace p ≡ false → (coin other : Bool) → outcome trace p coin ≡ outcome trace p other)
 
--- two sequences of coins have the same coins where the flags are 1
+-- two sequences of coins have the same coins where the randomness is 1
 abbrev pub AgreeWhere : List Bool → (ℕ → Bool) → (ℕ → Bool) → Type 0
-AgreeWhere flags coins others = (t : ℕ) → slice_index_or flags t false ≡ true → coins t ≡ others t
+AgreeWhere randomness coins others = (t : ℕ) → slice_index_or randomness t false ≡ true → coins t ≡ others t
 
--- other coins that are the same where the flags are 1 make the same run
+-- other coins that are the same where the randomness is 1 make the same run
 abbrev pub DependsOnCoinsAt : List Bool → ℕ → (ℕ → Bool) → Items → Type 0
-DependsOnCoinsAt flags n coins items = (others : ℕ → Bool) → AgreeWhere flags coins others → run_of n others items ≡ run_of n coins items
+DependsOnCoinsAt randomness n coins items = (others : ℕ → Bool) → AgreeWhere randomness coins others → run_of n others items ≡ run_of n coins items
 
--- a run depends on the coins that its own flags name
+-- a run depends on the coins that its own randomness names
 abbrev pub RunsDependOnDecidingCoins : Type 0
 RunsDependOnDecidingCoins = (n : ℕ) (coins : ℕ → Bool) (items : Items) → DependsOnCoinsAt (run_of n coins items).free n coins items
 

@@ -8,3 +8,4 @@ pub mod Cuts
 pub mod Ends
 pub mod Laws
 pub mod RoundLaws
+pub mod Spans

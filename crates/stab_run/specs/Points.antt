@@ -19,7 +19,7 @@ pub record Point : Type 0 where
 abbrev pub origin : Point
 origin = record { trace = []; coin = 0; records = [] }
 
--- what steps give: records, flags and outcomes of coin numbers, detectors, and what is added to observables
+-- what steps give: records, randomness and outcomes of coin numbers, detectors, and what is added to observables
 pub record RunOutput : Type 0 where
   pub records : List Bool
   pub free : List Bool

@@ -1,6 +1,6 @@
 -- Program states: what a running program holds, and how it follows a run.
 -- Source: this project's own.
-use Rattle.std.specs.Prelude.{◌≡◌, ◌≢◌, ℕ, ◌<◌, Bool, true, false, List, All, length}
+use Rattle.std.specs.Prelude.{◌≡◌, ◌≢◌, ℕ, ◌+◌, ◌<◌, ◌≤◌, Bool, true, false, List, [], ◌∷◌, All, length}
 use Rattle.stab_gates.specs.declared.letter.Letter.{Letter}
 use Rattle.stab_pauli.specs.Paulis.{Signed}
 use Rattle.stab_tableau.specs.Gates.{back}
@@ -9,8 +9,9 @@ use Rattle.stab_tableau.specs.Groups.{SameGroup}
 use Rattle.stab_tableau.specs.Tableaus.{TableauState, stabilises}
 use Rattle.stab_items.specs.Steps.{Step, one, two, controlled, collapse, product, detector, observable}
 use Rattle.stab_run.specs.declared.records.Outputs.{Outputs}
-use Rattle.stab_run.specs.Runs.{gate_of}
-use Rattle.stab_run.specs.Points.{Point, RunOutput, joined, point_after, outputs}
+use Rattle.stab_run.specs.Runs.{gate_of, measured_by}
+use Rattle.stab_run.specs.StepPivots.{HasPivot}
+use Rattle.stab_run.specs.Points.{Point, RunOutput, joined, point_after, outputs, all_coins_of}
 
 -- the qubits of a step are below n, and those of a pair differ
 abbrev pub StepFits : ℕ → Step → Type 0
@@ -54,3 +55,15 @@ pub record ProgramComesTo (n : ℕ) (coins : ℕ → Bool) (xs : List Step) (old
 -- the program went through the steps, from whatever point it was at
 abbrev pub IsRun : ℕ → (ℕ → Bool) → List Step → ProgramState → ProgramState → Type 0
 IsRun n coins xs old new = (p : Point) → IsAt n old p → ProgramComesTo n coins xs old new p
+
+-- the program went through a step; whether a coin decided its outcome is said, and letters that exchange its outcomes if one did
+pub record IsRunWithPivot (n : ℕ) (coins : ℕ → Bool) (x : Step) (old new : ProgramState) (free : Bool) (letters : List Letter) : Type 0 where
+  pub run : IsRun n coins (x ∷ []) old new
+  pub pivot : HasPivot n old.stabilised (measured_by n x) free letters
+
+-- what steps cost at most, also if they stop on the way: `later` and `after` count steps carried out and coins asked for where `applied` and
+-- `asked` did so before; a step asks for one coin at most
+pub record CostsAtMost (xs : List Step) (applied later asked after : ℕ) : Type 0 where
+  pub most : later ≤ applied + length xs
+  pub asks : after ≤ asked + all_coins_of xs
+  pub asks_counted : applied + after ≤ later + asked

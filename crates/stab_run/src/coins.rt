@@ -72,7 +72,7 @@ impl Coins for ListCoins<'_> {
 /// The seed is the key of ChaCha8, as eight bytes with the least significant first and 24 zeros
 /// after them, and the shot is its stream. The lowest bit of each 32-bit word is the coin of the
 /// word's number. Coins are made 64 at a time, in four blocks of sixteen words, and the last 64 are
-/// kept; so in ascending order each block is made once.
+/// stored; so in ascending order each block is made once.
 pub struct SeedCoins {
     seed: u64,
     shot: u64,

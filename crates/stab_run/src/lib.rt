@@ -7,6 +7,10 @@
 //! - `measure`: measurements that ask for a coin only if the coin decides, and their pivots.
 //! - `step`, `step_with_pivot`, `steps`: one step on a tableau, the same with its pivot, and the steps of one
 //!   instruction or of detectors.
+//! - `same`, `alike`, `window`: which steps are the same as others, how many after two positions are, and how far back they look.
+//! - `search`, `edited`: where rounds are that are written out, and which an edited circuit has, by those that it had. They are looked for
+//!   only in circuits without blocks, and only as far as looking for them costs little: none may be found if there are some, or a round or
+//!   two later. What is found is compared step by step.
 //! - `laws`: each function does nothing: its contract is a law of runs, and the check proves it.
 //!
 //! `specs/` says which bit each coin is, what the steps of a circuit make of its qubits and records, and
@@ -24,20 +28,28 @@
 //! the bits of ChaCha8 that `specs/Coins.antt` names. A step, and the steps of one instruction, lead a
 //! tableau and what was gathered from one point to the next (`specs/Points.antt`,
 //! `specs/ProgramStates.antt`), and ask for at most as many coins as decide. That where steps end and
-//! what they give is the run by the group rules of `specs/Runs.antt` is one of the laws.
+//! what they give is the run by the group rules of `specs/Runs.antt` is one of the laws. What is found are rounds of the same
+//! steps, one after the other (`specs/Repeats.antt` of `stab_items`); no step looks further back than is reported.
 #![tactic(auto)]
 
+mod alike;
 mod coins;
+mod edited;
 pub mod laws;
 mod measure;
 mod records;
+mod same;
+mod search;
 mod step;
 mod step_with_pivot;
 mod steps;
+mod window;
 
 pub use coins::{Coins, ListCoins, SeedCoins, seed_coins};
+pub use edited::edited_rounds;
 pub use measure::write_product;
 pub use records::{Addition, Lengths, Outputs, looked_up, observables, parity};
+pub use search::find_rounds;
 pub use step::{apply_step, as_gate, flip};
 pub use step_with_pivot::apply_step_with_pivot;
 pub use steps::apply_steps;

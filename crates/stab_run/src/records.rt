@@ -4,7 +4,7 @@ ghost use Rattle.stab_run.specs.Records.{looked_up as looked_up_of, parity as pa
 
 use std::alloc::{AllocError, Global};
 
-/// How long the lists of a run were at some step. There are as many outcomes as flags.
+/// How long the lists of a run were at some step. There are as many outcomes as bits of randomness.
 #[derive(Clone, Copy)]
 pub struct Lengths {
     pub records: usize,
@@ -21,7 +21,7 @@ pub struct Addition {
 }
 
 /// What steps have given so far: records, a flag and an outcome for each coin number, detectors,
-/// and what was added to observables. The number of the next coin is the number of flags.
+/// and what was added to observables. The number of the next coin is the number of bits of randomness.
 pub struct Outputs {
     pub records: Vec<bool>,
     pub free: Vec<bool>,
@@ -62,7 +62,7 @@ impl Outputs {
         }
     }
 
-    /// Nothing yet, with room for this many records, flags and outcomes.
+    /// Nothing yet, with room for this many records, randomness and outcomes.
     pub fn with_capacity(alloc: Global, records: usize) -> Result<Outputs, AllocError>
         ensures value { IfOk result (λ o. output_of o ≡ nothing) }
     {
@@ -75,7 +75,7 @@ impl Outputs {
         })
     }
 
-    /// Its records, flags, detectors and additions.
+    /// Its records, randomness, detectors and additions.
     pub fn into_parts(self) -> (Vec<bool>, Vec<bool>, Vec<bool>, Vec<Addition>)
         ensures records { result.0 ≡ self.records }
         ensures free { result.1 ≡ self.free }

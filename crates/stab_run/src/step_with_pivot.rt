@@ -1,13 +1,10 @@
 //! One step on a tableau, with its pivot.
 
-ghost use Rattle.std.specs.Prelude.{◌≡◌, ◌+◌, ◌<◌, ◌≤◌, ◌^◌, ◌∷◌, [], length, IfOk, OnOk};
-ghost use Rattle.stab_tableau.specs.Tableaus.{stabilises};
+ghost use Rattle.std.specs.Prelude.{◌≡◌, ◌+◌, ◌<◌, ◌≤◌, ◌^◌, length, IfOk, OnOk};
 ghost use Rattle.stab_items.specs.StepValues.{step_shown};
 ghost use Rattle.stab_run.specs.Records.{ones};
-ghost use Rattle.stab_run.specs.Runs.{measured_by};
-ghost use Rattle.stab_run.specs.StepPivots.{HasPivot};
 ghost use Rattle.stab_run.specs.Points.{coins_of};
-ghost use Rattle.stab_run.specs.ProgramStates.{StepFits, IsRun, program_state, output_of};
+ghost use Rattle.stab_run.specs.ProgramStates.{StepFits, IsRunWithPivot, program_state, output_of};
 
 use crate::coins::Coins;
 use crate::measure::{measure_string_with_pivot, measure_with_pivot, write_product};
@@ -39,9 +36,8 @@ pub fn apply_step_with_pivot<C: Coins>(
     ensures same_coins { C.sequence coins.new ≡ C.sequence coins.old }
     ensures asks { C.asks coins.new ≤ C.asks coins.old + coins_of (step_shown step.entry) }
     ensures asks_random { OnOk result (C.asks coins.new + ones outputs.old.free.items ≤ C.asks coins.old + ones outputs.new.free.items) }
-    ensures run { OnOk result (IsRun tableau.old.qubits (C.sequence coins.old) (step_shown step.entry ∷ []) (program_state tableau.old (output_of outputs.old)) (program_state tableau.new (output_of outputs.new))) }
     ensures pivot_length { length pivot.new.letters ≡ length pivot.old.letters }
-    ensures pivot { IfOk result (λ free. HasPivot tableau.old.qubits (stabilises tableau.old) (measured_by tableau.old.qubits (step_shown step.entry)) free pivot.new.letters) }
+    ensures run { IfOk result (λ free. IsRunWithPivot tableau.old.qubits (C.sequence coins.old) (step_shown step.entry) (program_state tableau.old (output_of outputs.old)) (program_state tableau.new (output_of outputs.new)) free pivot.new.letters) }
 {
     let coin = outputs.free.len() as u64;
     match step {

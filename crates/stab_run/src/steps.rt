@@ -5,8 +5,8 @@ ghost use Rattle.stab_tableau.specs.Tableaus.{TableauState};
 ghost use Rattle.stab_items.specs.Steps.{one, controlled_step, measured, detector};
 ghost use Rattle.stab_items.specs.StepValues.{lookbacks_of, steps_shown};
 ghost use Rattle.stab_run.specs.Records.{ones};
-ghost use Rattle.stab_run.specs.Points.{RunOutput, all_coins_of};
-ghost use Rattle.stab_run.specs.ProgramStates.{StepFits, IsRun, program_state, output_of};
+ghost use Rattle.stab_run.specs.Points.{RunOutput};
+ghost use Rattle.stab_run.specs.ProgramStates.{StepFits, IsRun, CostsAtMost, program_state, output_of};
 
 use crate::coins::Coins;
 use crate::records::{Outputs, looked_up, parity};
@@ -31,12 +31,10 @@ pub fn apply_steps<C: Coins>(
     requires fits { All (StepFits tableau.old.qubits) (steps_shown steps) }
     requires few { applied.old + length (steps_shown steps) < 2 ^ 63 }
     ensures counted { OnOk result (applied.new ≡ applied.old + length (steps_shown steps.entry)) }
-    ensures asks_counted { applied.old + C.asks coins.new ≤ applied.new + C.asks coins.old }
-    ensures most { applied.new ≤ applied.old + length (steps_shown steps.entry) }
+    ensures costs { CostsAtMost (steps_shown steps.entry) applied.old applied.new (C.asks coins.old) (C.asks coins.new) }
     ensures qubits { tableau.new.qubits ≡ tableau.old.qubits }
     ensures string { length string.new.letters ≡ length string.old.letters }
     ensures same_coins { C.sequence coins.new ≡ C.sequence coins.old }
-    ensures asks { C.asks coins.new ≤ C.asks coins.old + all_coins_of (steps_shown steps.entry) }
     ensures asks_random { OnOk result (C.asks coins.new + ones outputs.old.free.items ≤ C.asks coins.old + ones outputs.new.free.items) }
     ensures run { OnOk result (IsRun tableau.old.qubits (C.sequence coins.old) (steps_shown steps.entry) (program_state tableau.old (output_of outputs.old)) (program_state tableau.new (output_of outputs.new))) }
 {
@@ -134,12 +132,10 @@ fn measure_targets<C: Coins>(
     requires fits { All (StepFits tableau.old.qubits) (map (measured measurement) targets.now) }
     requires few { applied.old + length targets.now < 2 ^ 63 }
     ensures counted { OnOk result (applied.new ≡ applied.old + length targets.now) }
-    ensures asks_counted { applied.old + C.asks coins.new ≤ applied.new + C.asks coins.old }
-    ensures most { applied.new ≤ applied.old + length targets.now }
+    ensures costs { CostsAtMost (map (measured measurement) targets.now) applied.old applied.new (C.asks coins.old) (C.asks coins.new) }
     ensures qubits { tableau.new.qubits ≡ tableau.old.qubits }
     ensures string { length string.new.letters ≡ length string.old.letters }
     ensures same_coins { C.sequence coins.new ≡ C.sequence coins.old }
-    ensures asks { C.asks coins.new ≤ C.asks coins.old + length targets.now }
     ensures asks_random { OnOk result (C.asks coins.new + ones outputs.old.free.items ≤ C.asks coins.old + ones outputs.new.free.items) }
     ensures run { OnOk result (IsRun tableau.old.qubits (C.sequence coins.old) (map (measured measurement) targets.now) (program_state tableau.old (output_of outputs.old)) (program_state tableau.new (output_of outputs.new))) }
 {

@@ -1,5 +1,5 @@
 -- Advanced lanes: lanes that are again as they were at a checkpoint go over the rounds that are left as they went over those since.
-use Rattle.stab_sampler.proofs.Names.{◌≡◌, ℕ, ◌+◌, ◌-◌, ◌*◌, ◌<◌, ◌≤◌, refl, sym, ◌∙◌, ap, subst, List, ◌++◌, length, take, arith, take_at, Letter, Step, rounds, Repeat, round_of, IsRepeat, Lengths, joined-assoc, looked_up, RunOutput, joined, all_coins_of, rest_of, output_copies, after_rounds, more-rounds, coins-append, rounds-rounds, rounds-within, RunPivots, frame_over, flips_over, frame-append, flips-append, Difference, frame_of_difference, next_coin, DiffersAlong, no_difference, IsKeptAfter, [], drop, drop_at, drop_all, lengths_of, without_outcomes}
+use Rattle.stab_sampler.proofs.Names.{◌≡◌, ℕ, ◌+◌, ◌-◌, ◌*◌, ◌<◌, ◌≤◌, refl, sym, ◌∙◌, ap, subst, List, ◌++◌, length, take, arith, take_at, Letter, Step, rounds, Repeat, round_of, IsRepeat, Lengths, joined-assoc, looked_up, RunOutput, joined, all_coins_of, rest_of, output_copies, after_rounds, more-rounds, coins-append, rounds-rounds, rounds-within, RunPivots, frame_over, flips_over, frame-append, flips-append, Difference, frame_of_difference, next_coin, DiffersAlong, no_difference, IsStoredAfter, [], drop, drop_at, drop_all, lengths_of, without_outcomes}
 use Rattle.stab_sampler.proofs.FollowLemmas.{follows-append}
 use Rattle.stab_sampler.proofs.FoldLemmas.{HasNone, follows-again}
 
@@ -19,9 +19,9 @@ follows-rest n pivots xs ys a b c whole first = record {
   coin = omega (arith, whole.coin, first.coin, coins-append xs ys);
 }
 
--- what comes after what was given, if no outcomes are kept
-rest-kept : (a b : RunOutput) → a.outcomes ≡ [] → rest_of (lengths_of a) (joined a (without_outcomes b)) ≡ without_outcomes b
-rest-kept a b none = λ i. record {
+-- what comes after what was given, if no outcomes are stored
+rest-preserved : (a b : RunOutput) → a.outcomes ≡ [] → rest_of (lengths_of a) (joined a (without_outcomes b)) ≡ without_outcomes b
+rest-preserved a b none = λ i. record {
   records = drop_at a.records b.records (length a.records) refl i;
   free = drop_at a.free b.free (length a.free) refl i;
   outcomes = (ap (λ bits. drop (length a.free) (bits ++ [])) none ∙ drop_all (length a.free) [] (omega arith)) i;
@@ -33,7 +33,7 @@ rest-kept a b none = λ i. record {
 
 module _ (n : ℕ) (pivots : RunPivots) (steps : List Step) (r : Repeat) (is : IsRepeat steps r) (early done times : ℕ) (later : early < done)
     (within : done + times * (done - early) ≤ r.rounds) (letters : List Letter) (lengths : Lengths)
-    (checkpoint : IsKeptAfter n pivots (take (after_rounds r early) steps) letters lengths) (now : Difference)
+    (checkpoint : IsStoredAfter n pivots (take (after_rounds r early) steps) letters lengths) (now : Difference)
     (advanced : DiffersAlong n pivots (take (after_rounds r done) steps) (no_difference n) now) (same : letters ≡ now.letters)
     (back : (k : ℕ) → k ≤ r.window → looked_up (take lengths.records now.flips.records) k ≡ looked_up now.flips.records k) where
   abbrev first : List Step
@@ -56,7 +56,7 @@ module _ (n : ℕ) (pivots : RunPivots) (steps : List Step) (r : Repeat) (is : I
   rest_is : rest_of lengths now.flips ≡ without_outcomes (flips_over n pivots since (next_coin before) (frame_of_difference before))
   rest_is =
       (λ i. rest_of (checkpoint.long i) (passed.flips i))
-      ∙ rest-kept before.flips (flips_over n pivots since (next_coin before) (frame_of_difference before)) (ap (λ (o : RunOutput). o.outcomes) checkpoint.advanced.flips)
+      ∙ rest-preserved before.flips (flips_over n pivots since (next_coin before) (frame_of_difference before)) (ap (λ (o : RunOutput). o.outcomes) checkpoint.advanced.flips)
 
   records_then : take lengths.records now.flips.records ≡ before.flips.records
   records_then =

@@ -1,4 +1,4 @@
--- Checkpoints: lists that are repeated, flags of which none is 1, and letters that are the same one by one.
+-- Checkpoints: lists that are repeated, randomness of which no bit is 1, and letters that are the same one by one.
 use Rattle.stab_sampler.proofs.Names.{◌≡◌, ℕ, zero, suc, ◌+◌, ◌-◌, ◌*◌, ◌<◌, ◌≤◌, refl, sym, ◌∙◌, ap, subst, Bool, true, false, List, [], ◌∷◌, ◌++◌, append-nil, append_assoc, length, take, drop, map, get_or, inl, inr, arith, cases_lt, length-append, length-map, length-drop, map-append, drop-map, drop-append-le, drop_all, take_at, get_or-map, get_or-drop, ext_get_or, I, ones, RunOutput, joined, output_copies, rest_of, Lengths, ones-split, Letters, Lanes, lane_letters, letter_in, lane_output, times}
 use Rattle.std.proofs.Common.{◌⊎◌}
 
@@ -79,7 +79,7 @@ output-again at l old new lengths k records free detectors sums =
     })
     ∙ ap (joined (lane_output at l old)) (sym (copies-times k (rest_of lengths (lane_output at l old))))
 
--- flags of which none is 1
+-- randomness of which no bit is 1
 
 ones-none : (k : ℕ) (bits : List Bool) → ((t : ℕ) → t < k → get_or bits t false ≡ false) → ones (take k bits) ≡ 0
 ones-none zero bits none = refl
@@ -94,7 +94,7 @@ pub ones-further : (c k : ℕ) (bits : List Bool) → ((t : ℕ) → t < k → g
 ones-further c k bits none =
     omega (arith, ones-split c k bits, ones-none k (drop c bits) (λ t lt. get_or-drop c bits t false ∙ none t lt))
 
--- with flags repeated this often, if none is 1 among those and as many as are added
+-- with randomness repeated this often, if no bit is 1 among those and as many as are added
 pub counted-again : (bits old new : List Bool) (from k period : ℕ) → period ≡ length old - from → new ≡ old ++ times k (drop from old)
     → ((t : ℕ) → t < period * (k + 1) → get_or bits (from + t) false ≡ false) → ones (take (length new) bits) ≡ ones (take (length old) bits)
 counted-again bits old new from k period size is none = by_period (cases_lt 0 period)

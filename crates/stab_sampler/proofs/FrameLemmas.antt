@@ -101,10 +101,10 @@ module _ {W : Type 0} (at : W → ℕ → Bool) (l : ℕ) (ws : List (Letters W)
   pub exchange-put : (g : PairGate) (a b : ℕ) (w v m : Letters W) → controlled_letter g ≡ None → a < length ws → b < length ws
       → w ≡ get_or ws a w → v ≡ get_or ws b v → m ≡ w
       → lane_letters at l (set (set ws a v) b m) ≡ (image_pair g a b (plus (lane_letters at l ws))).letters
-  exchange-put g a b w v m is la lb at_a at_b kept =
+  exchange-put g a b w v m is la lb at_a at_b preserved =
       pair-put g a b w v v m la lb at_a at_b
       (sym (first_controlled g (letter_in at l w) (letter_in at l v) ∙ ap (λ o. first_by o (letter_in at l w) (letter_in at l v)) is))
-      (ap (letter_in at l) kept ∙ sym (second_controlled g (letter_in at l w) (letter_in at l v) ∙ ap (λ o. second_by o (letter_in at l w) (letter_in at l v)) is))
+      (ap (letter_in at l) preserved ∙ sym (second_controlled g (letter_in at l w) (letter_in at l v) ∙ ap (λ o. second_by o (letter_in at l w) (letter_in at l v)) is))
 
   pub times-put : (b : Bool) (letter : Letter) (q n : ℕ) (w v : Letters W) → length (lane_letters at l ws) ≡ n → q < n → q < length ws → w ≡ get_or ws q w
       → letter_in at l v ≡ letter_times b letter (letter_in at l w)

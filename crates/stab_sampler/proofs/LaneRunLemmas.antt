@@ -1,5 +1,5 @@
 -- Runs of lanes: lanes that are propagated over the steps of a run with all coins 0, stretch by stretch, are runs.
-use Rattle.stab_sampler.proofs.Names.{◌≡◌, ℕ, ◌+◌, refl, sym, ◌∙◌, ap, subst, Bool, false, List, [], ◌∷◌, ◌++◌, length, replicate, set, get_or, arith, Option, length-replicate, length-set, replicate-append-replicate, Letter, I, ◌⊕◌, parity-false, Items, Step, unroll, observables_of, Addition, Shot, State, start, run, run_of, RunOutput, nothing, origin, joined, point_after, outputs, all_coins_of, with_additions, state_at, StepFits, run-state, records-are-records, flipped, Frame, AreFronts, RunPivots, pivots_of, coins_changed, AreRight, AreEnough, frame_over, flips_over, right-enough, coins-append, coins-are, by_frame-same, fronts-outputs, fronts-matches, fronts-by_frame, records-flipped, flags-flipped, detectors-flipped, observables-flipped, Shots, AreRuns, IsShot, zero_coins, Difference, frame_of_difference, next_coin, DiffersAlong, IsLane, IsAsLong, AreFlipped, without_outcomes}
+use Rattle.stab_sampler.proofs.Names.{◌≡◌, ℕ, ◌+◌, refl, sym, ◌∙◌, ap, subst, Bool, false, List, [], ◌∷◌, ◌++◌, length, replicate, set, get_or, arith, Option, length-replicate, length-set, replicate-append-replicate, Letter, I, ◌⊕◌, parity-false, Items, Step, unroll, observables_of, Addition, Shot, State, start, run, run_of, RunOutput, nothing, origin, joined, point_after, outputs, all_coins_of, with_additions, state_at, StepFits, run-state, records-are-records, flipped, Frame, AreFronts, RunPivots, pivots_of, coins_changed, AreRight, AreEnough, frame_over, flips_over, right-enough, coins-append, coins-are, by_frame-same, fronts-outputs, fronts-matches, fronts-by_frame, records-flipped, randomness-flipped, detectors-flipped, observables-flipped, Shots, AreRuns, IsShot, zero_coins, Difference, frame_of_difference, next_coin, DiffersAlong, IsLane, IsAsLong, AreFlipped, without_outcomes}
 use Rattle.std.specs.Prelude.{All}
 use Rattle.stab_sampler.proofs.RecordingLemmas.{run-items}
 use Rattle.stab_recording.proofs.FlippedLemmas.{flips-random, flipped-zeros}
@@ -9,7 +9,7 @@ pub lane-first : (n : ℕ) (coins : ℕ → Bool) (d : Difference) → d.letters
 lane-first n coins d blank empty =
     subst (λ x. x) (λ i. IsLane n coins [] (record { letters = sym blank i; flips = sym empty i })) (record {
       flips = nothing;
-      kept = refl;
+      preserved = refl;
       fronts = record {
         by_frame = by_frame-same n origin;
         given = refl;
@@ -61,7 +61,7 @@ module _ (n : ℕ) (coins : ℕ → Bool) (xs ys : List Step) (fits : All (StepF
   lane-further = record {
     flips = joined lane.flips (flips_over n pivots ys p f);
     fronts = subst (λ g. AreFronts n zero_coins (coins_changed zero_coins coins) (xs ++ ys) (xs ++ ys) g (joined lane.flips (flips_over n pivots ys p f))) (sym frame) further;
-    kept = flips ∙ ap (λ o. joined o (without_outcomes (flips_over n pivots ys p f))) lane.kept;
+    preserved = flips ∙ ap (λ o. joined o (without_outcomes (flips_over n pivots ys p f))) lane.preserved;
     still =
         ap (λ (o : RunOutput). o.free) flips
         ∙ (λ i. lane.still i ++ flips-random n pivots ys p f i)
@@ -95,7 +95,7 @@ module _ (n : ℕ) (coins : ℕ → Bool) (items : Items) (shot : Shot) (is : Is
   following = run-state n zero_coins xs (start count)
 
   pub as-long : IsAsLong count shot d.flips
-  as-long = subst (IsAsLong count shot) (sym lane.kept) (record {
+  as-long = subst (IsAsLong count shot) (sym lane.preserved) (record {
     records =
         lane.fronts.matches.records
         ∙ ap length (records-are-records n zero_coins xs ∙ sym (ap (λ (s : State). s.records) following) ∙ ap (λ (s : State). s.records) zero_state ∙ sym is.records);
@@ -109,7 +109,7 @@ module _ (n : ℕ) (coins : ℕ → Bool) (items : Items) (shot : Shot) (is : Is
 
   pub lane-runs : {W : Type 0} (at : W → ℕ → Bool) (l : ℕ) (shots : Shots W) → AreFlipped at l count shot d.flips shots → AreRuns at l n coins items shots
   lane-runs at l shots flipped_so =
-      let are = subst (λ o. AreFlipped at l count shot o shots) lane.kept flipped_so in record {
+      let are = subst (λ o. AreFlipped at l count shot o shots) lane.preserved flipped_so in record {
         records =
             are.records
             ∙ ap (λ bits. flipped bits lane.flips.records) (is.records ∙ sym (ap (λ (s : State). s.records) zero_state))
@@ -120,8 +120,8 @@ module _ (n : ℕ) (coins : ℕ → Bool) (items : Items) (shot : Shot) (is : Is
             ∙ is.free
             ∙ sym (ap (λ (s : State). s.free) zero_state)
             ∙ sym (flipped-zeros (run n zero_coins xs (start count)).free (all_coins_of xs))
-            ∙ ap (flipped (run n zero_coins xs (start count)).free) (sym (ap (λ (o : RunOutput). o.free) (sym lane.kept) ∙ lane.still))
-            ∙ sym (flags-flipped n zero_coins (coins_changed zero_coins coins) xs xs count lane.flips lane.fronts.given lane.fronts.matches)
+            ∙ ap (flipped (run n zero_coins xs (start count)).free) (sym (ap (λ (o : RunOutput). o.free) (sym lane.preserved) ∙ lane.still))
+            ∙ sym (randomness-flipped n zero_coins (coins_changed zero_coins coins) xs xs count lane.flips lane.fronts.given lane.fronts.matches)
             ∙ ap (λ (s : State). s.free) lane_state;
         detectors =
             are.detectors

@@ -64,7 +64,7 @@ pub use Rattle.stab_tableau.specs.Traces.{member}
 pub use Rattle.stab_tableau.specs.inner.InverseRows.{blank}
 pub use Rattle.stab_sampler.specs.Blocks.{differing_bits, first_exchanged, second_exchanged, row_bytes}
 pub use Rattle.stab_sampler.specs.Bytes.{lane_bytes, byte_at}
-pub use Rattle.stab_sampler.specs.Differences.{Difference, frame_of_difference, next_coin, lane_difference, DiffersAlong, IsMeasuredBy, MayPropagateLanes, GoOver, GoWithoutCoins, without_outcomes, no_difference, IsLane, ArePropagated}
+pub use Rattle.stab_sampler.specs.Differences.{Difference, frame_of_difference, next_coin, lane_difference, DiffersAlong, IsMeasuredBy, MayPropagateLanes, GoOver, GoWithoutCoins, without_outcomes, no_difference, IsLane, AreLanes, ArePropagated}
 pub use Rattle.stab_sampler.specs.Lanes.{lane_letters, lane_bits, letter_in, letter_times, lane_additions, lane_output}
 pub use Rattle.stab_sampler.specs.RecordedPivots.{lane_pivots, HasAll, most_pivots}
 pub use Rattle.stab_sampler.specs.Seeds.{AreCoins, lane_coin, AreCoinsOfParts, shot_coins}
@@ -80,7 +80,7 @@ pub use Rattle.std.specs.Option.{option_copied}
 pub use Rattle.stab_items.specs.Items.{Items}
 pub use Rattle.stab_items.specs.Repeats.{round_of, IsRepeat, AreRepeats}
 pub use Rattle.stab_items.specs.declared.circuit.repeats.Repeat.{Repeat}
-pub use Rattle.stab_frames.proofs.TwoCircuitLemmas.{fronts-outputs, fronts-matches, fronts-by_frame, records-flipped, flags-flipped, detectors-flipped, observables-flipped}
+pub use Rattle.stab_frames.proofs.TwoCircuitLemmas.{fronts-outputs, fronts-matches, fronts-by_frame, records-flipped, randomness-flipped, detectors-flipped, observables-flipped}
 pub use Rattle.stab_frames.proofs.RandomLemmas.{ones-split}
 pub use Rattle.stab_frames.proofs.PivotLemmas.{right-enough}
 pub use Rattle.stab_frames.proofs.StartLemmas.{by_frame-same}
@@ -104,7 +104,7 @@ pub use Rattle.stab_run.specs.declared.records.Addition.{Addition}
 pub use Rattle.stab_run.specs.declared.records.Lengths.{Lengths}
 pub use Rattle.stab_tableau.specs.Tableaus.{stabilises}
 pub use Rattle.stab_sampler.specs.Shots.{IsAsLong, AreFlipped, AreRuns, IsShot, AreShots}
-pub use Rattle.stab_sampler.specs.LaneCheckpoints.{IsKeptAfter, IsLaneCheckpoint, times}
+pub use Rattle.stab_sampler.specs.LaneCheckpoints.{IsStoredAfter, IsLaneCheckpoint, times}
 pub use Rattle.stab_sampler.specs.PartRecordings.{IsPartRecording, IsSized, HasPivots, given_by_part}
 pub use Rattle.stab_sampler.specs.References.{IsReference}
 pub use Rattle.stab_sampler.specs.declared.frames.Frames.{Frames}

@@ -2,7 +2,7 @@
 use Rattle.stab_sampler.proofs.Names.{◌≡◌, ℕ, ◌+◌, refl, sym, ◌∙◌, ap, Bool, true, false, List, [], ◌∷◌, ◌++◌, append_assoc, length, take, drop, get_or, arith, Option, Some, None, IfSome, Letter, ◌⊕◌, Signed, member, Step, ones, Point, coins_of, given, next_point, outputs, times_where, IsPivotOf, flip_by, letters_for, IsRightAt, AreRight, pivot_at, IsTrueAt, AreTrue, RecordedPivots, HasAll, lane_pivots, Difference, next_coin, IsMeasuredBy}
 use Rattle.stab_frames.proofs.RandomLemmas.{ones-next, pivot-none, pivot-some}
 use Rattle.stab_frames.proofs.PivotAtLemmas.{ones-before}
-use Rattle.stab_frames.proofs.PropagatedLemmas.{kept-pivot}
+use Rattle.stab_frames.proofs.PropagatedLemmas.{stored-pivot}
 use Rattle.stab_run.specs.Runs.{measured_by}
 
 -- what is recorded of the next coin
@@ -26,8 +26,8 @@ none-deterministic strings free t all none = by_flag (get_or free t false) refl
 module _ (n : ℕ) (coins : ℕ → Bool) (strings : List (List Letter)) (free : List Bool) (all : length strings ≡ ones free) where
   step-right : (x : Step) (a : Point) → IsTrueAt n (pivot_at strings free) x a → (rest : List Bool) → drop a.coin free ≡ (given n coins x a).free ++ rest
       → IsRightAt n (pivot_at strings free) x a × (drop (a.coin + coins_of x) free ≡ rest)
-  step-right x a is rest flags =
-      let here = kept-pivot n coins strings free x a is rest flags in
+  step-right x a is rest randomness =
+      let here = stored-pivot n coins strings free x a is rest randomness in
       (by_measured (measured_by n x) here.0, here.1)
     where
       pivot : Option (List Letter)
@@ -40,11 +40,11 @@ module _ (n : ℕ) (coins : ℕ → Bool) (strings : List (List Letter)) (free :
 
   pub right-from : (xs : List Step) (a : Point) → AreTrue n coins (pivot_at strings free) xs a → (rest : List Bool) → drop a.coin free ≡ (outputs n coins xs a).free ++ rest
       → AreRight n coins (pivot_at strings free) xs a
-  right-from [] a is rest flags = tt
-  right-from (x ∷ xs) a is rest flags =
+  right-from [] a is rest randomness = tt
+  right-from (x ∷ xs) a is rest randomness =
       let next = next_point n coins x a in
       let here = step-right x a is.0 ((outputs n coins xs next).free ++ rest)
-      (flags ∙ append_assoc (given n coins x a).free (outputs n coins xs next).free rest) in
+      (randomness ∙ append_assoc (given n coins x a).free (outputs n coins xs next).free rest) in
       (here.0, right-from xs next is.1 rest here.1)
 
 -- the difference of a lane, after a measurement

@@ -27,16 +27,16 @@ some-recorded_pivots n le =
 -- a list that may keep this many strings more than it has has few of its own
 module _ (n count most free : ℕ) (is : count ≡ min free most) where
   -- if they are few, there is one for each random outcome
-  pub all-kept : n ≤ 1024 → (count + most_strings n) - most ≤ most_pivots n → count ≡ free
-  all-kept le few = let h = fewer-recorded_pivots n le in omega (arith, h, is, few)
+  pub all-unchanged : n ≤ 1024 → (count + most_strings n) - most ≤ most_pivots n → count ≡ free
+  all-unchanged le few = let h = fewer-recorded_pivots n le in omega (arith, h, is, few)
 
   -- and they are few if no more outcomes are random
   pub are-few : most_strings n ≤ most → free ≤ most_pivots n → (count + most_strings n) - most ≤ most_pivots n
   are-few raised few = omega (arith, is, raised, few)
 
--- if fewer outcomes are random than strings may be kept, there is one for each
-pub kept-each : (count free most : ℕ) → count ≡ min free most → free < most → count ≡ free
-kept-each count free most is few = omega (arith, is, few)
+-- if fewer outcomes are random than strings may be stored, there is one for each
+pub preserved-each : (count free most : ℕ) → count ≡ min free most → free < most → count ≡ free
+preserved-each count free most is few = omega (arith, is, few)
 
 -- what holds for a reference that was found holds for it if it is lent
 pub if-copied : {X : Type 0} (P : X → Type 0) (lent : Option (Bor X)) (found : Option X) → option_copied lent ≡ found → IfSome found P → IfSome lent (λ x. P x.now)

@@ -5,19 +5,19 @@ use Rattle.std.specs.Prelude.{slice_index_or}
 use Rattle.stab_sampler.proofs.PivotLemmas.{right-from}
 use Rattle.stab_frames.proofs.PivotAtLemmas.{if-none}
 
--- if no string is kept there is no pivot
+-- if no string is stored there is no pivot
 
 no-pivot : (free : List Bool) (t : ℕ) → pivot_at [] free t ≡ None
 no-pivot free t = if-none (slice_index_or free t false) (slice_get [] (ones (take t free))) (slice_get_past [] (ones (take t free)) (omega arith))
 
--- flags that are 0
+-- randomness that is 0
 pub ones-zeros : (k : ℕ) → ones (replicate k false) ≡ 0
 ones-zeros zero = refl
 ones-zeros (suc k) = ones-zeros k
 
--- a run that went over the steps xs, and whose flags are made 0, goes over further steps
+-- a run that went over the steps xs, and whose randomness is made 0, goes over further steps
 
-module _ (n : ℕ) (xs ys : List Step) (u : Signed → Bool) (o : RunOutput) (zeros flags : List Bool) (new : ProgramState)
+module _ (n : ℕ) (xs ys : List Step) (u : Signed → Bool) (o : RunOutput) (zeros randomness : List Bool) (new : ProgramState)
     (here : IsAt n (record { stabilised = u; output = o }) (point_after n zero_coins xs origin)) (count : length zeros ≡ length o.free) (none : ones zeros ≡ 0)
     (is : IsRun n zero_coins ys (record { stabilised = u; output = record o { free = zeros } }) new) where
   abbrev p : Point
@@ -38,19 +38,19 @@ module _ (n : ℕ) (xs ys : List Step) (u : Signed → Bool) (o : RunOutput) (ze
   coin : length zeros ≡ all_coins_of xs
   coin = let none_before : 0 + all_coins_of xs ≡ all_coins_of xs = omega arith in begun.coin ∙ coins-are n zero_coins xs origin ∙ none_before
 
-  flags-new : new.output.free ≡ zeros ++ more.free
-  flags-new = ap (λ (o : RunOutput). o.free) advanced.output
+  randomness-new : new.output.free ≡ zeros ++ more.free
+  randomness-new = ap (λ (o : RunOutput). o.free) advanced.output
 
   determined-following : drop (length zeros) new.output.free ≡ more.free
-  determined-following = ap (drop (length zeros)) flags-new ∙ drop-append_seam zeros more.free
+  determined-following = ap (drop (length zeros)) randomness-new ∙ drop-append_seam zeros more.free
 
   pub arrives : IsAt n new (point_after n zero_coins (xs ++ ys) origin)
   arrives = subst (IsAt n new) (sym (after-append n zero_coins xs ys origin)) advanced.shows
 
-  pub gives : (determined : List Bool) → determined ≡ flags ++ drop (length zeros) new.output.free → record o { free = flags } ≡ outputs n zero_coins xs origin
+  pub gives : (determined : List Bool) → determined ≡ randomness ++ drop (length zeros) new.output.free → record o { free = randomness } ≡ outputs n zero_coins xs origin
       → record new.output { free = determined } ≡ outputs n zero_coins (xs ++ ys) origin
   gives determined is_determined gave =
-      (λ i. record (advanced.output i) { free = (is_determined ∙ ap (λ bits. flags ++ bits) determined-following) i })
+      (λ i. record (advanced.output i) { free = (is_determined ∙ ap (λ bits. randomness ++ bits) determined-following) i })
       ∙ ap (λ (o : RunOutput). joined o more) gave
       ∙ sym (outputs-append n zero_coins xs ys origin)
 
@@ -59,24 +59,24 @@ module _ (n : ℕ) (xs ys : List Step) (u : Signed → Bool) (o : RunOutput) (ze
 
   pub others-not : ones (take (all_coins_of xs) new.output.free) ≡ 0
   others-not =
-      (λ i. ones (take (sym coin i) (flags-new i)))
+      (λ i. ones (take (sym coin i) (randomness-new i)))
       ∙ ap ones (take-append_seam zeros more.free)
       ∙ none
 
   pub random-few : ones new.output.free ≤ length ys
   random-few =
-      let parts = ap ones flags-new ∙ ones-append zeros more.free in
-      let long = ap length flags-new ∙ length-append zeros more.free in
+      let parts = ap ones randomness-new ∙ ones-append zeros more.free in
+      let long = ap length randomness-new ∙ length-append zeros more.free in
       omega (arith, parts, none, ones-few more.free, long, advanced.shows.coin, coins-are n zero_coins ys p, begun.coin, coins-steps ys)
 
   -- if the strings of other steps were let go
 
-  module _ (kept following : PivotsState) (empty : kept.strings ≡ []) (recorded_pivots : KeepsTrue n zero_coins ys kept following mid new) where
-    numbered : IsNumbered kept zeros
+  module _ (stored following : PivotsState) (empty : stored.strings ≡ []) (recorded_pivots : KeepsTrue n zero_coins ys stored following mid new) where
+    numbered : IsNumbered stored zeros
     numbered = let zero = ap length empty in omega (arith, zero, none)
 
-    nothing-recorded_pivots : AreTrue n zero_coins (pivot_at kept.strings zeros) xs origin
-    nothing-recorded_pivots = true-none n zero_coins (pivot_at kept.strings zeros) xs origin (λ t le. ap (λ s. pivot_at s zeros t) empty ∙ no-pivot zeros t)
+    nothing-recorded_pivots : AreTrue n zero_coins (pivot_at stored.strings zeros) xs origin
+    nothing-recorded_pivots = true-none n zero_coins (pivot_at stored.strings zeros) xs origin (λ t le. ap (λ s. pivot_at s zeros t) empty ∙ no-pivot zeros t)
 
     true-following : IsNumbered following new.output.free × AreTrue n zero_coins (pivot_at following.strings new.output.free) (xs ++ ys) origin
     true-following = recorded_pivots xs begun numbered nothing-recorded_pivots
@@ -101,14 +101,14 @@ module _ (n : ℕ) (coins : ℕ → Bool) (items : Items) (o : RunOutput) (gathe
   same_state : state_at (point_after n coins (unroll items) origin) (outputs n coins (unroll items) origin) (start (observables_of items)) ≡ run_of n coins items
   same_state = sym (run-state n coins (unroll items) (start (observables_of items))) ∙ run-items n coins items (unroll items) (observables_of items) refl refl
 
-  pub flags-run : o.free ≡ (run_of n coins items).free
-  flags-run = ap (λ (o : RunOutput). o.free) gathered ∙ ap (λ (s : State). s.free) same_state
+  pub randomness-run : o.free ≡ (run_of n coins items).free
+  randomness-run = ap (λ (o : RunOutput). o.free) gathered ∙ ap (λ (s : State). s.free) same_state
 
   pub shot-run : (shot : Shot) → shot.records.items ≡ o.records → shot.free.items ≡ o.free → shot.detectors.items ≡ o.detectors
       → shot.observables.items ≡ with_additions o.additions (replicate (observables_of items) false) → IsShot n coins items shot
   shot-run shot records free detectors observables = record {
     records = records ∙ ap (λ (o : RunOutput). o.records) gathered ∙ records-are-records n coins (unroll items) ∙ ap (λ (s : State). s.records) same_state;
-    free = free ∙ flags-run;
+    free = free ∙ randomness-run;
     detectors = detectors ∙ ap (λ (o : RunOutput). o.detectors) gathered ∙ ap (λ (s : State). s.detectors) same_state;
     observables =
         observables

@@ -38,15 +38,15 @@ less a b e = grind (arith, e)
 abbrev pub word_before : (t q k : ℕ) → ℕ
 word_before t q k = q / 2 ^ t + 2 ^ (6 - t) * (k % 2 ^ t)
 
-abbrev pub place_before : (t q k : ℕ) → ℕ
-place_before t q k = k - k % 2 ^ t + q % 2 ^ t
+abbrev pub position_before : (t q k : ℕ) → ℕ
+position_before t q k = k - k % 2 ^ t + q % 2 ^ t
 
 -- whether an exchange takes the bit from where it was before
 abbrev pub takes : (t mask s q k : ℕ) → Bool
 takes t mask s q k =
     nat_lt (word_before t q k) 64
-    && (eqb (source_word mask s (word_before t q k) (place_before t q k)) (word_before (suc t) q k)
-    && eqb (source_position mask s (word_before t q k) (place_before t q k)) (place_before (suc t) q k))
+    && (eqb (source_word mask s (word_before t q k) (position_before t q k)) (word_before (suc t) q k)
+    && eqb (source_position mask s (word_before t q k) (position_before t q k)) (position_before (suc t) q k))
 
 abbrev pub takes_all : (t mask s : ℕ) → Bool
 takes_all t mask s = all_below 64 (λ q. all_below 64 (λ k. takes t mask s q k))
@@ -71,16 +71,16 @@ halves = refl
 
 -- a bit is followed through one exchange
 pub followed : (t mask s : ℕ) (old new : List ℕ) → takes_all t mask s ≡ true → FirstExchanged old new mask s → SecondExchanged old new mask s → (q k : ℕ) → q < 64 → k < 64
-    → word_bit (get_or new (word_before t q k) 0) (place_before t q k) ≡ word_bit (get_or old (word_before (suc t) q k) 0) (place_before (suc t) q k)
+    → word_bit (get_or new (word_before t q k) 0) (position_before t q k) ≡ word_bit (get_or old (word_before (suc t) q k) 0) (position_before (suc t) q k)
 followed t mask s old new all first second q k small few =
     let one = tested 64 (λ k. takes t mask s q k) (tested 64 (λ q. all_below 64 (λ k. takes t mask s q k)) all q small) k few in
     let word = word_before t q k in
-    let position = place_before t q k in
+    let position = position_before t q k in
     let both = right (nat_lt word 64) _ one in
     exchanged-at old new mask s first second word position (less word 64 (left (nat_lt word 64) _ one))
     ∙ (λ i. word_bit
     (get_or old (equal (source_word mask s word position) (word_before (suc t) q k) (left (eqb (source_word mask s word position) (word_before (suc t) q k)) _ both) i) 0)
-    (equal (source_position mask s word position) (place_before (suc t) q k) (right (eqb (source_word mask s word position) (word_before (suc t) q k)) _ both) i))
+    (equal (source_position mask s word position) (position_before (suc t) q k) (right (eqb (source_word mask s word position) (word_before (suc t) q k)) _ both) i))
 
 -- six exchanges transpose 64 words
 pub transposed-at : (words one two three four five six : List ℕ)
@@ -93,9 +93,9 @@ pub transposed-at : (words one two three four five six : List ℕ)
     → (q k : ℕ) → q < 64 → k < 64 → word_bit (get_or six q 0) k ≡ word_bit (get_or words k 0) q
 transposed-at words one two three four five six a a' b b' c c' d d' e e' f f' q k small few =
     let word_now : q ≡ word_before 0 q k = omega arith in
-    let position_now : k ≡ place_before 0 q k = omega arith in
+    let position_now : k ≡ position_before 0 q k = omega arith in
     let word_first : word_before 6 q k ≡ k = omega (arith, small, few) in
-    let position_first : place_before 6 q k ≡ q = omega (arith, small, few) in
+    let position_first : position_before 6 q k ≡ q = omega (arith, small, few) in
     (λ i. word_bit (get_or six (word_now i) 0) (position_now i))
     ∙ followed 0 0x5555555555555555 1 five six ones f f' q k small few
     ∙ followed 1 0x3333333333333333 2 four five twos e e' q k small few

@@ -37,7 +37,7 @@ frame_of_difference d = record { letters = d.letters; flips = d.flips.records }
 abbrev pub next_coin : Difference → ℕ
 next_coin d = length d.flips.free
 
--- with these pivots a difference went over steps, as frames do, but that flips of outcomes are kept nowhere
+-- with these pivots a difference went over steps, as frames do, but that flips of outcomes are stored nowhere
 pub record DiffersAlong (n : ℕ) (pivots : RunPivots) (xs : List Step) (old new : Difference) : Type 0 where
   pub frame : frame_of_difference new ≡ frame_over n pivots xs (next_coin old) (frame_of_difference old)
   pub flips : new.flips ≡ joined old.flips (without_outcomes (flips_over n pivots xs (next_coin old) (frame_of_difference old)))
@@ -72,8 +72,14 @@ GoWithoutCoins at count xs old new =
 pub record IsLane (n : ℕ) (coins : ℕ → Bool) (xs : List Step) (d : Difference) : Type 0 where
   pub flips : RunOutput
   pub fronts : AreFronts n zero_coins (coins_changed zero_coins coins) xs xs (frame_of_difference d) flips
-  pub kept : d.flips ≡ without_outcomes flips
+  pub preserved : d.flips ≡ without_outcomes flips
   pub still : d.flips.free ≡ replicate (all_coins_of xs) false
+
+-- lanes on n qubits went over these steps, from the first on, each with coins of its own
+pub record AreLanes {W : Type 0} (at : W → ℕ → Bool) (count n : ℕ) (coins : ℕ → ℕ → Bool) (xs : List Step) (lanes : Lanes W) : Type 0 where
+  pub qubits : length lanes.frames.letters.items ≡ n
+  pub coin : length lanes.free.items ≡ all_coins_of xs
+  pub each : (l : ℕ) → l < count → IsLane n (coins l) xs (lane_difference at l lanes)
 
 -- the difference before the first step
 abbrev pub no_difference : ℕ → Difference

@@ -1,4 +1,4 @@
--- Checkpoints of lanes: what is kept of lanes after a round, and lanes that are again as they were then.
+-- Checkpoints of lanes: what is stored of lanes after a round, and lanes that are again as they were then.
 -- Source: this project's own.
 use Rattle.std.specs.Prelude.{◌≡◌, ℕ, zero, suc, ◌<◌, ◌≤◌, Bool, List, [], ◌++◌, length, take, Option, IfSome}
 use Rattle.stab_gates.specs.declared.letter.Letter.{Letter}
@@ -32,7 +32,7 @@ lengths_in lanes = record {
 }
 
 -- these are the letters of a lane that went over these steps, and how much it has given
-pub record IsKeptAfter (n : ℕ) (pivots : RunPivots) (xs : List Step) (letters : List Letter) (lengths : Lengths) : Type 0 where
+pub record IsStoredAfter (n : ℕ) (pivots : RunPivots) (xs : List Step) (letters : List Letter) (lengths : Lengths) : Type 0 where
   pub before : Difference
   pub advanced : DiffersAlong n pivots xs (no_difference n) before
   pub same : letters ≡ before.letters
@@ -42,7 +42,7 @@ pub record IsKeptAfter (n : ℕ) (pivots : RunPivots) (xs : List Step) (letters 
 abbrev pub IsLaneCheckpoint : {W : Type 0} → (W → ℕ → Bool) → ℕ → RecordedPivots → (ℕ → ℕ → Bool) → List Step → Repeat → LaneCheckpoint W → Type 0
 IsLaneCheckpoint at count recorded_pivots coins steps r checkpoint =
     (l : ℕ) → l < count
-    → IsKeptAfter recorded_pivots.strings.now.qubits (lane_pivots recorded_pivots (coins l)) (take (after_rounds r checkpoint.done) steps) (lane_letters at l checkpoint.letters.items) checkpoint.lengths
+    → IsStoredAfter recorded_pivots.strings.now.qubits (lane_pivots recorded_pivots (coins l)) (take (after_rounds r checkpoint.done) steps) (lane_letters at l checkpoint.letters.items) checkpoint.lengths
 
 -- the letters of a lane are those at a checkpoint, and its newest m records are flipped as they were then
 pub record IsAgain {W : Type 0} (at : W → ℕ → Bool) (l m : ℕ) (checkpoint : LaneCheckpoint W) (lanes : Lanes W) : Type 0 where
@@ -55,8 +55,8 @@ GoOn at count recorded_pivots r checkpoint done now old new =
     (coins : ℕ → ℕ → Bool) (steps : List Step) → IsRepeat steps r → IfSome checkpoint (IsLaneCheckpoint at count recorded_pivots coins steps r)
     → ArePropagated at count recorded_pivots coins (take (after_rounds r done) steps) old → ArePropagated at count recorded_pivots coins (take (after_rounds r now) steps) new
 
--- of lanes that went over these rounds a checkpoint is kept, or one that was kept before stays
-abbrev pub StaysKept : {W : Type 0} → (W → ℕ → Bool) → ℕ → Lanes W → Repeat → ℕ → (old new : Option (LaneCheckpoint W)) → Type 0
-StaysKept at count lanes r done old new =
+-- of lanes that went over these rounds a checkpoint is stored, or one that was stored before stays
+abbrev pub StaysStored : {W : Type 0} → (W → ℕ → Bool) → ℕ → Lanes W → Repeat → ℕ → (old new : Option (LaneCheckpoint W)) → Type 0
+StaysStored at count lanes r done old new =
     (recorded_pivots : RecordedPivots) (coins : ℕ → ℕ → Bool) (steps : List Step) → ArePropagated at count recorded_pivots coins (take (after_rounds r done) steps) lanes
     → IfSome old (IsLaneCheckpoint at count recorded_pivots coins steps r) → IfSome new (IsLaneCheckpoint at count recorded_pivots coins steps r)

@@ -19,7 +19,7 @@ pub record IsSized (n : ℕ) (r : PartRecording) : Type 0 where
   pub strings : r.pivots.strings.qubits ≡ n
   pub most : r.pivots.strings.most ≡ most_strings n
 
--- what it gave, with the flags of all coin numbers
+-- what it gave, with the randomness of all coin numbers
 abbrev pub given_by_part : PartRecording → RunOutput
 given_by_part r = record (output_of r.outputs) { free = r.free.items }
 

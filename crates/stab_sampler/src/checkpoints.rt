@@ -1,4 +1,4 @@
-//! What is kept of lanes after a round, and whether lanes are as they were then.
+//! What is stored of lanes after a round, and whether lanes are as they were then.
 ghost use Rattle.std.specs.Prelude.{◌≡◌, ℕ, ◌+◌, ◌<◌, ◌≤◌, false, IsTrue, length, take, slice_index_or, IfOk};
 ghost use Rattle.stab_run.specs.Records.{looked_up as looked_up_of};
 ghost use Rattle.stab_sampler.specs.Lanes.{lane_bits, lane_letters};
@@ -10,7 +10,7 @@ use crate::word::Word;
 use stab_run::Lengths;
 use std::alloc::{AllocError, Global};
 
-/// What is kept of lanes after a round, for later ones to be compared with.
+/// What is stored of lanes after a round, for later ones to be compared with.
 #[derive(Drop)]
 pub struct LaneCheckpoint<W> {
     /// The letters of the frames.

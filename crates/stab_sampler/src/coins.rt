@@ -44,7 +44,7 @@ impl SeededShots {
 
 /// The coins of shots of a seed, of which 64 * N have a lane each. In lanes without a shot they are 0. Contracts see the shots.
 ///
-/// Coins are made 64 at a time, and the last 64 are kept.
+/// Coins are made 64 at a time, and the last 64 are stored.
 pub struct SeedLanes<const N: usize> {
     shots: SeededShots,
     // The last 64 coins begin at 64 times this number.

@@ -68,9 +68,9 @@ impl<W: Word> Frames<W> {
                 self.letters[second].multiply(letter, controls);
             }
             None => {
-                let kept = self.letters[first];
+                let preserved = self.letters[first];
                 self.letters[first] = self.letters[second];
-                self.letters[second] = kept;
+                self.letters[second] = preserved;
             }
         }
     }

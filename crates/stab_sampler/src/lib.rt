@@ -18,7 +18,7 @@
 //! - `part`: some steps of a circuit on all lanes.
 //! - `part_recording`: a run with all coins 0, and what is recorded of the last steps that it went over.
 //! - `reference`: such a run and what is recorded of all of it, over which all batches of lanes are propagated. It carries out no round that comes again.
-//! - `checkpoints`: what is kept of lanes after a round, and whether lanes are as they were then.
+//! - `checkpoints`: what is stored of lanes after a round, and whether lanes are as they were then.
 //! - `repeated_flips`: what lanes flipped in some rounds, appended again.
 //! - `rounds`: the rounds of a block on all lanes, which flip again what they flipped once they are as they were before.
 //! - `shots`, `flips`: what this many shots give, by the run and what the lanes flip.

@@ -23,27 +23,27 @@ pub struct PartRecording {
     pub tableau: Tableau,
     // For products to be written into.
     pub string: Pauli,
-    // Its flags are those of the last steps alone, and 0 before.
+    // Its randomness is that of the last steps alone, and 0 before.
     pub outputs: Outputs,
     pub pivots: PivotRecorder,
-    // The flags of all coin numbers.
+    // The randomness of all coin numbers.
     pub free: Vec<bool>,
 }
 
-/// Makes flags 0.
-fn clear_flags(flags: &mut Vec<bool>)
-    ensures size { length flags.new.items ≡ length flags.old.items }
-    ensures none { ones flags.new.items ≡ 0 }
+/// Makes randomness 0.
+fn clear_randomness(randomness: &mut Vec<bool>)
+    ensures size { length randomness.new.items ≡ length randomness.old.items }
+    ensures none { ones randomness.new.items ≡ 0 }
 {
-    flags.fill(false);
+    randomness.fill(false);
 }
 
-/// Puts flags from a position on after others.
-fn push_rest(flags: &mut Vec<bool>, all: &[bool], from: usize) -> Result<(), AllocError>
-    ensures value { OnOk result (flags.new.items ≡ flags.old.items ++ drop from all.now) }
+/// Puts randomness from a position on after others.
+fn push_rest(randomness: &mut Vec<bool>, all: &[bool], from: usize) -> Result<(), AllocError>
+    ensures value { OnOk result (randomness.new.items ≡ randomness.old.items ++ drop from all.now) }
 {
     let (_, rest) = all.split_at(from.min(all.len()));
-    flags.extend_from_slice(rest)
+    randomness.extend_from_slice(rest)
 }
 
 impl PartRecording {
@@ -93,7 +93,7 @@ impl PartRecording {
         ensures err { IfErr result (λ r. r ≡ OutOfMemory) }
     {
         self.pivots.strings.truncate(0);
-        clear_flags(&mut self.outputs.free);
+        clear_randomness(&mut self.outputs.free);
         let determined = self.outputs.free.len();
         let mut cursor = Cursor::at(alloc, circuit, from)?;
         let mut coins = ListCoins::new(&[]);
@@ -125,7 +125,7 @@ impl PartRecording {
     }
 }
 
-/// What a run gave, with the flags of all coin numbers, as a shot of a circuit.
+/// What a run gave, with the randomness of all coin numbers, as a shot of a circuit.
 pub fn shot_of(
     alloc: Global,
     circuit: &Circuit,

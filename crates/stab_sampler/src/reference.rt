@@ -53,7 +53,7 @@ impl Reference {
     pub fn of(alloc: Global, circuit: &Circuit, n: usize) -> Result<Option<Reference>, Fault>
         requires in_range { n ≤ most_qubits }
         ensures reference { IfOk result (λ found. IfSome found (λ r. IsReference n (circuit_items circuit.now) r)) }
-        ensures kept { IfOk result (λ found. ones (run_of n zero_coins (circuit_items circuit.now)).free ≤ most_of n → is_some found ≡ true) }
+        ensures preserved { IfOk result (λ found. ones (run_of n zero_coins (circuit_items circuit.now)).free ≤ most_of n → is_some found ≡ true) }
         ensures few { IfOk result (λ found. IfSome found (λ r. own_strings r.strings ≤ most_of n)) }
         ensures refused { Refuses result (check_within n (circuit_items circuit.now)) }
     {
@@ -70,7 +70,7 @@ impl Reference {
         requires in_range { n ≤ most_qubits }
         requires checked { check_within n (circuit_items circuit.now) ≡ None }
         ensures reference { IfOk result (λ found. IfSome found (λ r. IsReference n (circuit_items circuit.now) r)) }
-        ensures kept { IfOk result (λ found. ones (run_of n zero_coins (circuit_items circuit.now)).free ≤ most_of n → is_some found ≡ true) }
+        ensures preserved { IfOk result (λ found. ones (run_of n zero_coins (circuit_items circuit.now)).free ≤ most_of n → is_some found ≡ true) }
         ensures few { IfOk result (λ found. IfSome found (λ r. own_strings r.strings ≤ most_of n)) }
         ensures err { IfErr result (λ r. r ≡ OutOfMemory) }
     {

@@ -7,7 +7,7 @@ ghost use Rattle.stab_items.specs.Views.{circuit_items};
 ghost use Rattle.stab_items.specs.Repeats.{IsRepeat, AreRepeats};
 ghost use Rattle.stab_run.specs.ProgramStates.{StepFits};
 ghost use Rattle.stab_recording.specs.inner.Advanced.{after_rounds};
-ghost use Rattle.stab_sampler.specs.LaneCheckpoints.{IsLaneCheckpoint, GoOn, StaysKept};
+ghost use Rattle.stab_sampler.specs.LaneCheckpoints.{IsLaneCheckpoint, GoOn, StaysStored};
 ghost use Rattle.stab_sampler.specs.Differences.{ArePropagated};
 
 use crate::checkpoints::{LaneCheckpoint, are_deterministic, comes_again};
@@ -20,7 +20,7 @@ use crate::word::Word;
 use stab_io::Refusal;
 use stab_items::{Circuit, Repeat};
 use stab_recording::{MOST_SINGLE, is_long, taken_together};
-use stab_rounds::find_rounds;
+use stab_run::find_rounds;
 use std::alloc::{AllocError, Global};
 
 /// Repeats what lanes flip in those rounds after the ones done in which they flip what they flipped since a checkpoint: whole
@@ -56,9 +56,9 @@ fn fold_rounds<W: Word>(
     Ok(done + times * period)
 }
 
-/// Whether a checkpoint of lanes on n qubits is kept after this many rounds: after a first, second, fourth, eighth one and so on, if enough steps are
+/// Whether a checkpoint of lanes on n qubits is stored after this many rounds: after a first, second, fourth, eighth one and so on, if enough steps are
 /// left.
-fn is_kept_after(repeat: Repeat, done: usize, n: usize) -> bool {
+fn is_stored_after(repeat: Repeat, done: usize, n: usize) -> bool {
     let left = repeat.rounds.saturating_sub(done);
     done.is_power_of_two() && left >= 2 && left.saturating_mul(repeat.length) / 2 >= n
 }
@@ -73,9 +73,9 @@ fn keep_checkpoint<W: Word>(
 ) -> Result<(), AllocError>
     requires earlier { IfSome checkpoint.old (λ m. m.done ≤ done) }
     ensures earlier { OnOk result (IfSome checkpoint.new (λ m. m.done ≤ done)) }
-    ensures kept_after { OnOk result (StaysKept W.at W.lanes lanes.now repeat done checkpoint.old checkpoint.new) }
+    ensures stored_after { OnOk result (StaysStored W.at W.lanes lanes.now repeat done checkpoint.old checkpoint.new) }
 {
-    if is_kept_after(repeat, done, lanes.frames.letters.len()) {
+    if is_stored_after(repeat, done, lanes.frames.letters.len()) {
         *checkpoint = Some(LaneCheckpoint::of(alloc, lanes, done)?);
     }
     Ok(())

@@ -1,16 +1,14 @@
 //! All steps of a circuit, on lanes that are propagated over what is recorded of the run with all coins 0.
-ghost use Rattle.std.specs.Prelude.{◌≡◌, ℕ, ◌+◌, ◌<◌, ◌≤◌, None, [], All, length, take, drop, IfSome, OnOk, IfErr};
+ghost use Rattle.std.specs.Prelude.{◌≡◌, ℕ, ◌<◌, ◌≤◌, None, [], IfSome, OnOk, IfErr};
 ghost use Rattle.stab_io.specs.declared.refusal.Refusal.TheVariants.{OutOfMemory};
 ghost use Rattle.stab_io.specs.Refusals.{Refuses};
 ghost use Rattle.stab_gates.specs.Limits.{most_qubits};
 ghost use Rattle.stab_items.specs.Steps.{unroll, check_within};
 ghost use Rattle.stab_items.specs.Views.{circuit_items};
-ghost use Rattle.stab_run.specs.Points.{all_coins_of};
-ghost use Rattle.stab_run.specs.ProgramStates.{StepFits};
 ghost use Rattle.stab_sampler.specs.Shots.{AreRuns};
 ghost use Rattle.stab_sampler.specs.References.{IsReference};
 ghost use Rattle.stab_sampler.specs.PartRecordings.{IsSized, IsPartRecording};
-ghost use Rattle.stab_sampler.specs.Differences.{lane_difference, IsLane};
+ghost use Rattle.stab_sampler.specs.Differences.{AreLanes};
 ghost use Rattle.stab_frames.specs.Limits.{most_strings};
 
 use crate::coins::Draw;
@@ -61,14 +59,12 @@ fn propagate_by_parts<W: Word, D: Draw<W>>(
     requires checked { check_within recording.old.tableau.qubits (circuit_items circuit.now) ≡ None }
     requires sized { IsSized recording.old.tableau.qubits recording.old }
     requires begins { IsPartRecording recording.old.tableau.qubits [] recording.old }
-    requires blank { (l : ℕ) → l < W.lanes → IsLane recording.old.tableau.qubits (D.sequences draw.old l) [] (lane_difference W.at l lanes.old) }
-    requires first { length lanes.old.free.items ≡ 0 }
-    requires frames { length lanes.old.frames.letters.items ≡ recording.old.tableau.qubits }
+    requires lanes { AreLanes W.at W.lanes recording.old.tableau.qubits (D.sequences draw.old) [] lanes.old }
     requires some { 0 < most }
     requires few { most < most_strings recording.old.tableau.qubits }
     ensures recorded { OnOk result (IsPartRecording recording.old.tableau.qubits (unroll (circuit_items circuit.now)) recording.new) }
     ensures same_coins { D.sequences draw.new ≡ D.sequences draw.old }
-    ensures lanes { OnOk result ((l : ℕ) → l < W.lanes → IsLane recording.old.tableau.qubits (D.sequences draw.old l) (unroll (circuit_items circuit.now)) (lane_difference W.at l lanes.new)) }
+    ensures lanes { OnOk result (AreLanes W.at W.lanes recording.old.tableau.qubits (D.sequences draw.old) (unroll (circuit_items circuit.now)) lanes.new) }
     ensures err { IfErr result (λ r. r ≡ OutOfMemory) }
 {
     let steps = circuit.steps();

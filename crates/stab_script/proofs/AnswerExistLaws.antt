@@ -24,18 +24,18 @@ verdict_passed n ys e = by_test (nat_lt 16 (depth (listed ys))) refl e
     by_test false t v = ((let le = ltb-false 16 (depth (listed ys)) t in omega arith), v)
 
 -- an edit that puts in an item of lines leaves items that can be edited, made or refused
-pub edit_keeps : EditedItemsAreOfLines → (n : ℕ) (what : Edit) (kept : Bool) (held : Held) → PutsLines what → CanBeEdited n held.items
-    → CanBeEdited n (decided kept held (edited_items n what held.items)).held.items
-edit_keeps edits n what kept held puts can = by_result (edited what (entries held.items)) refl
+pub edit_keeps : EditedItemsAreOfLines → (n : ℕ) (what : Edit) (preserved : Bool) (held : Held) → PutsLines what → CanBeEdited n held.items
+    → CanBeEdited n (decided preserved held (edited_items n what held.items)).held.items
+edit_keeps edits n what preserved held puts can = by_result (edited what (entries held.items)) refl
   where
     by_verdict : (list : List OneItem) → edited what (entries held.items) ≡ Ok list → (v : Option Refusal) → list_verdict n (Ok list) ≡ v
-        → CanBeEdited n (decided kept held (unless v (listed list))).held.items
+        → CanBeEdited n (decided preserved held (unless v (listed list))).held.items
     by_verdict list e (Some r) given = can
     by_verdict list e None given =
         let passed = verdict_passed n list given in
         (edits what (entries held.items) list (subst AreOfLines (sym (listed-entries held.items)) can.0) puts e passed.0, passed.1)
 
-    by_result : (r : Result (List OneItem) Refusal) → edited what (entries held.items) ≡ r → CanBeEdited n (decided kept held (verdict_on n r)).held.items
+    by_result : (r : Result (List OneItem) Refusal) → edited what (entries held.items) ≡ r → CanBeEdited n (decided preserved held (verdict_on n r)).held.items
     by_result (Ok list) e = by_verdict list e (list_verdict n (Ok list)) refl
     by_result (Err r) e = can
 
@@ -98,8 +98,8 @@ after_keeps steps lines n run held (why bit) can = can
 after_keeps steps lines n run held (way at word) can = can
 
 -- so does its answer
-pub counted_keeps : SplitsLeaveTheSteps → SplitItemsAreOfLines → (kept : Bool) (n : ℕ) (run : State) (held : Held) (r : CountedRequest) → CanBeEdited n held.items
-    → CanBeEdited n (counted_answer kept n run held r).held.items
+pub counted_keeps : SplitsLeaveTheSteps → SplitItemsAreOfLines → (preserved : Bool) (n : ℕ) (run : State) (held : Held) (r : CountedRequest) → CanBeEdited n held.items
+    → CanBeEdited n (counted_answer preserved n run held r).held.items
 counted_keeps steps lines false n run held r can = can
 counted_keeps steps lines true n run held r can = by_shown (counted_shown n run held r)
   where

@@ -15,11 +15,11 @@ not_both : {A : Type 0} (text : List ℕ) (f : Fault) (x : OneItem) → item_fau
 not_both text f x e s = let both_are : Some f ≡ None = sym e ∙ s.0 in absurd (cc)
 
 -- an edit that puts in an item has one answer
-one_put : ItemTextsHaveOneMeaning → (kept : Bool) (held : Held) (edited : OneItem → Result Items Refusal) (text : List ℕ) (a b : Answer) → IsPut kept held edited text a → IsPut kept held edited text b → b ≡ a
-one_put law kept held edited text a b (inl p) (inl q) = q.2 ∙ ap (λ (f : Fault). refusing held f.refusal) (one_fault text p.0 q.0 p.1 q.1) ∙ sym p.2
-one_put law kept held edited text a b (inl p) (inr q) = not_both text p.0 q.0 p.1 q.1
-one_put law kept held edited text a b (inr p) (inl q) = not_both text q.0 p.0 q.1 p.1
-one_put law kept held edited text a b (inr p) (inr q) = q.2 ∙ ap (λ x. decided kept held (edited x)) (one_item law text p.0 q.0 p.1 q.1) ∙ sym p.2
+one_put : ItemTextsHaveOneMeaning → (preserved : Bool) (held : Held) (edited : OneItem → Result Items Refusal) (text : List ℕ) (a b : Answer) → IsPut preserved held edited text a → IsPut preserved held edited text b → b ≡ a
+one_put law preserved held edited text a b (inl p) (inl q) = q.2 ∙ ap (λ (f : Fault). refusing held f.refusal) (one_fault text p.0 q.0 p.1 q.1) ∙ sym p.2
+one_put law preserved held edited text a b (inl p) (inr q) = not_both text p.0 q.0 p.1 q.1
+one_put law preserved held edited text a b (inr p) (inl q) = not_both text q.0 p.0 q.1 p.1
+one_put law preserved held edited text a b (inr p) (inr q) = q.2 ∙ ap (λ x. decided preserved held (edited x)) (one_item law text p.0 q.0 p.1 q.1) ∙ sym p.2
 
 module _ (meanings : ItemTextsHaveOneMeaning) (lines : ItemTextsAreLines) (edits : EditedItemsAreOfLines) (steps : SplitsLeaveTheSteps)
     (split_lines : SplitItemsAreOfLines) (sound : RunsAreSound) (one : TracesHaveOneList) (s : Environment) where

@@ -48,12 +48,12 @@ places-append k (false ∷ xs) ys = places-append (k + 1) xs ys ∙ ap (λ m. on
 abbrev below : ℕ → ℕ → Bool
 below first p = nat_lt p first
 
-below-kept : (first k : ℕ) (xs : List Bool) → k + length xs ≤ first → filter (below first) (one_positions_from k xs) ≡ one_positions_from k xs
-below-kept first k [] le = refl
-below-kept first k (true ∷ xs) le =
+below-retained : (first k : ℕ) (xs : List Bool) → k + length xs ≤ first → filter (below first) (one_positions_from k xs) ≡ one_positions_from k xs
+below-retained first k [] le = refl
+below-retained first k (true ∷ xs) le =
     ap (λ b. if b then k ∷ filter (below first) (one_positions_from (k + 1) xs) else filter (below first) (one_positions_from (k + 1) xs)) (lt-ltb k first (omega (arith, le)))
-    ∙ ap (λ r. k ∷ r) (below-kept first (k + 1) xs (omega (arith, le)))
-below-kept first k (false ∷ xs) le = below-kept first (k + 1) xs (omega (arith, le))
+    ∙ ap (λ r. k ∷ r) (below-retained first (k + 1) xs (omega (arith, le)))
+below-retained first k (false ∷ xs) le = below-retained first (k + 1) xs (omega (arith, le))
 
 above-left : (first k : ℕ) (xs : List Bool) → first ≤ k → filter (below first) (one_positions_from k xs) ≡ []
 above-left first k [] le = refl
@@ -167,7 +167,7 @@ module _ (items : Items) (f : SingleError) where
     count-flipped =
         ap (λ ns. length (filter (below first) ns)) here
         ∙ ap length (filter-append (below first) (one_positions flipped) parts)
-        ∙ ap length (λ i. below-kept first 0 flipped (omega (arith, few)) i ++ above-left first (length flipped) (part_bits left) (omega (arith, few)) i)
+        ∙ ap length (λ i. below-retained first 0 flipped (omega (arith, few)) i ++ above-left first (length flipped) (part_bits left) (omega (arith, few)) i)
         ∙ ap length (append-nil (one_positions flipped))
 
     pub count-within : length (filter (below first) row) ≤ length row

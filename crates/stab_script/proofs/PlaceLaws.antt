@@ -35,7 +35,7 @@ abbrev pub bytes_left : Option (List ℕ) → ℕ
 bytes_left None = 0
 bytes_left (Some rest) = length rest + 1
 
--- one number more is kept
+-- one number more is stored
 pub keeps_number : (numbers : List ℕ) (count : ℕ) (rest : List (List ℕ)) (part : List ℕ) (after : List (List ℕ)) (v : ℕ)
     → rest ≡ part ∷ after → is_place_number part ≡ true → v ≡ value part → count < length numbers
     → numbers_after (take count numbers) rest ≡ numbers_after (take (count + 1) (slice_set numbers count v)) after

@@ -44,11 +44,11 @@ progress_with environment held refused = record { environment = environment; hel
 -- one request was answered
 pub reported_one : {o o' : OutputView} (old : EditorState) (environment : Environment) (r : Request) (a : Answer) → environment ≡ old.environment → IsAnswer old.environment old.held r a → Took o o' a.reply
     → Reported old (progress_with environment a.held (old.refused || a.refused)) (r ∷ []) o o'
-reported_one old environment r a kept is took = record {
+reported_one old environment r a preserved is took = record {
   answer = a;
   answers = answers_one old.environment old.held r a is;
   took = took;
-  leaves = ap (λ s. progress_with s a.held (old.refused || a.refused)) kept;
+  leaves = ap (λ s. progress_with s a.held (old.refused || a.refused)) preserved;
 }
 
 -- the reply to one request was cut off

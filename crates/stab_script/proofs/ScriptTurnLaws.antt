@@ -110,7 +110,7 @@ logs_more : {environment : Environment} {items : Items} {o : OutputView} {given 
     → LogsSoFar environment items o given requests answer log log' → Logs log' log'' (a ∷ []) → (IsTrue o.honest → Answered environment items (length o.written) requests answer given a)
     → LogsSoFar environment items o (given ++ a.given) requests answer log log''
 logs_more a so_far (inl gone) here = inl gone
-logs_more a (inl gone) (inr kept) here = absurd (none_is_some kept.0 gone kept.1)
+logs_more a (inl gone) (inr preserved) here = absurd (none_is_some preserved.0 gone preserved.1)
 logs_more {environment} {items} {o} {given} {requests} {answer} a (inr p) (inr q) here = inr (record {
   before = p.before;
   reads = p.reads ++ a ∷ [];

@@ -1,22 +1,11 @@
--- Laws of what `propagate` sends: the text of a way, and bytes that are sent whole or in part.
-use Rattle.stab_script.proofs.Names.{◌≡◌, ap, subst, ◌∙◌, ℕ, Bool, List, length, Result, Ok, Err, inl, inr}
-use Rattle.std.proofs.Common.{ap₂, ◌++◌}
-use Rattle.std.specs.List.{flat_map}
+-- Laws of what `propagate` sends: bytes that are sent whole or in part.
+use Rattle.stab_script.proofs.Names.{◌≡◌, ap, subst, ◌∙◌, ℕ, List, Result, Ok, Err, inl, inr}
 use Rattle.std.specs.Prelude.{IsErrAnd, MatchResult}
 use Rattle.stab_io.specs.Devices.{OutputView, Took, WritesAll}
 use Rattle.stab_io.specs.Refusals.{whole}
 use Rattle.stab_io.specs.declared.refusal.Fault.{Fault}
 use Rattle.stab_io.specs.declared.refusal.Refusal.{Refusal}
-use Rattle.stab_items.specs.Items.{Items}
-use Rattle.stab_items.specs.Steps.{unroll}
-use Rattle.stab_report.specs.CoinTables.{whole_kinds}
 use Rattle.stab_report.specs.Endings.{SendsFound, FlushesOrFault}
-use Rattle.stab_ways.specs.declared.way.PlacedLetter.{PlacedLetter}
-use Rattle.stab_ways.specs.Laws.{FlipsRun, coins_with}
-use Rattle.stab_ways.specs.PutIn.{string_after, string_flips}
-use Rattle.stab_ways.specs.Ways.{Turn, placed, string_turns}
-use Rattle.stab_script.specs.Words.{PutIn}
-use Rattle.stab_script.specs.WayTexts.{IsWayText, bits_flipped, flips_line, left_line, turn_line}
 
 -- what a call gave is what it gave before its refusals were named faults
 pub given_before : {A : Type 0} (w : Result A Refusal) (m : Result A Fault) (x : A) → MatchResult w (λ y. m ≡ Ok y) (λ e. IsErrAnd m (λ y. y ≡ whole e)) → m ≡ Ok x → w ≡ Ok x
@@ -36,15 +25,3 @@ found_failed are old new bytes (Err e) m f (Err y) is writes named reported same
 pub found_finished : {T : Type 0} (are : List ℕ → Type 0) (old mid new : OutputView) (bytes : List ℕ) (r : Result T Fault) → are bytes → Took old mid bytes → FlushesOrFault mid new r → SendsFound are old new r
 found_finished are old mid new bytes (Ok x) is took flushed = (bytes, is, record { between = mid; took = took; flushed = flushed })
 found_finished are old mid new bytes (Err f) is took failed = inl (failed.0, bytes, is, inr (record { between = mid; took = took; failed = failed.1 }))
-
--- the lines of the turns, the flipped bits and the string at the end of a way are its text
-pub is_way_text : (items : Items) (every : Bool) (put : PutIn) (turns : List Turn) (bits : List Bool) (left : List PlacedLetter)
-    → turns ≡ string_turns every (length put.string) put.place put.string items
-    → bits ≡ bits_flipped items (string_flips (length put.string) put.place put.string (unroll items))
-    → left ≡ placed 0 (string_after (length put.string) put.place put.string (unroll items) (length (unroll items)))
-    → ((coins : ℕ → Bool) → FlipsRun (length put.string) put.place put.string (unroll items) coins (coins_with (length put.string) put.place put.string (unroll items) coins))
-    → IsWayText items every put (flat_map (turn_line items) turns ++ (flips_line (whole_kinds items) bits ++ left_line left))
-is_way_text items every put turns bits left t b l runs = record {
-  text = ap₂ (λ ts rest. flat_map (turn_line items) ts ++ rest) t (ap₂ (λ bs ls. flips_line (whole_kinds items) bs ++ left_line ls) b l);
-  runs = runs;
-}

@@ -18,32 +18,32 @@ judged_refused : (n : ℕ) (r : Result (List OneItem) Refusal) (x : Refusal) →
 judged_refused n (Ok ys) x e = ap (λ v. unless v (listed ys)) e
 judged_refused n (Err y) x e = let same : y ≡ x = cc in ap Err same
 
-refused_by : (kept : Bool) (n : ℕ) (r : Result (List OneItem) Refusal) (held : Held) (f : Fault) (v : Option Refusal) → list_verdict n r ≡ v → IsCallFault v f → f.refusal ≢ OutOfMemory
-    → refusing held f.refusal ≡ decided kept held (verdict_on n r)
-refused_by kept n r held f (Some x) e is some = ap (λ (g : Fault). refusing held g.refusal) is ∙ sym (ap (decided kept held) (judged_refused n r x e))
-refused_by kept n r held f None e is some = absurd (some (ap (λ (g : Fault). g.refusal) is))
+refused_by : (preserved : Bool) (n : ℕ) (r : Result (List OneItem) Refusal) (held : Held) (f : Fault) (v : Option Refusal) → list_verdict n r ≡ v → IsCallFault v f → f.refusal ≢ OutOfMemory
+    → refusing held f.refusal ≡ decided preserved held (verdict_on n r)
+refused_by preserved n r held f (Some x) e is some = ap (λ (g : Fault). refusing held g.refusal) is ∙ sym (ap (decided preserved held) (judged_refused n r x e))
+refused_by preserved n r held f None e is some = absurd (some (ap (λ (g : Fault). g.refusal) is))
 
 -- an edit that was refused, not for lack of memory
-pub refused_answer : (kept : Bool) (n : ℕ) (r : Result (List OneItem) Refusal) (held : Held) (f : Fault) → IsCallFault (list_verdict n r) f → f.refusal ≢ OutOfMemory
-    → refusing held f.refusal ≡ decided kept held (verdict_on n r)
-refused_answer kept n r held f is some = refused_by kept n r held f (list_verdict n r) refl is some
+pub refused_answer : (preserved : Bool) (n : ℕ) (r : Result (List OneItem) Refusal) (held : Held) (f : Fault) → IsCallFault (list_verdict n r) f → f.refusal ≢ OutOfMemory
+    → refusing held f.refusal ≡ decided preserved held (verdict_on n r)
+refused_answer preserved n r held f is some = refused_by preserved n r held f (list_verdict n r) refl is some
 
 -- what is said of an edit that was made
-pub reported_made : {C : Type 0} (sequence : C → ℕ → Bool) (kept : Bool) (e : Edit) (old new : SessionState C) (m : BookmarkedBits) (reply : List ℕ) → IsEditedBy sequence e old new → reply ≡ made_text kept
-    → answered (held_of new m) reply false ≡ decided kept (held_of old m) (verdict_on old.qubits (edited e (entries old.items)))
-reported_made sequence kept e old new m reply is same =
-    ap (λ l. answered (held_of new m) l false) same ∙ sym (ap (decided kept (held_of old m)) (made_items sequence e old new is))
+pub reported_made : {C : Type 0} (sequence : C → ℕ → Bool) (preserved : Bool) (e : Edit) (old new : SessionState C) (m : BookmarkedBits) (reply : List ℕ) → IsEditedBy sequence e old new → reply ≡ made_text preserved
+    → answered (held_of new m) reply false ≡ decided preserved (held_of old m) (verdict_on old.qubits (edited e (entries old.items)))
+reported_made sequence preserved e old new m reply is same =
+    ap (λ l. answered (held_of new m) l false) same ∙ sym (ap (decided preserved (held_of old m)) (made_items sequence e old new is))
 
 pub same_refusal : {held others : Held} {reply : List ℕ} {refused : Bool} (r : Refusal) → held ≡ others → reply ≡ refused_text r → refused ≡ true → answered held reply refused ≡ refusing others r
 same_refusal {held} {others} {reply} {refused} r e f g =
     ap (λ x. answered x reply refused) e ∙ ap (λ l. answered others l refused) f ∙ ap (λ b. answered others (refused_text r) b) g
 
 -- what is said of an edit that was refused
-pub reported_refusal : {C : Type 0} (sequence : C → ℕ → Bool) (kept : Bool) (e : Edit) (old new : SessionState C) (m : BookmarkedBits) (f : Fault) (reply : List ℕ) (refused : Bool) → IsAsBefore sequence old new
+pub reported_refusal : {C : Type 0} (sequence : C → ℕ → Bool) (preserved : Bool) (e : Edit) (old new : SessionState C) (m : BookmarkedBits) (f : Fault) (reply : List ℕ) (refused : Bool) → IsAsBefore sequence old new
     → IsCallFault (verdict old.qubits e (entries old.items)) f → f.refusal ≢ OutOfMemory → reply ≡ refused_text f.refusal → refused ≡ true
-    → answered (held_of new m) reply refused ≡ decided kept (held_of old m) (verdict_on old.qubits (edited e (entries old.items)))
-reported_refusal sequence kept e old new m f reply refused is fault some same true_is =
-    same_refusal f.refusal (ap (λ x. held_with x (held_of old m).bookmark) is.items) same true_is ∙ refused_answer kept old.qubits (edited e (entries old.items)) (held_of old m) f fault some
+    → answered (held_of new m) reply refused ≡ decided preserved (held_of old m) (verdict_on old.qubits (edited e (entries old.items)))
+reported_refusal sequence preserved e old new m f reply refused is fault some same true_is =
+    same_refusal f.refusal (ap (λ x. held_with x (held_of old m).bookmark) is.items) same true_is ∙ refused_answer preserved old.qubits (edited e (entries old.items)) (held_of old m) f fault some
 
 -- the steps of a circuit that nothing refuses are counted to the end
 pub steps_reported : (n k : ℕ) (items : Items) → check_within n items ≡ None → k ≡ min (length (unroll items)) steps_cap → k ≡ length (unroll items)

@@ -14,7 +14,7 @@ pub record LoggedBytes : Type 0 where
 abbrev pub logged_input : LoggedBytes → InputView
 logged_input d = record { honest = true; unread = d.unread; failures = 0 }
 
--- the reads so far, if they were kept
+-- the reads so far, if there is a log
 abbrev pub log_of : Bool → List Asked → Option (List Asked)
 log_of true reads = Some reads
 log_of false reads = None

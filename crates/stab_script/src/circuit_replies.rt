@@ -1,12 +1,13 @@
 //! What a script asks of its circuit as a whole: which bits are the same for all random bits, what each coin decides, the way of a string, and
 //! the distance.
-ghost use Rattle.std.specs.Prelude.{◌≡◌, None, false, length, IfOk, IfErr};
+ghost use Rattle.std.specs.Prelude.{◌≡◌, ℕ, Bool, None, false, length, IfOk, IfErr};
 ghost use Rattle.stab_io.specs.Refusals.{whole};
 ghost use Rattle.stab_io.specs.declared.refusal.Refusal.TheVariants.{OutOfMemory};
-ghost use Rattle.stab_items.specs.Steps.{check_of, check_within};
+ghost use Rattle.stab_items.specs.Steps.{check_of, check_within, unroll};
 ghost use Rattle.stab_items.specs.Views.{circuit_items};
 ghost use Rattle.stab_results.specs.declared.format.Format.TheVariants.{F01};
 ghost use Rattle.stab_report.specs.Deterministic.{IsDeterministicText};
+ghost use Rattle.stab_ways.specs.Laws.{FlipsRun, coins_with};
 ghost use Rattle.stab_script.specs.CoinReplies.{coins_shown, why_shown};
 ghost use Rattle.stab_script.specs.CountedAnswers.{GivesText};
 ghost use Rattle.stab_script.specs.CountedReplies.{text_found};
@@ -69,19 +70,21 @@ pub(crate) fn show_why(alloc: Global, circuit: &Circuit, bit: Bit) -> Result<Rep
     }
 }
 
-/// The way of a string that is put in after this many steps; refusal `OutOfMemory` alone.
-fn way_reply(
+/// The way of a string that is put in after this many steps, as the command `propagate` writes it; refusal `OutOfMemory` alone.
+pub(crate) fn way_reply(
     alloc: Global,
     circuit: &Circuit,
+    every: bool,
     place: usize,
     string: &Pauli,
 ) -> Result<Reply, Refusal>
     requires checked { check_of (circuit_items circuit.now) ≡ None }
     requires fits { check_within (length string.now.letters) (circuit_items circuit.now) ≡ None }
-    ensures shows { IfOk result (λ r. r.written ≡ way_text (circuit_items circuit.now) false (record { place = place; string = string.now.letters })) }
+    ensures shows { IfOk result (λ r. r.written ≡ way_text (circuit_items circuit.now) every (record { place = place; string = string.now.letters })) }
+    ensures runs { IfOk result (λ r. (coins : ℕ → Bool) → FlipsRun (length string.now.letters) place string.now.letters (unroll (circuit_items circuit.now)) coins (coins_with (length string.now.letters) place string.now.letters (unroll (circuit_items circuit.now)) coins)) }
     ensures err { IfErr result (λ r. r ≡ OutOfMemory) }
 {
-    let way = way_of(alloc, circuit, false, place, string)?;
+    let way = way_of(alloc, circuit, every, place, string)?;
     let bits = bits_flipped(alloc, circuit, &way.end)?;
     let left = placed(alloc, way.end.letters())?;
     let mut reply = Reply::new(alloc);
@@ -105,7 +108,7 @@ pub(crate) fn show_way(
     ensures shows { GivesText result (text_found (way_text (circuit_items circuit.now) false) (put_in_of n (circuit_items circuit.now) at.now word.now)) }
 {
     let (place, string) = read_put_in(alloc, circuit, n, at, word)?;
-    way_reply(alloc, circuit, place, &string)
+    way_reply(alloc, circuit, false, place, &string)
 }
 
 /// What a script asks of a distance.

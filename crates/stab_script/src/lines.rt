@@ -13,6 +13,7 @@ use itoa::Buffer;
 use stab_circuit::{Circuit, Path};
 use stab_frames::Propagation;
 use stab_io::{Output, Refusal, write_all};
+use stab_items::StepItems;
 use stab_report::{write_texts, write_where};
 use stab_results::{Kinds, write_ones};
 use stab_run::observables;
@@ -62,12 +63,33 @@ pub(crate) fn path_of(circuit: &Circuit, step: usize) -> Path
     }
 }
 
-/// Writes the line of an item after which a string is another one.
-fn write_turn<O: Output>(out: &mut O, circuit: &Circuit, turn: &Turn) -> Result<(), Refusal>
+/// The path of the item of a step, which is looked for from the last one on.
+fn next_path(circuit: &Circuit, items: &mut StepItems, step: usize) -> Path
     requires checked { check_of (circuit_items circuit.now) ≡ None }
+    requires of_circuit { items.old ≡ circuit.now }
+    ensures items { items.new ≡ items.old }
+    ensures value { result ≡ path_at (circuit_items circuit.now) step }
+{
+    if step < circuit.steps() {
+        items.item_of_step(step).path
+    } else {
+        Path::new(&[0])
+    }
+}
+
+/// Writes the line of an item after which a string is another one.
+fn write_turn<O: Output>(
+    out: &mut O,
+    circuit: &Circuit,
+    items: &mut StepItems,
+    turn: &Turn,
+) -> Result<(), Refusal>
+    requires checked { check_of (circuit_items circuit.now) ≡ None }
+    requires of_circuit { items.old ≡ circuit.now }
+    ensures items { items.new ≡ items.old }
     ensures writes { WritesAll (O.seen out.old) (O.seen out.new) (turn_line (circuit_items circuit.now) (turn_shown turn.now)) result }
 {
-    let path = path_of(circuit, turn.after.saturating_sub(1));
+    let path = next_path(circuit, items, turn.after.saturating_sub(1));
     write_where(out, turn.after, &path)?;
     write_string(out, turn.string.as_slice())?;
     write_all(out, b"\n")
@@ -78,8 +100,9 @@ fn write_turns<O: Output>(out: &mut O, circuit: &Circuit, turns: &[Turn]) -> Res
     requires checked { check_of (circuit_items circuit.now) ≡ None }
     ensures writes { WritesAll (O.seen out.old) (O.seen out.new) (flat_map (turn_line (circuit_items circuit.now)) (map turn_shown turns.now)) result }
 {
+    let mut items = StepItems::new(circuit);
     'turns: for turn in turns {
-        write_turn(out, circuit, turn)?;
+        write_turn(out, circuit, &mut items, turn)?;
     }
     Ok(())
 }

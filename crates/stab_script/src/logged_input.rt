@@ -48,7 +48,7 @@ pub struct LoggedInput<'a> {
     rest: &'a [u8],
     piece: usize,
     log: Vec<LoggedRead<'a>>,
-    kept: bool,
+    preserved: bool,
 }
 
 impl<'a> Model for LoggedInput<'a> {
@@ -57,7 +57,7 @@ impl<'a> Model for LoggedInput<'a> {
 
     ghost Value = { LoggedBytes };
 
-    ghost view = { λ d. record { unread = d.rest.now; piece = d.piece; log = log_of d.kept d.log.items } };
+    ghost view = { λ d. record { unread = d.rest.now; piece = d.piece; log = log_of d.preserved d.log.items } };
 
     ghost invariant = { λ d. 0 < d.piece };
 }
@@ -72,16 +72,16 @@ impl<'a> LoggedInput<'a> {
             rest: bytes,
             piece,
             log: Vec::new(alloc),
-            kept: true,
+            preserved: true,
         }
     }
 
-    /// The reads so far, oldest first, if the log was kept.
+    /// The reads so far, oldest first, if there is a log.
     pub fn reads(&self) -> Option<&[LoggedRead<'a>]>
         ensures value { IfSome result (λ reads. self.now.log ≡ Some reads.now) }
         ensures none { result ≡ None → self.now.log ≡ None }
     {
-        if self.kept {
+        if self.preserved {
             Some(self.log.as_slice())
         } else {
             None
@@ -107,7 +107,7 @@ impl<'a> LoggedInput<'a> {
         ensures logs { Logs self.old.log self.new.log (record { written = written; given = given.now } ∷ []) }
     {
         if self.log.push(LoggedRead { written, given }).is_err() {
-            self.kept = false;
+            self.preserved = false;
         }
     }
 
@@ -115,7 +115,7 @@ impl<'a> LoggedInput<'a> {
     fn forget(&mut self)
         ensures value { self.new ≡ record self.old { log = None } }
     {
-        self.kept = false;
+        self.preserved = false;
     }
 }
 

@@ -7,13 +7,12 @@ ghost use Rattle.stab_script.specs.Words.{PutIn, put_in_of};
 ghost use Rattle.stab_script.specs.WayTexts.{IsWayText};
 ghost use Rattle.stab_script.specs.Endings.{EndsPropagate, SendsWay};
 
-use crate::lines::{bits_flipped, write_way};
+use crate::circuit_replies::way_reply;
 use crate::words::read_put_in;
 use stab_circuit::{Circuit, read_circuit};
-use stab_io::{Fault, Input, Output};
+use stab_io::{Fault, Input, Output, write_all};
 use stab_pauli::Pauli;
 use stab_report::finish;
-use stab_ways::{placed, way_of};
 use std::alloc::Global;
 
 /// Writes the way of a string that is put in after this many steps, and flushes. Memory may be refused before the first byte.
@@ -29,17 +28,8 @@ fn send_way<O: Output>(
     requires qubits { length string.now.letters ≡ qubits_of (circuit_items circuit.now) }
     ensures sends { SendsFound (IsWayText (circuit_items circuit.now) every (record { place = place; string = string.now.letters })) (O.seen out.old) (O.seen out.new) result }
 {
-    let way = way_of(alloc, circuit, every, place, string).map_err(Fault::whole)?;
-    let bits = bits_flipped(alloc, circuit, &way.end)?;
-    let left = placed(alloc, way.end.letters())?;
-    write_way(
-        out,
-        circuit,
-        way.turns.as_slice(),
-        bits.as_slice(),
-        left.as_slice(),
-    )
-    .map_err(Fault::whole)?;
+    let reply = way_reply(alloc, circuit, every, place, string).map_err(Fault::whole)?;
+    write_all(out, reply.bytes()).map_err(Fault::whole)?;
     finish(out)
 }
 

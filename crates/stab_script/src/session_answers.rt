@@ -225,7 +225,7 @@ impl<C: Coins> SessionAnswers<C> {
         ensures session { self.new.session ≡ self.old.session }
         ensures counted { self.new.counted ≡ self.old.counted }
         ensures bookmark { OnOk result (bookmark_shown self.new.bookmark ≡ shot_bits_of (session_run C.sequence self.old.session)) }
-        ensures kept { OnErr result (self.new.bookmark ≡ self.old.bookmark) }
+        ensures preserved { OnErr result (self.new.bookmark ≡ self.old.bookmark) }
         ensures written { IfOk result (λ r. r.written ≡ []) }
         ensures err { IfErr result (λ f. f ≡ whole OutOfMemory) }
     {
@@ -237,7 +237,7 @@ impl<C: Coins> SessionAnswers<C> {
     fn split(&mut self, place: Path, round: u64) -> Result<Reply, Refusal>
         ensures environment { session_environment C.sequence self.new.counted self.new.session ≡ session_environment C.sequence self.old.counted self.old.session }
         ensures held { OnOk result (held_of self.new.session self.new.bookmark ≡ held_split (held_of self.old.session self.old.bookmark) (split_list place round (entries self.old.session.items))) }
-        ensures kept { OnErr result (held_of self.new.session self.new.bookmark ≡ held_of self.old.session self.old.bookmark) }
+        ensures preserved { OnErr result (held_of self.new.session self.new.bookmark ≡ held_of self.old.session self.old.bookmark) }
         ensures shows { GivesText result (text_found (λ list. []) (split_list place round (entries self.old.session.items))) }
     {
         match self.session.split(place, round) {
@@ -249,7 +249,7 @@ impl<C: Coins> SessionAnswers<C> {
     /// What only a counted script is shown.
     fn show_counted(&mut self, request: &CountedRequest) -> Result<Reply, Refusal>
         ensures environment { session_environment C.sequence self.new.counted self.new.session ≡ session_environment C.sequence self.old.counted self.old.session }
-        ensures kept { OnErr result (held_of self.new.session self.new.bookmark ≡ held_of self.old.session self.old.bookmark) }
+        ensures preserved { OnErr result (held_of self.new.session self.new.bookmark ≡ held_of self.old.session self.old.bookmark) }
         ensures held { OnOk result (held_of self.new.session self.new.bookmark ≡ held_after (session_run C.sequence self.old.session) (held_of self.old.session self.old.bookmark) (counted_asked request.now)) }
         ensures shows { GivesText result (counted_shown self.old.session.qubits (session_run C.sequence self.old.session) (held_of self.old.session self.old.bookmark) (counted_asked request.now)) }
     {

@@ -161,25 +161,25 @@ some-class rows f i (suc n) (x ∷ xs) le e =
 
 -- The law of classes.
 
-module _ (t kept : ErrorTable) (classes : List ℕ) (detectors : kept.detectors ≡ t.detectors) (have : HaveClasses kept classes)
-    (split : (r : ℕ) → r < length t.rows → Splits kept classes (row t.rows r)) where
+module _ (t retained : ErrorTable) (classes : List ℕ) (detectors : retained.detectors ≡ t.detectors) (have : HaveClasses retained classes)
+    (split : (r : ℕ) → r < length t.rows → Splits retained classes (row t.rows r)) where
   abbrev class : ℕ → ℕ
-  class r = class_of classes (row kept.rows r)
+  class r = class_of classes (row retained.rows r)
 
   -- the parts of all errors
   abbrev all_parts : (xs : List ℕ) → ForEach (λ r. r < length t.rows) xs → List ℕ
   all_parts [] a = []
   all_parts (x ∷ xs) a = (split x a.0).0 ++ all_parts xs a.1
 
-  parts-inside : (xs : List ℕ) (a : ForEach (λ r. r < length t.rows) xs) → ForEach (λ r. r < length kept.rows) (all_parts xs a)
+  parts-inside : (xs : List ℕ) (a : ForEach (λ r. r < length t.rows) xs) → ForEach (λ r. r < length retained.rows) (all_parts xs a)
   parts-inside [] a = tt
-  parts-inside (x ∷ xs) a = each-append (λ r. r < length kept.rows) (split x a.0).0 (all_parts xs a.1) (split x a.0).1.inside (parts-inside xs a.1)
+  parts-inside (x ∷ xs) a = each-append (λ r. r < length retained.rows) (split x a.0).0 (all_parts xs a.1) (split x a.0).1.inside (parts-inside xs a.1)
 
-  parts-flip : (xs : List ℕ) (a : ForEach (λ r. r < length t.rows) xs) (i : ℕ) → CountsNumber classes kept.detectors i → flipped_by_rows kept.rows (all_parts xs a) i ≡ flipped_by_rows t.rows xs i
+  parts-flip : (xs : List ℕ) (a : ForEach (λ r. r < length t.rows) xs) (i : ℕ) → CountsNumber classes retained.detectors i → flipped_by_rows retained.rows (all_parts xs a) i ≡ flipped_by_rows t.rows xs i
   parts-flip [] a i counts = refl
   parts-flip (x ∷ xs) a i counts =
-      flips-append kept.rows (split x a.0).0 (all_parts xs a.1) i
-      ∙ ap (λ b. b ⊕ flipped_by_rows kept.rows (all_parts xs a.1) i) ((split x a.0).1.same i counts)
+      flips-append retained.rows (split x a.0).0 (all_parts xs a.1) i
+      ∙ ap (λ b. b ⊕ flipped_by_rows retained.rows (all_parts xs a.1) i) ((split x a.0).1.same i counts)
       ∙ ap (λ b. odd i (row t.rows x) ⊕ b) (parts-flip xs a.1 i counts)
 
   -- no more of one class than errors
@@ -194,14 +194,14 @@ module _ (t kept : ErrorTable) (classes : List ℕ) (detectors : kept.detectors 
       omega arith
 
   -- an error flips no detector of another class, and none that is ignored
-  distinct : (d r : ℕ) → d < kept.detectors → r < length kept.rows → class r ≢ slice_index classes d → odd d (row kept.rows r) ≡ false
-  distinct d r lt inside other = by-bit (odd d (row kept.rows r)) (λ is. absurd (other (sym (have r inside d lt is).0))) (λ not. not)
+  distinct : (d r : ℕ) → d < retained.detectors → r < length retained.rows → class r ≢ slice_index classes d → odd d (row retained.rows r) ≡ false
+  distinct d r lt inside other = by-bit (odd d (row retained.rows r)) (λ is. absurd (other (sym (have r inside d lt is).0))) (λ not. not)
 
-  ignored : (d r : ℕ) → d < kept.detectors → r < length kept.rows → slice_index classes d ≡ 0 → odd d (row kept.rows r) ≡ false
+  ignored : (d r : ℕ) → d < retained.detectors → r < length retained.rows → slice_index classes d ≡ 0 → odd d (row retained.rows r) ≡ false
   ignored d r lt inside none =
-      by-bit (odd d (row kept.rows r)) (λ is. let here = have r inside d lt is in absurd (here.1 (sym here.0 ∙ none))) (λ not. not)
+      by-bit (odd d (row retained.rows r)) (λ is. let here = have r inside d lt is in absurd (here.1 (sym here.0 ∙ none))) (λ not. not)
 
-  each-none : (P : ℕ → Type 0) (d : ℕ) (xs : List ℕ) → ((r : ℕ) → P r → odd d (row kept.rows r) ≡ false) → ForEach P xs → ForEach (λ r. odd d (row kept.rows r) ≡ false) xs
+  each-none : (P : ℕ → Type 0) (d : ℕ) (xs : List ℕ) → ((r : ℕ) → P r → odd d (row retained.rows r) ≡ false) → ForEach P xs → ForEach (λ r. odd d (row retained.rows r) ≡ false) xs
   each-none P d [] all a = tt
   each-none P d (x ∷ xs) all a = (all x a.0, each-none P d xs all a.1)
 
@@ -210,40 +210,40 @@ module _ (t kept : ErrorTable) (classes : List ℕ) (detectors : kept.detectors 
     parts = all_parts errors a
 
     -- the parts of a class flip no detector
-    class-undetected : (k d : ℕ) → d < kept.detectors → flipped_by_rows kept.rows (with_class class k parts) d ≡ false
+    class-undetected : (k d : ℕ) → d < retained.detectors → flipped_by_rows retained.rows (with_class class k parts) d ≡ false
     class-undetected k d lt = by_class (cases_eq (slice_index classes d) 0) (cases_eq k (slice_index classes d))
       where
         by_class : (slice_index classes d ≡ 0) ⊎ (slice_index classes d ≡ 0 → ⊥) → (k ≡ slice_index classes d) ⊎ (k ≡ slice_index classes d → ⊥)
-            → flipped_by_rows kept.rows (with_class class k parts) d ≡ false
+            → flipped_by_rows retained.rows (with_class class k parts) d ≡ false
         by_class (inl none) here =
-            flips-none kept.rows d (with_class class k parts)
-            (each-none (λ r. (r < length kept.rows) × (class r ≡ k)) d (with_class class k parts) (λ r p. ignored d r lt p.0 none)
-            (each-with class k (λ r. r < length kept.rows) parts (parts-inside errors a)))
+            flips-none retained.rows d (with_class class k parts)
+            (each-none (λ r. (r < length retained.rows) × (class r ≡ k)) d (with_class class k parts) (λ r p. ignored d r lt p.0 none)
+            (each-with class k (λ r. r < length retained.rows) parts (parts-inside errors a)))
         by_class (inr counts) (inr other) =
-            flips-none kept.rows d (with_class class k parts)
-            (each-none (λ r. (r < length kept.rows) × (class r ≡ k)) d (with_class class k parts) (λ r p. distinct d r lt p.0 (λ same. other (sym p.1 ∙ same)))
-            (each-with class k (λ r. r < length kept.rows) parts (parts-inside errors a)))
+            flips-none retained.rows d (with_class class k parts)
+            (each-none (λ r. (r < length retained.rows) × (class r ≡ k)) d (with_class class k parts) (λ r p. distinct d r lt p.0 (λ same. other (sym p.1 ∙ same)))
+            (each-with class k (λ r. r < length retained.rows) parts (parts-inside errors a)))
         by_class (inr counts) (inl same) =
-            let others : flipped_by_rows kept.rows (without_class class k parts) d ≡ false =
-            flips-none kept.rows d (without_class class k parts)
-            (each-none (λ r. (r < length kept.rows) × (class r ≢ k)) d (without_class class k parts) (λ r p. distinct d r lt p.0 (λ is. p.1 (is ∙ sym same)))
-            (each-without_class class k (λ r. r < length kept.rows) parts (parts-inside errors a))) in
-            sym (parity-false (flipped_by_rows kept.rows (with_class class k parts) d))
-            ∙ ap (λ b. flipped_by_rows kept.rows (with_class class k parts) d ⊕ b) (sym others)
-            ∙ sym (flips-classes kept.rows class k d parts)
+            let others : flipped_by_rows retained.rows (without_class class k parts) d ≡ false =
+            flips-none retained.rows d (without_class class k parts)
+            (each-none (λ r. (r < length retained.rows) × (class r ≢ k)) d (without_class class k parts) (λ r p. distinct d r lt p.0 (λ is. p.1 (is ∙ sym same)))
+            (each-without_class class k (λ r. r < length retained.rows) parts (parts-inside errors a))) in
+            sym (parity-false (flipped_by_rows retained.rows (with_class class k parts) d))
+            ∙ ap (λ b. flipped_by_rows retained.rows (with_class class k parts) d ⊕ b) (sym others)
+            ∙ sym (flips-classes retained.rows class k d parts)
             ∙ parts-flip errors a d (inr counts)
             ∙ logical.undetected d (subst (λ n. d < n) detectors lt)
 
-    class-logical : (others : List ℕ) × (IsLogicalError kept others × (length others ≤ length errors))
+    class-logical : (others : List ℕ) × (IsLogicalError retained others × (length others ≤ length errors))
     class-logical =
         let o = logical.observed.0 in
-        let le : kept.detectors ≤ o = subst (λ n. n ≤ o) (sym detectors) logical.observed.1 in
-        let one = some-class kept.rows class o (length parts) parts (omega arith) (parts-flip errors a o (inl le) ∙ logical.observed.2) in
+        let le : retained.detectors ≤ o = subst (λ n. n ≤ o) (sym detectors) logical.observed.1 in
+        let one = some-class retained.rows class o (length parts) parts (omega arith) (parts-flip errors a o (inl le) ∙ logical.observed.2) in
         let k = one.0 in (
           with_class class k parts,
           (
             record {
-              inside = all-each (λ r. r < length kept.rows) (with_class class k parts)
+              inside = all-each (λ r. r < length retained.rows) (with_class class k parts)
                   (each-first class k parts (parts-inside errors a));
               undetected = λ d lt. class-undetected k d lt;
               observed = (o, le, one.1);
@@ -252,15 +252,15 @@ module _ (t kept : ErrorTable) (classes : List ℕ) (detectors : kept.detectors 
           ),
         )
       where
-        each-first : (f : ℕ → ℕ) (k : ℕ) (xs : List ℕ) → ForEach (λ r. r < length kept.rows) xs → ForEach (λ r. r < length kept.rows) (with_class f k xs)
+        each-first : (f : ℕ → ℕ) (k : ℕ) (xs : List ℕ) → ForEach (λ r. r < length retained.rows) xs → ForEach (λ r. r < length retained.rows) (with_class f k xs)
         each-first f k [] b = tt
         each-first f k (x ∷ xs) b =
             by-bit (f x == k)
-            (λ e. subst (ForEach (λ r. r < length kept.rows)) (sym (with-here f k x xs e)) (b.0, each-first f k xs b.1))
-            (λ e. subst (ForEach (λ r. r < length kept.rows)) (sym (with-there f k x xs e)) (each-first f k xs b.1))
+            (λ e. subst (ForEach (λ r. r < length retained.rows)) (sym (with-here f k x xs e)) (b.0, each-first f k xs b.1))
+            (λ e. subst (ForEach (λ r. r < length retained.rows)) (sym (with-there f k x xs e)) (each-first f k xs b.1))
 
   -- errors of one class each are enough
-  pub enough-classes : (errors : List ℕ) → IsLogicalError t errors → (others : List ℕ) × (IsLogicalError kept others × (length others ≤ length errors))
+  pub enough-classes : (errors : List ℕ) → IsLogicalError t errors → (others : List ℕ) × (IsLogicalError retained others × (length others ≤ length errors))
   enough-classes errors logical = class-logical errors logical (each-all (λ r. r < length t.rows) errors logical.inside)
 
 -- What a check goes over.

@@ -4,7 +4,7 @@ use Rattle.stab_search.proofs.ChoiceLemmas.{completes-logical, logical-completes
 use Rattle.stab_search.proofs.DistinctLemmas.{bound-whole}
 use Rattle.stab_search.proofs.EndLemmas.{completes-nothing}
 use Rattle.stab_search.proofs.ListLemmas.{each-all}
-use Rattle.stab_search.proofs.Totals.{odd-append}
+use Rattle.stab_parities.proofs.MergeLemmas.{odd-append}
 use Rattle.stab_search.proofs.WayLemmas.{decide, leaf-none, flips-shift, completes-skip, completes-take}
 
 -- a set of errors, each once, that completes what is flipped

@@ -1,7 +1,7 @@
 -- Edges: ascending rows that flip at most two detectors, and their nodes.
 use Rattle.stab_search.proofs.Names.{◌≡◌, ℕ, ◌+◌, ◌≤◌, ◌<◌, ◌⊎◌, inl, inr, refl, sym, ◌∙◌, ap, arith, Bool, true, false, List, [], ◌∷◌, length, get_or, min, ne_eqb, ◌==◌, eqb-true, eq-eqb, cases_eq, cases_lt, ◌⊕◌, parity-false, AscendsFrom, IsAscending, odd, IsGraphlike, has, IsEdge}
 use Rattle.stab_search.proofs.ListLemmas.{has-here, has-there}
-use Rattle.stab_search.proofs.AscendingLemmas.{odd-below, named-ascending}
+use Rattle.stab_parities.proofs.AscendingLemmas.{odd-below, named-ascending}
 
 -- a list without detectors
 abbrev NamesNone : ℕ → List ℕ → Type 0

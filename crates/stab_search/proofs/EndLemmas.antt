@@ -1,8 +1,8 @@
 -- Ends: an error is tried, or none is left to try.
 use Rattle.stab_search.proofs.Names.{◌≡◌, ℕ, ◌+◌, ◌≤◌, ◌<◌, refl, sym, ◌∙◌, ap, subst, arith, Bool, true, false, ◌||◌, List, [], ◌∷◌, ◌++◌, length, get_or, bit_xor, ne_eqb, ◌==◌, eq-eqb, eqb-true, false≢true, length-append, list_any-append, ◌⊕◌, parity-comm, parity-assoc, parity-false, parity-self, parity-twice, AscendsFrom, IsAscending, ErrorTable, odd, row, flipped_by_rows, HasNoneWithin, has, rows_listed, Vec, key_of, Completes, MayFollow, CompletesSetWithin, NoEnds, NoEndsBy, Meet}
-use Rattle.stab_search.proofs.AscendingLemmas.{odd-below, named-ascending}
+use Rattle.stab_parities.proofs.AscendingLemmas.{odd-below, named-ascending}
 use Rattle.stab_search.proofs.FlipLemmas.{flips-push, flips-without, key-same, key-sum}
-use Rattle.stab_search.proofs.Totals.{odd-append}
+use Rattle.stab_parities.proofs.MergeLemmas.{odd-append}
 use Rattle.stab_search.proofs.ListLemmas.{by-bit, each-has, each-push, all-each, has-at, has-here, has-there, without, without-here, without-there, each-without, length-without}
 
 -- a bit is moved to the other side

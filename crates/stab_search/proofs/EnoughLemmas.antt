@@ -61,14 +61,14 @@ module _ (t fewer : ErrorTable) (numbers : List ℕ) (is : ErrorsAreEnough t few
 
 -- of errors that are enough, those of one class each are
 pub fewer-enough : (t fewer : ErrorTable) (numbers : List ℕ) → ErrorsAreEnough t fewer numbers
-    → (kept : ErrorTable) (classes chosen : List ℕ) → kept.detectors ≡ fewer.detectors → AreRowsOf t.rows kept.rows chosen → HaveClasses kept classes
-    → ((r : ℕ) → r < length fewer.rows → Splits kept classes (row fewer.rows r)) → ErrorsAreEnough t kept chosen
-fewer-enough t fewer numbers is kept classes chosen same rows have split = record {
+    → (preserved : ErrorTable) (classes chosen : List ℕ) → preserved.detectors ≡ fewer.detectors → AreRowsOf t.rows preserved.rows chosen → HaveClasses preserved classes
+    → ((r : ℕ) → r < length fewer.rows → Splits preserved classes (row fewer.rows r)) → ErrorsAreEnough t preserved chosen
+fewer-enough t fewer numbers is preserved classes chosen same rows have split = record {
   detectors = same ∙ is.detectors;
   rows = rows;
   enough = λ errors logical.
       let other = is.enough errors logical in
-      let parts = enough-classes fewer kept classes same have split other.0 other.1.0 in
+      let parts = enough-classes fewer preserved classes same have split other.0 other.1.0 in
       let few = other.1.1 in
       let fewer_still = parts.1.1 in
       (parts.0, (parts.1.0, omega arith));

@@ -1,7 +1,8 @@
 -- What errors flip together when one is put after others, left out or toggled; their totals and keys.
 use Rattle.stab_search.proofs.Names.{◌≡◌, ℕ, zero, suc, ◌≤◌, ◌<◌, ◌⊎◌, inl, inr, refl, sym, ◌∙◌, ap, arith, true, false, List, [], ◌∷◌, ◌++◌, length, get_or, bit_xor, cases_lt, false≢true, ◌⊕◌, parity-false, odd, row, flipped_by_rows, has, toggle, key_of}
 use Rattle.stab_search.proofs.ListLemmas.{by-bit, has-here, has-there, without}
-use Rattle.stab_search.proofs.Totals.{total, bits, masks, total-append, total-without, total-toggle, total-same, odd-append}
+use Rattle.stab_search.proofs.Totals.{total, bits, masks, total-append, total-without, total-toggle, total-same}
+use Rattle.stab_parities.proofs.MergeLemmas.{odd-append}
 
 -- what errors flip is a total
 

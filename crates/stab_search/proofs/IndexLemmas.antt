@@ -32,20 +32,14 @@ listed-past [] d le = refl
 listed-past (w ∷ index) zero le = absurd (omega arith)
 listed-past (w ∷ index) (suc d) le = listed-past index d (omega arith)
 
--- a row that is there is what is looked up, for any other answer
-pub row-in : (rows : List (List ℕ)) (r : ℕ) (d : List ℕ) → r < length rows → get_or rows r d ≡ row rows r
-row-in [] r d lt = absurd (omega arith)
-row-in (x ∷ rows) zero d lt = refl
-row-in (x ∷ rows) (suc r) d lt = row-in rows r d (omega arith)
-
 -- row r listed at a position, and the other lists as they were
 
 module _ (old new : List (Vec ℕ)) (d r : ℕ) (here : rows_listed new d ≡ rows_listed old d ++ r ∷ []) (elsewhere : (e : ℕ) → e ≢ d → rows_listed new e ≡ rows_listed old e) where
   pub added-has : has r (rows_listed new d) ≡ true
   added-has = ap (has r) here ∙ has-push r (rows_listed old d)
 
-  pub kept-has : (e q : ℕ) → has q (rows_listed old e) ≡ true → has q (rows_listed new e) ≡ true
-  kept-has e q h = by_position (cases_eq e d)
+  pub preserved-has : (e q : ℕ) → has q (rows_listed old e) ≡ true → has q (rows_listed new e) ≡ true
+  preserved-has e q h = by_position (cases_eq e d)
     where
       by_position : (e ≡ d) ⊎ (e ≡ d → ⊥) → has q (rows_listed new e) ≡ true
       by_position (inl same) =
@@ -53,8 +47,8 @@ module _ (old new : List (Vec ℕ)) (d r : ℕ) (here : rows_listed new d ≡ ro
           ∙ has-before q r (rows_listed old d) (ap (λ k. has q (rows_listed old k)) (sym same) ∙ h)
       by_position (inr other) = ap (has q) (elsewhere e other) ∙ h
 
-  pub kept-inside : (n e : ℕ) → r < n → ForEach (λ q. q < n) (rows_listed old e) → ForEach (λ q. q < n) (rows_listed new e)
-  kept-inside n e lt a = by_position (cases_eq e d)
+  pub preserved-inside : (n e : ℕ) → r < n → ForEach (λ q. q < n) (rows_listed old e) → ForEach (λ q. q < n) (rows_listed new e)
+  preserved-inside n e lt a = by_position (cases_eq e d)
     where
       by_position : (e ≡ d) ⊎ (e ≡ d → ⊥) → ForEach (λ q. q < n) (rows_listed new e)
       by_position (inl same) =
@@ -69,10 +63,10 @@ pub complete-more : (rows : List (List ℕ)) (old new : List (Vec ℕ)) (r : ℕ
     → ((d : ℕ) → has d positions ≡ true → has r (rows_listed new d) ≡ true)
     → ((d q : ℕ) → q < r → odd d (row rows q) ≡ true → has q (rows_listed old d) ≡ true)
     → (d q : ℕ) → q < r + 1 → odd d (row rows q) ≡ true → has q (rows_listed new d) ≡ true
-complete-more rows old new r positions is kept added complete d q lt odd_here = by_position (cases_lt q r)
+complete-more rows old new r positions is preserved added complete d q lt odd_here = by_position (cases_lt q r)
   where
     by_position : (q < r) ⊎ (r ≤ q) → has q (rows_listed new d) ≡ true
-    by_position (inl less) = kept d q (complete d q less odd_here)
+    by_position (inl less) = preserved d q (complete d q less odd_here)
     by_position (inr more) =
         let same : q ≡ r = omega arith in
         ap (λ k. has k (rows_listed new d)) same

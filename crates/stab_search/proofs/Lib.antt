@@ -2,7 +2,6 @@ mod Names
 pub mod ListLemmas
 pub mod Totals
 pub mod AscendingLemmas
-pub mod MergeLemmas
 pub mod FlipLemmas
 pub mod IndexLemmas
 pub mod CoverLemmas

@@ -1,7 +1,7 @@
 -- Logical errors: what errors flip together, by the list that is made of their rows one by one.
 use Rattle.stab_search.proofs.Names.{◌≡◌, ℕ, ◌≤◌, ◌<◌, sym, ◌∙◌, arith, List, [], ◌∷◌, length, get_or, IsAscending, ErrorTable, ForEach, odd, flipped_by_rows, IsLogicalError}
 use Rattle.stab_search.proofs.ListLemmas.{has-here, all-each}
-use Rattle.stab_search.proofs.AscendingLemmas.{odd-below, named-ascending}
+use Rattle.stab_parities.proofs.AscendingLemmas.{odd-below, named-ascending}
 
 -- what is flipped ascends, and begins with an observable
 pub flipped-logical : (t : ErrorTable) (errors flipped : List ℕ) → IsAscending flipped → ((i : ℕ) → odd i flipped ≡ flipped_by_rows t.rows errors i)

@@ -16,11 +16,12 @@ pub use Rattle.stab_gates.proofs.ParityLemmas.{parity-mid, parity-false, parity-
 pub use Rattle.stab_gates.specs.Letters.{◌⊕◌}
 pub use denote.RawPtr.{null_ptr}
 pub use lib.Bits.{xor_comm, xor_assoc, xor_self, xor_zero_r}
-pub use Rattle.stab_search.specs.Ascending.{AscendsFrom, IsAscending}
+pub use Rattle.stab_parities.specs.Ascending.{AscendsFrom, IsAscending}
 pub use Rattle.stab_search.specs.Graphlike.{IsGraphlike, IsGraphlikeError, IsLeastGraphlike, HasNoGraphlikeWithin, IsGraphlikeAnswer}
 pub use Rattle.stab_search.specs.Progress.{Heard, begins, none_within, Hears, numbers_up_to, IsExcludedBy, ReportsSearch}
 pub use Rattle.stab_search.specs.LogicalErrors.{IsLogicalError, HasNoneWithin, IsLeastAnswer, IsLeast, HasNone, HasSome}
-pub use Rattle.stab_search.specs.Tables.{ErrorTable, odd, flipped_by_rows, row}
+pub use Rattle.stab_search.specs.Tables.{ErrorTable, flipped_by_rows}
+pub use Rattle.stab_parities.specs.OddNumbers.{odd, row}
 pub use Rattle.stab_search.specs.declared.answer.Answer.{Answer}
 pub use Rattle.stab_search.specs.declared.answer.Answer.TheVariants.{Least, NoneWithin, NoneAtAll}
 pub use Rattle.stab_search.specs.declared.edges.Edge.{Edge}
@@ -29,7 +30,7 @@ pub use Rattle.stab_search.specs.inner.Classes.{class_of, AreOfClass, HaveClasse
 pub use Rattle.stab_search.specs.inner.Certificates.{odd_members, IsCertificate, FollowsDetectors}
 pub use Rattle.stab_search.specs.inner.Covers.{shares, MayBe, CoversEach}
 pub use Rattle.stab_search.specs.inner.Ends.{Completes, MayFollow, CompletesSet, CompletesSetWithin, NoEnds, NoEndsBy, Meet}
-pub use Rattle.stab_search.specs.inner.Errors.{AreRowsOf, HasRow, key_of, Keyed}
+pub use Rattle.stab_search.specs.inner.Errors.{AreRowsOf, HasRow, key_of, Keyed, IsKeyed}
 pub use Rattle.stab_search.specs.inner.Graphs.{HasAtLeast, HasBound, IsEdge, edge, AreEdges, RowsFlip}
 pub use Rattle.stab_search.specs.inner.Indexes.{rows_listed}
 pub use Rattle.stab_search.specs.inner.Labels.{label, AreLabels, IsFar, AreCovered, AreNearAlong}

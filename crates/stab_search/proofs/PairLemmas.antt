@@ -47,7 +47,7 @@ pub among : (a x : ℕ) (xs : List ℕ) {P : Type 0} → has a (x ∷ xs) ≡ tr
 among a x xs e here there =
     by-bit (x == a) (λ same. here (eqb-true x a same)) (λ other. there (ap (λ b. b || has a xs) (sym other) ∙ e))
 
--- An error before another is kept in the set of a list that has each of its errors once.
+-- An error before another stays in the set of a list that has each of its errors once.
 
 -- toggled into a set that grows, it keeps the others
 has-toggle : (f x : ℕ) (xs : List ℕ) → length (toggle x xs) ≡ suc (length xs) → has f (x ∷ xs) ≡ true → has f (toggle x xs) ≡ true

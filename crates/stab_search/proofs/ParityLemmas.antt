@@ -1,5 +1,6 @@
 -- Parities: what errors flip together, as their variables are added one after another.
-use Rattle.stab_search.proofs.Names.{◌≡◌, ℕ, zero, suc, ◌+◌, ◌<◌, ◌≤◌, ◌⊎◌, inl, inr, refl, sym, ◌∙◌, subst, ap, ap₂, arith, Bool, true, false, not, List, [], ◌∷◌, ◌++◌, length, ◌&&◌, ◌==◌, cond, set, cases_eq, ne_eqb, eq-eqb, parity-false, parity-assoc, ◌⊕◌, odd, Sum, AreSums, variable_value, parity_variable, flipped_in_sum, AreParities, Adds, slice_index_or}
+use Rattle.stab_search.proofs.Names.{◌≡◌, ℕ, ◌+◌, ◌<◌, ◌⊎◌, inl, inr, refl, sym, ◌∙◌, ap, ap₂, arith, Bool, true, false, List, [], ◌∷◌, ◌++◌, length, ◌&&◌, ◌==◌, set, cases_eq, ne_eqb, eq-eqb, parity-false, parity-assoc, ◌⊕◌, odd, Sum, AreSums, variable_value, parity_variable, flipped_in_sum, AreParities, Adds}
+use Rattle.stab_parities.proofs.MergeLemmas.{odd-append}
 use Rattle.std.proofs.lemmas.Grind.{get_or-set_at}
 use Rattle.std.proofs.lemmas.List.{get_or-set_other}
 use Rattle.stab_search.proofs.SumLemmas.{value-there, sums-front, sums-last}
@@ -17,14 +18,10 @@ pub and-sum : (b x y : Bool) → (b && x) ⊕ (b && y) ≡ (b && (x ⊕ y))
 and-sum false x y = refl
 and-sum true x y = refl
 
-pub odd-append : (i : ℕ) (xs ys : List ℕ) → odd i (xs ++ ys) ≡ odd i xs ⊕ odd i ys
-odd-append i [] ys = refl
-odd-append i (x ∷ xs) ys = ap (λ b. (x == i) ⊕ b) (odd-append i xs ys) ∙ sym (parity-assoc (x == i) (odd i xs) (odd i ys))
-
 -- nothing is added
 pub adds-none : (v : ℕ) (sums : List Sum) (parities : List ℕ) → Adds v [] sums parities sums parities
 adds-none v sums parities = record {
-  kept = λ a are. are;
+  preserved = λ a are. are;
   added = λ a are i. sym (ap (λ b. variable_value a (parity_variable parities i) ⊕ b) (and-false (a v)) ∙ parity-false (variable_value a (parity_variable parities i)));
 }
 
@@ -32,9 +29,9 @@ adds-none v sums parities = record {
 pub adds-more : (v : ℕ) (xs ys : List ℕ) (s : List Sum) (p : List ℕ) (s' : List Sum) (p' : List ℕ) (s'' : List Sum) (p'' : List ℕ)
     → Adds v xs s p s' p' → Adds v ys s' p' s'' p'' → Adds v (xs ++ ys) s p s'' p''
 adds-more v xs ys s p s' p' s'' p'' one two = record {
-  kept = λ a are. one.kept a (two.kept a are);
+  preserved = λ a are. one.preserved a (two.preserved a are);
   added = λ a are i.
-      two.added a are i ∙ ap (λ b. b ⊕ (a v && odd i ys)) (one.added a (two.kept a are) i)
+      two.added a are i ∙ ap (λ b. b ⊕ (a v && odd i ys)) (one.added a (two.preserved a are) i)
       ∙ parity-assoc (variable_value a (parity_variable p i)) (a v && odd i xs) (a v && odd i ys)
       ∙ ap (λ b. variable_value a (parity_variable p i) ⊕ b) (and-sum (a v) (odd i xs) (odd i ys) ∙ ap (λ b. a v && b) (sym (odd-append i xs ys)));
 }
@@ -50,14 +47,14 @@ flipped-append a v (x ∷ xs) r i =
 pub parities-more : (rows : List (List ℕ)) (r : List ℕ) (v : ℕ) (s : List Sum) (p : List ℕ) (s' : List Sum) (p' : List ℕ) → v ≡ length rows + 1
     → AreParities rows s p → Adds v r s p s' p' → AreParities (rows ++ r ∷ []) s' p'
 parities-more rows r v s p s' p' is are adds a sums i =
-    adds.added a sums i ∙ ap (λ b. b ⊕ (a v && odd i r)) (are a (adds.kept a sums) i)
+    adds.added a sums i ∙ ap (λ b. b ⊕ (a v && odd i r)) (are a (adds.preserved a sums) i)
     ∙ ap (λ w. flipped_in_sum a 1 rows i ⊕ (a w && odd i r)) (is ∙ omega arith) ∙ sym (flipped-append a 1 rows r i)
 
 -- what is added at one number, by the variable that is put there
 pub adds-one : (v n w : ℕ) (s s' : List Sum) (p q : List ℕ) → n < length q → ((i : ℕ) → parity_variable q i ≡ parity_variable p i) → ((a : ℕ → Bool) → AreSums a s' → AreSums a s)
     → ((a : ℕ → Bool) → AreSums a s' → variable_value a w ≡ variable_value a (parity_variable p n) ⊕ a v) → Adds v (n ∷ []) s p s' (set q n w)
-adds-one v n w s s' p q less same kept sum = record {
-  kept = kept;
+adds-one v n w s s' p q less same preserved sum = record {
+  preserved = preserved;
   added = λ a are i. at a are i (cases_eq i n);
 }
   where

@@ -15,7 +15,7 @@ module _ (t part : ErrorTable) (is : IsGraphlikePart t part) where
   flips-same : (xs : List ℕ) → ForEach Inside xs → ForEach Graphlike xs → (i : ℕ) → flipped_by_rows part.rows xs i ≡ flipped_by_rows t.rows xs i
   flips-same [] a g i = refl
   flips-same (x ∷ xs) a g i =
-      ap (λ (ys : List ℕ). odd i ys ⊕ flipped_by_rows part.rows xs i) (is.rows.kept x a.0 g.0) ∙ ap (λ b. odd i (row t.rows x) ⊕ b) (flips-same xs a.1 g.1 i)
+      ap (λ (ys : List ℕ). odd i ys ⊕ flipped_by_rows part.rows xs i) (is.rows.preserved x a.0 g.0) ∙ ap (λ b. odd i (row t.rows x) ⊕ b) (flips-same xs a.1 g.1 i)
 
   -- a graph-like logical error is a logical error of the part
   part-logical : (xs : List ℕ) → IsGraphlikeError t xs → IsLogicalError part xs
@@ -109,8 +109,8 @@ row-last [] x = refl
 row-last (y ∷ rows) x = row-last rows x
 
 module _ (detectors : ℕ) (rows part : List (List ℕ)) (x : List ℕ) (r : ℕ) (count : length part ≡ r) where
-  abbrev Kept : List (List ℕ) → ℕ → Type 0
-  Kept p q = IsGraphlike detectors (row rows q) → row p q ≡ row rows q
+  abbrev Stored : List (List ℕ) → ℕ → Type 0
+  Stored p q = IsGraphlike detectors (row rows q) → row p q ≡ row rows q
 
   abbrev Other : List (List ℕ) → ℕ → Type 0
   Other p q = IsGraphlike detectors (row rows q) ⊎ (row p q ≡ [])
@@ -118,8 +118,8 @@ module _ (detectors : ℕ) (rows part : List (List ℕ)) (x : List ℕ) (r : ℕ
   last : (q : ℕ) → r ≤ q → q < r + 1 → row (part ++ x ∷ []) q ≡ x
   last q more less = let end : length part ≡ q = omega arith in ap (row (part ++ x ∷ [])) (sym end) ∙ row-last part x
 
-  pub kept-push : ((q : ℕ) → q < r → Kept part q) → (IsGraphlike detectors (row rows r) → x ≡ row rows r) → (q : ℕ) → q < r + 1 → Kept (part ++ x ∷ []) q
-  kept-push before here q lt graphlike = by_position (cases_lt q r)
+  pub preserved-push : ((q : ℕ) → q < r → Stored part q) → (IsGraphlike detectors (row rows r) → x ≡ row rows r) → (q : ℕ) → q < r + 1 → Stored (part ++ x ∷ []) q
+  preserved-push before here q lt graphlike = by_position (cases_lt q r)
     where
       by_position : (q < r) ⊎ (r ≤ q) → row (part ++ x ∷ []) q ≡ row rows q
       by_position (inl less) = row-before part x q (omega arith) ∙ before q less graphlike

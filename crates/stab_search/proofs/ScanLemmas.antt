@@ -1,6 +1,6 @@
 -- Going over a list: what is left of it, and what was passed.
 use Rattle.stab_search.proofs.Names.{◌≡◌, ◌≢◌, ℕ, zero, suc, ◌+◌, ◌≤◌, ◌<◌, ◌⊎◌, inl, inr, sym, ◌∙◌, ap, subst, arith, Bool, true, false, ◌||◌, List, [], ◌∷◌, ◌++◌, length, get_or, take, drop, drop-cons, drop_of_length-le, false≢true, eqb-true, eqb-false, ◌==◌, if◌then◌else◌, ◌⊕◌, IsAscending, odd, row, flipped_by_rows, ForEach, has, shares}
-use Rattle.stab_search.proofs.AscendingLemmas.{named-ascending}
+use Rattle.stab_parities.proofs.AscendingLemmas.{named-ascending}
 use Rattle.stab_search.proofs.FlipLemmas.{flips-push}
 use Rattle.stab_search.proofs.ListLemmas.{by-bit, each-push, has-here, has-there}
 use Rattle.stab_search.proofs.ShortestLemmas.{take-push}
@@ -79,8 +79,8 @@ pub take-left : (e : ℕ) (xs : List ℕ) (k : ℕ) (before after : List ℕ) (c
     → (get_or xs k 0 ≡ e → get_or now e 0 ≡ get_or cover e 0 → has e after ≡ true)
     → (get_or xs k 0 ≢ e → get_or next e 0 ≡ get_or now e 0)
     → (has e after ≡ true) ⊎ ((has e (drop (k + 1) xs) ≡ true) × (get_or next e 0 ≡ get_or cover e 0))
-take-left e xs k before after cover now next lt (inl there) kept taken others = inl (kept there)
-take-left e xs k before after cover now next lt (inr left) kept taken others =
+take-left e xs k before after cover now next lt (inl there) preserved taken others = inl (preserved there)
+take-left e xs k before after cover now next lt (inr left) preserved taken others =
     by-bit (get_or xs k 0 == e)
     (λ same. inl (taken (eqb-true (get_or xs k 0) e same) left.1))
     (λ other.

@@ -1,6 +1,7 @@
 -- Totals of lists in a group in which each element is its own inverse, such as bits and numbers by exclusive or.
 use Rattle.stab_search.proofs.Names.{◌≡◌, ℕ, zero, suc, ◌≤◌, ◌⊎◌, inl, inr, refl, sym, ◌∙◌, ap, arith, Bool, true, false, not, ◌||◌, List, [], ◌∷◌, ◌++◌, length, ne_eqb, ◌==◌, bit_xor, eqb-true, eq-eqb, cases_eq, false≢true, or_left, or_right, xor_comm, xor_assoc, xor_self, xor_zero_r, ◌⊕◌, parity-comm, parity-assoc, parity-self, parity-twice, odd, has, toggle}
 use Rattle.std.specs.Prelude.{◌≢◌}
+use Rattle.stab_parities.proofs.MergeLemmas.{odd-append}
 use Rattle.stab_search.proofs.ListLemmas.{by-bit, without, without-here, without-there, length-without, toggle-here, toggle-out, toggle-there, by-position}
 
 -- a group in which each element is its own inverse
@@ -69,10 +70,6 @@ odd-total i (x ∷ xs) = ap (λ b. (x == i) ⊕ b) (odd-total i xs)
 pub odd-without : (g i : ℕ) (xs : List ℕ) → has g xs ≡ true → odd i xs ≡ (g == i) ⊕ odd i (without g xs)
 odd-without g i xs e =
     odd-total i xs ∙ total-without _ false ◌⊕◌ bits (λ k. k == i) g xs e ∙ ap (λ b. (g == i) ⊕ b) (sym (odd-total i (without g xs)))
-
-pub odd-append : (i : ℕ) (xs ys : List ℕ) → odd i (xs ++ ys) ≡ odd i xs ⊕ odd i ys
-odd-append i [] ys = refl
-odd-append i (x ∷ xs) ys = ap (λ b. (x == i) ⊕ b) (odd-append i xs ys) ∙ sym (parity-assoc (x == i) (odd i xs) (odd i ys))
 
 -- what is named an odd number of times is named
 pub has-odd : (d : ℕ) (xs : List ℕ) → odd d xs ≡ true → has d xs ≡ true

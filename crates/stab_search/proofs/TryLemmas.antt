@@ -5,7 +5,7 @@ use Rattle.stab_search.proofs.ChoiceLemmas.{meet-keyed, meet-flipping, nothing-l
 use Rattle.stab_search.proofs.EndLemmas.{completes-push, completes-observed, completes-detected, completes-nothing}
 use Rattle.stab_search.proofs.ListLemmas.{by-bit, each-has}
 use Rattle.stab_search.proofs.ScanLemmas.{left-over, none-left, is-among}
-use Rattle.stab_search.proofs.Totals.{odd-append}
+use Rattle.stab_parities.proofs.MergeLemmas.{odd-append}
 use Rattle.std.proofs.Math.Nat.{mul-zero, zero-mul}
 use Rattle.stab_search.proofs.FlipLemmas.{key-sum}
 use Rattle.stab_search.proofs.WayLemmas.{linear, no-ways, leaf-none, leaf-one}
@@ -142,14 +142,14 @@ none-first t before after left at count all weightless others =
 pub zero-here : (ws next : List ℕ) (g : ℕ) → g < length ws → next ≡ set ws g 0 → get_or next g 0 ≡ 0
 zero-here ws next g lt is = ap (λ (xs : List ℕ). get_or xs g 0) is ∙ get_or-set_same ws g 0 0 lt
 
-pub others-kept : (ws next : List ℕ) (g e : ℕ) → g ≢ e → next ≡ set ws g 0 → get_or next e 0 ≡ get_or ws e 0
-others-kept ws next g e other is = ap (λ (xs : List ℕ). get_or xs e 0) is ∙ get_or-set_other ws g e 0 0 (λ q. other (sym q))
+pub others-preserved : (ws next : List ℕ) (g e : ℕ) → g ≢ e → next ≡ set ws g 0 → get_or next e 0 ≡ get_or ws e 0
+others-preserved ws next g e other is = ap (λ (xs : List ℕ). get_or xs e 0) is ∙ get_or-set_other ws g e 0 0 (λ q. other (sym q))
 
-pub zero-kept : (ws next : List ℕ) (g e : ℕ) → g < length ws → next ≡ set ws g 0 → get_or ws e 0 ≡ 0 → get_or next e 0 ≡ 0
-zero-kept ws next g e lt is none =
+pub zero-preserved : (ws next : List ℕ) (g e : ℕ) → g < length ws → next ≡ set ws g 0 → get_or ws e 0 ≡ 0 → get_or next e 0 ≡ 0
+zero-preserved ws next g e lt is none =
     by-bit (g == e)
     (λ same. subst (λ j. get_or next j 0 ≡ 0) (eqb-true g e same) (zero-here ws next g lt is))
-    (λ other. others-kept ws next g e (eqb-false g e other) is ∙ none)
+    (λ other. others-preserved ws next g e (eqb-false g e other) is ∙ none)
 
 pub length-set : (xs : List ℕ) (j a : ℕ) → length (set xs j a) ≡ length xs
 length-set [] j a = refl
@@ -183,9 +183,9 @@ pub observed-more : (t : ErrorTable) (found next : List ℕ) (r : ℕ)
     → ((q : ℕ) → has q found ≡ true → has q next ≡ true)
     → ((o : ℕ) → t.detectors ≤ o → odd o (row t.rows r) ≡ true → has r next ≡ true)
     → (q o : ℕ) → q < r + 1 → t.detectors ≤ o → odd o (row t.rows q) ≡ true → has q next ≡ true
-observed-more t found next r all kept taken q o lt le flips =
+observed-more t found next r all preserved taken q o lt le flips =
     elim (cases_lt q r) [
-      | inl less ↦ kept q (all q o less le flips)
+      | inl less ↦ preserved q (all q o less le flips)
       | inr more ↦
           let same : q ≡ r = omega arith in
           subst (λ k. has k next ≡ true) (sym same) (taken o le (subst (λ k. odd o (row t.rows k) ≡ true) same flips))

@@ -3,7 +3,8 @@ use Rattle.stab_search.proofs.Names.{eqb-true, ◌≡◌, ℕ, zero, suc, ◌+�
 use Rattle.std.specs.Prelude.{◌&&◌}
 use Rattle.std.proofs.Math.Nat.{mul-add, mul_left_comm, mul-zero}
 use Rattle.stab_search.proofs.ListLemmas.{by-bit, has-here, has-there}
-use Rattle.stab_search.proofs.Totals.{bits, swap, odd-append, has-odd}
+use Rattle.stab_search.proofs.Totals.{bits, swap, has-odd}
+use Rattle.stab_parities.proofs.MergeLemmas.{odd-append}
 
 -- whether some number of a list passes
 

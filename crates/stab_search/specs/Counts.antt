@@ -1,7 +1,7 @@
 -- Counts: how many sets of errors are a logical error, if each has a number of errors and no logical error has fewer.
 -- Source: the number of least sets decides how often errors with low probabilities flip an observable unseen.
 use Rattle.std.specs.Prelude.{◌≡◌, ℕ, ◌<◌, ◌≤◌, ◌^◌, List, length, Option, Some, None}
-use Rattle.stab_search.specs.Ascending.{IsAscending}
+use Rattle.stab_parities.specs.Ascending.{IsAscending}
 use Rattle.stab_search.specs.Tables.{ErrorTable}
 use Rattle.stab_search.specs.LogicalErrors.{IsLogicalError}
 

@@ -3,8 +3,9 @@
 use Rattle.std.specs.Prelude.{◌≡◌, ℕ, ◌<◌, ◌≤◌, ◌⊎◌, true, List, length, All}
 use Rattle.stab_search.specs.declared.answer.Answer.{Answer}
 use Rattle.stab_search.specs.declared.answer.Answer.TheVariants.{Least, NoneWithin, NoneAtAll}
-use Rattle.stab_search.specs.Ascending.{IsAscending}
-use Rattle.stab_search.specs.Tables.{ErrorTable, odd, row}
+use Rattle.stab_parities.specs.Ascending.{IsAscending}
+use Rattle.stab_search.specs.Tables.{ErrorTable}
+use Rattle.stab_parities.specs.OddNumbers.{odd, row}
 use Rattle.stab_search.specs.LogicalErrors.{IsLogicalError}
 
 -- a graph-like row: each detector that it flips is one of two

@@ -1,4 +1,3 @@
-pub mod Ascending
 pub mod Tables
 pub mod LogicalErrors
 pub mod Counts

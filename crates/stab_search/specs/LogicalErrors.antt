@@ -3,7 +3,7 @@
 use Rattle.std.specs.Prelude.{◌≡◌, ℕ, ◌<◌, ◌≤◌, ◌^◌, true, false, List, length, All}
 use Rattle.stab_search.specs.declared.answer.Answer.{Answer}
 use Rattle.stab_search.specs.declared.answer.Answer.TheVariants.{Least, NoneWithin, NoneAtAll}
-use Rattle.stab_search.specs.Ascending.{IsAscending}
+use Rattle.stab_parities.specs.Ascending.{IsAscending}
 use Rattle.stab_search.specs.Tables.{ErrorTable, flipped_by_rows}
 
 -- a logical error: errors of the table, in any order, that together flip no detector and at least one observable

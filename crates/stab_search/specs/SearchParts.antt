@@ -4,7 +4,7 @@ use Rattle.std.specs.Prelude.{◌≡◌, ℕ, ◌+◌, ◌-◌, ◌*◌, ◌%◌
 use Rattle.stab_search.specs.declared.answer.Answer.{Answer}
 use Rattle.stab_search.specs.declared.answer.Answer.TheVariants.{Least, NoneWithin, NoneAtAll}
 use Rattle.stab_search.specs.declared.search_part.PartAnswer.{PartAnswer}
-use Rattle.stab_search.specs.Ascending.{IsAscending}
+use Rattle.stab_parities.specs.Ascending.{IsAscending}
 use Rattle.stab_search.specs.Tables.{ErrorTable}
 use Rattle.stab_search.specs.LogicalErrors.{IsLogicalError, IsLeast, HasNone, HasSome, HasNoneWithin}
 use Rattle.stab_search.specs.Counts.{HasNoneBelow}

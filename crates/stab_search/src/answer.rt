@@ -15,7 +15,7 @@ pub enum Answer {
 
 /// Hears how far a search is.
 pub trait Progress {
-    // What was heard, oldest first, if it is kept.
+    // What was heard, oldest first, if it is retained.
     ghost heard: { Self → Option (List Heard) };
 
     /// A search begins, over this number of errors.

@@ -1,12 +1,11 @@
 //! Errors of which each set that completes those chosen has one: few are tried where few are enough.
 ghost use Rattle.std.specs.Prelude.{◌≡◌, ◌≢◌, ℕ, ◌+◌, ◌-◌, ◌<◌, ◌≤◌, true, false, List, length, slice_index, IfOk, OnOk, [], ◌^◌};
-ghost use Rattle.stab_search.specs.Ascending.{IsAscending};
 ghost use Rattle.stab_search.specs.inner.Covers.{MayBe, CoversEach};
 ghost use Rattle.stab_search.specs.inner.Ends.{Meet};
-ghost use Rattle.stab_search.specs.inner.Errors.{key_of};
+ghost use Rattle.stab_search.specs.inner.Errors.{IsKeyed};
 ghost use Rattle.stab_search.specs.inner.Indexes.{rows_listed};
 ghost use Rattle.stab_search.specs.inner.Lists.{ForEach, has};
-ghost use Rattle.stab_search.specs.Tables.{odd, row};
+ghost use Rattle.stab_parities.specs.OddNumbers.{odd, row};
 
 use crate::covers::{covering, is_covering, seldom, set_zero, take_covering};
 use crate::errors::Errors;
@@ -29,8 +28,7 @@ pub fn candidates(
     left: usize,
     cover: &mut [usize],
 ) -> Result<Vec<usize>, AllocError>
-    requires ascending { IsAscending flipped.now }
-    requires key { key ≡ key_of errors.now.numbers flipped.now }
+    requires keyed { IsKeyed errors.now.numbers flipped.now key }
     requires some { 0 < length flipped.now }
     requires detector { slice_index flipped.now 0 < errors.now.table.detectors }
     requires left { 0 < left }

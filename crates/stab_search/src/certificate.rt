@@ -1,5 +1,6 @@
 ghost use Rattle.std.specs.Prelude.{◌≡◌, ℕ, ◌<◌, ◌≤◌, Bool, true, false, List, length, slice_index_or, IfOk, IsTrue};
-ghost use Rattle.stab_search.specs.Tables.{ErrorTable, odd, row};
+ghost use Rattle.stab_search.specs.Tables.{ErrorTable};
+ghost use Rattle.stab_parities.specs.OddNumbers.{odd, row};
 ghost use Rattle.stab_search.specs.LogicalErrors.{HasNone};
 ghost use Rattle.stab_search.specs.inner.Certificates.{IsCertificate, odd_members};
 

@@ -1,10 +1,9 @@
 //! Errors of which each set of errors with weights that completes those chosen has one: few are tried where few are enough.
 
 ghost use Rattle.std.specs.Prelude.{◌≡◌, ◌≢◌, ℕ, ◌+◌, ◌-◌, ◌<◌, ◌≤◌, true, false, length, slice_index, IfOk, OnOk, ◌^◌};
-ghost use Rattle.stab_search.specs.Ascending.{IsAscending};
-ghost use Rattle.stab_search.specs.Tables.{odd, row};
+ghost use Rattle.stab_parities.specs.OddNumbers.{odd, row};
 ghost use Rattle.stab_search.specs.inner.Covers.{shares};
-ghost use Rattle.stab_search.specs.inner.Errors.{key_of};
+ghost use Rattle.stab_search.specs.inner.Errors.{IsKeyed};
 ghost use Rattle.stab_search.specs.inner.Lists.{ForEach, has};
 ghost use Rattle.stab_search.specs.inner.Ways.{MeetsEach};
 
@@ -24,8 +23,7 @@ pub fn choices(
     left: usize,
     cover: &mut [usize],
 ) -> Result<Vec<usize>, AllocError>
-    requires ascending { IsAscending flipped.now }
-    requires key { key ≡ key_of errors.now.numbers flipped.now }
+    requires keyed { IsKeyed errors.now.numbers flipped.now key }
     requires some { 0 < length flipped.now }
     requires detector { slice_index flipped.now 0 < errors.now.table.detectors }
     requires left { 0 < left }
@@ -112,7 +110,7 @@ fn live(alloc: Global, rows: &[usize], weights: &[u64]) -> Result<Vec<usize>, Al
 /// Takes error r if it has a weight.
 fn take_live(r: usize, weights: &[u64], found: &mut Vec<usize>) -> Result<(), AllocError>
     ensures inside { OnOk result (ForEach (λ r. r < length weights.now) found.old.items → ForEach (λ r. r < length weights.now) found.new.items) }
-    ensures kept { OnOk result ((e : ℕ) → has e found.old.items ≡ true → has e found.new.items ≡ true) }
+    ensures preserved { OnOk result ((e : ℕ) → has e found.old.items ≡ true → has e found.new.items ≡ true) }
     ensures taken { OnOk result (r < length weights.now → 0 < slice_index weights.now r → has r found.new.items ≡ true) }
 {
     if is_live(r, weights) {

@@ -64,7 +64,7 @@ fn join(parents: &mut [usize], detectors: &[u32]) {
     }
 }
 
-/// For each detector that leads those of an error that flips an observable the class of these, else 0.
+/// For each detector that is first of those of an error that flips an observable the class of these, else 0.
 fn observed_by(errors: &Errors, parents: &[usize]) -> Result<Vec<usize>, AllocError> {
     let mut observed = vec![in errors.alloc(); 0; parents.len()]?;
     for r in 0..errors.len() {

@@ -1,7 +1,7 @@
 ghost use Rattle.std.specs.Prelude.{◌≡◌, ℕ, ◌<◌, ◌≤◌, true, length, IfOk, IfErr};
 ghost use Rattle.stab_io.specs.declared.refusal.Refusal.TheVariants.{OutOfMemory};
 ghost use Rattle.stab_search.specs.Counts.{HasNoneBelow, IsCountOfSets};
-ghost use Rattle.stab_search.specs.Tables.{odd, row};
+ghost use Rattle.stab_parities.specs.OddNumbers.{odd, row};
 ghost use Rattle.stab_search.specs.inner.Lists.{ForEach, has};
 
 use crate::counting::try_each;

@@ -1,16 +1,15 @@
 //! The sets of errors that complete those chosen, counted: each with the product of its errors' weights.
 
 ghost use Rattle.std.specs.Prelude.{◌≡◌, ℕ, ◌+◌, ◌*◌, ◌<◌, ◌≤◌, ◌⊎◌, true, false, List, [], ◌++◌, length, slice_index, slice_set, IfOk, OnOk};
-ghost use Rattle.stab_search.specs.Ascending.{IsAscending};
-ghost use Rattle.stab_search.specs.Tables.{row};
+ghost use Rattle.stab_parities.specs.OddNumbers.{row};
 ghost use Rattle.stab_search.specs.LogicalErrors.{HasNoneWithin};
-ghost use Rattle.stab_search.specs.inner.Errors.{key_of};
+ghost use Rattle.stab_search.specs.inner.Errors.{key_of, IsKeyed};
 ghost use Rattle.stab_search.specs.inner.Lists.{ForEach, has};
 ghost use Rattle.stab_search.specs.inner.Ways.{ways, ReportsNumber, HasNoFewer, IsWaysPart};
 
 use crate::choices::choices;
 use crate::errors::Errors;
-use crate::merging::merge_into;
+use stab_parities::merge_into;
 use std::alloc::{AllocError, Global};
 
 /// The ways to complete what is flipped by `left` errors that have weights. `cover` is scratch.
@@ -23,8 +22,7 @@ pub fn ways(
     left: usize,
     cover: &mut [usize],
 ) -> Result<Option<u64>, AllocError>
-    requires ascending { IsAscending flipped.now }
-    requires key { key ≡ key_of errors.now.numbers flipped.now }
+    requires keyed { IsKeyed errors.now.numbers flipped.now key }
     requires none { HasNoneWithin errors.now.table left }
     requires fewer { HasNoFewer errors.now.table flipped.now left }
     requires weights { length weights.old ≡ length errors.now.table.rows }
@@ -41,8 +39,8 @@ pub fn ways(
     }
     let next = choices(errors, weights, flipped, key, left, cover)?;
     let tried = next.as_slice();
-    let kept = weights_at(errors.alloc(), tried, weights)?;
-    let before = kept.as_slice();
+    let retained = weights_at(errors.alloc(), tried, weights)?;
+    let before = retained.as_slice();
     let rest = left - 1;
     let sum = try_each(errors, tried, weights, flipped, key, rest, cover)?;
     put_back(tried, before, weights);
@@ -60,8 +58,7 @@ pub fn try_each(
     rest: usize,
     cover: &mut [usize],
 ) -> Result<Option<u64>, AllocError>
-    requires ascending { IsAscending flipped.now }
-    requires key { key ≡ key_of errors.now.numbers flipped.now }
+    requires keyed { IsKeyed errors.now.numbers flipped.now key }
     requires none { HasNoneWithin errors.now.table rest }
     requires fewer { HasNoFewer errors.now.table flipped.now (rest + 1) }
     requires inside { ForEach (λ e. e < length errors.now.table.rows) tried.now }
@@ -94,8 +91,7 @@ fn try_error(
     next: &mut Vec<u32>,
     cover: &mut [usize],
 ) -> Result<Option<u64>, AllocError>
-    requires ascending { IsAscending flipped.now }
-    requires key { key ≡ key_of errors.now.numbers flipped.now }
+    requires keyed { IsKeyed errors.now.numbers flipped.now key }
     requires none { HasNoneWithin errors.now.table rest }
     requires fewer { HasNoFewer errors.now.table flipped.now (rest + 1) }
     requires inside { g < length errors.now.table.rows }

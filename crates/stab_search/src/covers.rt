@@ -1,6 +1,6 @@
 //! Counts of how many flipped detectors each error flips, and the errors for which they are high.
 ghost use Rattle.std.specs.Prelude.{◌≡◌, ◌≢◌, ℕ, ◌<◌, ◌≤◌, true, false, length, slice_index, IfOk, OnOk};
-ghost use Rattle.stab_search.specs.Tables.{odd, row};
+ghost use Rattle.stab_parities.specs.OddNumbers.{odd, row};
 ghost use Rattle.stab_search.specs.inner.Lists.{ForEach, has};
 
 use crate::errors::Errors;
@@ -52,7 +52,7 @@ fn take(
     found: &mut Vec<usize>,
 ) -> Result<(), AllocError>
     ensures inside { OnOk result ((n : ℕ) → length cover.old ≤ n → ForEach (λ r. r < n) found.old.items → ForEach (λ r. r < n) found.new.items) }
-    ensures kept { OnOk result ((e : ℕ) → has e found.old.items ≡ true → has e found.new.items ≡ true) }
+    ensures preserved { OnOk result ((e : ℕ) → has e found.old.items ≡ true → has e found.new.items ≡ true) }
     ensures taken { OnOk result ((e : ℕ) → e < length cover.old → least ≤ slice_index cover.old e → has e rows.now ≡ true → has e found.new.items ≡ true) }
     ensures others { OnOk result ((e : ℕ) → has e rows.now ≡ false → slice_index cover.new e ≡ slice_index cover.old e) }
     ensures length { length cover.new ≡ length cover.old }
@@ -72,7 +72,7 @@ pub fn take_covering(
     found: &mut Vec<usize>,
 ) -> Result<(), AllocError>
     ensures inside { OnOk result ((n : ℕ) → length cover.now ≤ n → ForEach (λ r. r < n) found.old.items → ForEach (λ r. r < n) found.new.items) }
-    ensures kept { OnOk result ((e : ℕ) → has e found.old.items ≡ true → has e found.new.items ≡ true) }
+    ensures preserved { OnOk result ((e : ℕ) → has e found.old.items ≡ true → has e found.new.items ≡ true) }
     ensures taken { OnOk result (r < length cover.now → least ≤ slice_index cover.now r → has r found.new.items ≡ true) }
 {
     if is_covering(r, least, cover) {

@@ -1,6 +1,6 @@
 ghost use Rattle.std.specs.Prelude.{◌≡◌, ℕ, ◌<◌, true, List, length, IfOk, IfSome, OnOk};
-ghost use Rattle.stab_search.specs.Ascending.{IsAscending};
-ghost use Rattle.stab_search.specs.Tables.{row};
+ghost use Rattle.stab_parities.specs.Ascending.{IsAscending};
+ghost use Rattle.stab_parities.specs.OddNumbers.{row};
 ghost use Rattle.stab_search.specs.inner.Errors.{AreRowsOf, HasRow};
 
 use crate::index::{list, rows_at};
@@ -17,8 +17,8 @@ pub struct Distinct {
 
 impl Distinct {
     ghost use Rattle.std.specs.Prelude.{◌≡◌, ◌<◌, ◌∷◌, [], ◌++◌, List, ℕ, length, OnOk};
-    ghost use Rattle.stab_search.specs.Ascending.{IsAscending};
-    ghost use Rattle.stab_search.specs.Tables.{row};
+    ghost use Rattle.stab_parities.specs.Ascending.{IsAscending};
+    ghost use Rattle.stab_parities.specs.OddNumbers.{row};
     ghost use Rattle.stab_search.specs.inner.Errors.{AreRowsOf, HasRow};
 
     /// None.

@@ -1,6 +1,6 @@
 ghost use Rattle.std.specs.Prelude.{◌≡◌, true, false, length, min, slice_index_or, IfOk, IfSome};
-ghost use Rattle.stab_search.specs.Ascending.{IsAscending};
-ghost use Rattle.stab_search.specs.Tables.{odd};
+ghost use Rattle.stab_parities.specs.Ascending.{IsAscending};
+ghost use Rattle.stab_parities.specs.OddNumbers.{odd};
 ghost use Rattle.stab_search.specs.Graphlike.{IsGraphlike};
 ghost use Rattle.stab_search.specs.inner.Graphs.{IsEdge, AreEdges, RowsFlip};
 

@@ -7,7 +7,7 @@ use std::alloc::{AllocError, Global};
 pub struct Echelon {
     pivots: Vec<Pivot>,
     // For each number the pivot whose least number it is, if there is one.
-    leads: Vec<Option<usize>>,
+    pivot_of: Vec<Option<usize>>,
 }
 
 /// What is left of a row once earlier pivots were added to it, and the row's number. The bits of its words are its numbers, and after
@@ -26,7 +26,7 @@ pub(crate) fn eliminate(
 ) -> Result<Echelon, AllocError> {
     let mut echelon = Echelon {
         pivots: Vec::new(alloc),
-        leads: vec![in alloc; None; end_of_rows(rows)]?,
+        pivot_of: vec![in alloc; None; end_of_rows(rows)]?,
     };
     for r in 0..rows.len() {
         let row = &rows[r];
@@ -41,16 +41,16 @@ impl Echelon {
     /// Adds row r, which has these numbers, after the pivots that they lead are added to it. Gives one more than the least number that is
     /// left, 0 if none is.
     fn add(&mut self, alloc: Global, numbers: &[u32], r: usize) -> Result<usize, AllocError> {
-        let end = self.leads.len();
+        let end = self.pivot_of.len();
         let mut words = words_of(alloc, numbers, end)?;
         for n in 0..end {
             if has_bit(words.as_slice(), n) {
-                match self.leads[n] {
+                match self.pivot_of[n] {
                     Some(p) => self.add_pivot(p, words.as_mut_slice()),
                     None => {
                         let p = self.pivots.len();
                         set_bit(words.as_mut_slice(), end.saturating_add(p));
-                        self.leads[n] = Some(p);
+                        self.pivot_of[n] = Some(p);
                         self.pivots.push(Pivot { words, row: r })?;
                         return Ok(n + 1);
                     }
@@ -78,18 +78,18 @@ impl Echelon {
         let count = self.pivots.len();
         for p in 0..count {
             let words = self.pivots[count - 1].words.as_slice();
-            if has_bit(words, self.leads.len().saturating_add(p)) {
+            if has_bit(words, self.pivot_of.len().saturating_add(p)) {
                 rows.push(self.pivots[p].row)?;
             }
         }
         Ok(rows)
     }
 
-    /// Whether number n leads a pivot that has an odd number of members.
-    fn leads_odd(&self, n: usize, members: &[u64]) -> bool {
+    /// Whether a pivot that has an odd number of members begins with number n.
+    fn has_odd_pivot(&self, n: usize, members: &[u64]) -> bool {
         let mut odd = 0;
-        if n < self.leads.len()
-            && let Some(p) = self.leads[n]
+        if n < self.pivot_of.len()
+            && let Some(p) = self.pivot_of[n]
             && p < self.pivots.len()
         {
             let words = self.pivots[p].words.as_slice();
@@ -104,13 +104,13 @@ impl Echelon {
 }
 
 impl Members for Echelon {
-    /// The observable, and from the last number on each that leads a pivot with an odd number of members.
+    /// The observable, and from the last number on each with which a pivot begins that has an odd number of members.
     fn members(&self, alloc: Global, observable: usize) -> Result<Vec<bool>, AllocError> {
-        let end = self.leads.len();
+        let end = self.pivot_of.len();
         let mut words = vec![in alloc; 0; end / 64 + 1]?;
         set_bit(words.as_mut_slice(), observable);
         for k in 0..end {
-            if self.leads_odd(end - 1 - k, words.as_slice()) {
+            if self.has_odd_pivot(end - 1 - k, words.as_slice()) {
                 set_bit(words.as_mut_slice(), end - 1 - k);
             }
         }

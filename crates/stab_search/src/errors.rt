@@ -1,5 +1,5 @@
 ghost use Rattle.std.specs.Prelude.{◌≡◌, ◌≤◌, ℕ, true, false, length, slice_index, IfOk};
-ghost use Rattle.stab_search.specs.Tables.{odd};
+ghost use Rattle.stab_parities.specs.OddNumbers.{odd};
 ghost use Rattle.stab_search.specs.inner.Errors.{key_of, AreKeys};
 ghost use Rattle.stab_search.specs.inner.Steps.{BeginsBefore};
 
@@ -39,8 +39,8 @@ impl Model for Errors {
 
 impl Errors {
     ghost use Rattle.std.specs.Prelude.{◌≡◌, ◌≢◌, ℕ, ◌<◌, ◌≤◌, true, false, length, slice_index, IfOk, OnOk};
-    ghost use Rattle.stab_search.specs.Ascending.{IsAscending};
-    ghost use Rattle.stab_search.specs.Tables.{row, odd};
+    ghost use Rattle.stab_parities.specs.Ascending.{IsAscending};
+    ghost use Rattle.stab_parities.specs.OddNumbers.{row, odd};
     ghost use Rattle.stab_search.specs.inner.Lists.{ForEach, has};
     ghost use Rattle.stab_search.specs.inner.Indexes.{rows_listed};
     ghost use Rattle.stab_search.specs.inner.Pairs.{ArePairs};

@@ -90,7 +90,7 @@ impl Graph {
         rows_at(self.index.as_slice(), node)
     }
 
-    /// Where edge r leads from a node at a parity; bit r is whether it flips the observable.
+    /// Where edge r goes from a node at a parity; bit r is whether it flips the observable.
     pub(crate) fn across(&self, r: usize, position: Labelled, bits: &[bool]) -> Labelled {
         if r >= self.edges.len() || r >= bits.len() {
             return position;

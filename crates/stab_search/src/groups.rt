@@ -1,6 +1,7 @@
 ghost use Rattle.std.specs.Prelude.{◌≡◌, ℕ, ◌<◌, ◌^◌, ◌-◌, List, length, slice_index, IfOk, IfSome, OnOk};
-ghost use Rattle.stab_search.specs.Ascending.{IsAscending};
-ghost use Rattle.stab_search.specs.Tables.{ErrorTable, row};
+ghost use Rattle.stab_parities.specs.Ascending.{IsAscending};
+ghost use Rattle.stab_search.specs.Tables.{ErrorTable};
+ghost use Rattle.stab_parities.specs.OddNumbers.{row};
 ghost use Rattle.stab_search.specs.inner.Ways.{AreGroups, IsWeightAdded};
 
 use crate::distinct::position_of;

@@ -1,9 +1,9 @@
 //! The least number of errors that flip an observable and no detector: an exact search in a table of errors, or as MaxSAT.
 //!
 //! - `row`, `table`: what each error flips. `answer`: the answers, and the trait that reports progress.
-//! - `least`: the call, which searches part 1 of 1. `distinct`: errors that flip the same count once. `kept`: errors that are enough, of one of the `classes` of detectors
+//! - `least`: the call, which searches part 1 of 1. `distinct`: errors that flip the same count once. `enough_errors`: errors that are enough, of one of the `classes` of detectors
 //!   each. `sets`: what is found, in order.
-//! - `sizes`: one error is tried, then two, and so on. `searching`: the search itself. `merging`: what errors flip together.
+//! - `sizes`: one error is tried, then two, and so on. `searching`: the search itself.
 //! - `errors`: the errors ready for a search. `steps`: which of them can be the first of a set. `index`, `keys`: which errors to try.
 //!   `candidates`: of which each set has one. `covers`: which flip many detectors. `pairs`: which are never tried together.
 //! - `existence`: whether there is a logical error at all. `elimination` finds one, or a `certificate` that there is none; `logical`:
@@ -45,20 +45,19 @@ mod digest;
 mod distinct;
 mod edges;
 mod elimination;
+mod enough_errors;
 mod errors;
 mod existence;
 mod graph;
 mod graphlike;
 mod groups;
 mod index;
-mod kept;
 mod keys;
 mod labels;
 pub mod laws;
 mod least;
 mod literal;
 mod logical;
-mod merging;
 mod pairs;
 mod part_search;
 mod parts;
@@ -80,7 +79,6 @@ pub use edges::is_graphlike;
 pub use graphlike::least_graphlike_error;
 pub use least::least_logical_error;
 pub use literal::Literal;
-pub use merging::merge_into;
 pub use part_search::least_in_part;
 pub use problem::Problem;
 pub use search_part::{PartAnswer, SearchPart};

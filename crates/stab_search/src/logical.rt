@@ -1,14 +1,15 @@
 ghost use Rattle.std.specs.Prelude.{◌≡◌, ℕ, ◌<◌, ◌≤◌, true, length, slice_index, IfOk, IfSome};
-ghost use Rattle.stab_search.specs.Ascending.{IsAscending};
+ghost use Rattle.stab_parities.specs.Ascending.{IsAscending};
 ghost use Rattle.stab_search.specs.LogicalErrors.{IsLogicalError};
-ghost use Rattle.stab_search.specs.Tables.{odd, flipped_by_rows};
+ghost use Rattle.stab_search.specs.Tables.{flipped_by_rows};
+ghost use Rattle.stab_parities.specs.OddNumbers.{odd};
 ghost use Rattle.stab_search.specs.inner.Lists.{ForEach};
 ghost use Rattle.stab_search.specs.inner.Shortest.{IsLogicalSet};
 
-use crate::merging::merge_into;
 use crate::row::Row;
 use crate::sets::set_of;
 use crate::table::Table;
+use stab_parities::merge_into;
 use std::alloc::{AllocError, Global};
 
 /// The numbers in the table of the rows found, in ascending order, if they are a logical error.

@@ -3,7 +3,8 @@
 //! No proof rests on how pairs are found: each is checked.
 ghost use Rattle.std.specs.Prelude.{◌≡◌, ◌≢◌, ◌⊎◌, ℕ, ◌<◌, true, false, List, length, IfOk, OnOk};
 ghost use Rattle.stab_gates.specs.Letters.{◌⊕◌};
-ghost use Rattle.stab_search.specs.Tables.{odd, row, flipped_by_rows};
+ghost use Rattle.stab_search.specs.Tables.{flipped_by_rows};
+ghost use Rattle.stab_parities.specs.OddNumbers.{odd, row};
 ghost use Rattle.stab_search.specs.inner.Lists.{ForEach};
 ghost use Rattle.stab_search.specs.inner.Pairs.{KeepFirst, IsLeftOut, ArePairs};
 

@@ -5,9 +5,9 @@ ghost use Rattle.stab_search.specs.inner.ReportedProgress.{AreInside, IsInTable,
 
 use crate::answer::{Answer, Progress, Unwatched};
 use crate::digest::{EMPTY, with_errors};
+use crate::enough_errors::enough_of;
 use crate::errors::Errors;
 use crate::existence::has_logical_error;
-use crate::kept::enough_of;
 use crate::search_part::{PartAnswer, SearchPart};
 use crate::sets::set_of;
 use crate::sizes::{Found, first_in_part};
@@ -49,11 +49,11 @@ pub fn search_part<P: Progress>(
     ensures refusal { IfErr result (λ e. e ≡ OutOfMemory) }
     ensures reported { ReportsPart part.now table.now most (P.heard progress.old) (P.heard progress.new) result }
 {
-    let kept = enough_of(alloc, table)?;
-    let mut errors = kept.errors;
+    let retained = enough_of(alloc, table)?;
+    let mut errors = retained.errors;
     let digest = with_errors(EMPTY, &errors);
     let found = find(&mut errors, part, most, progress)?;
-    let answer = in_table(alloc, found.answer, kept.numbers.as_slice())?;
+    let answer = in_table(alloc, found.answer, retained.numbers.as_slice())?;
     Ok(PartAnswer {
         digest,
         last: found.last,

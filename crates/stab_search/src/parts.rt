@@ -1,6 +1,6 @@
 ghost use Rattle.std.specs.Prelude.{◌≡◌, ◌⊎◌, [], IfOk, IfErr};
 ghost use Rattle.stab_io.specs.declared.refusal.Refusal.TheVariants.{OutOfMemory};
-ghost use Rattle.stab_search.specs.Ascending.{IsAscending};
+ghost use Rattle.stab_parities.specs.Ascending.{IsAscending};
 ghost use Rattle.stab_search.specs.Graphlike.{IsGraphlike};
 ghost use Rattle.stab_search.specs.inner.Parts.{IsGraphlikePart};
 
@@ -25,7 +25,7 @@ pub fn graphlike_part(alloc: Global, table: &Table) -> Result<Table, Refusal>
 fn graphlike_or_empty(numbers: &[u32], detectors: usize) -> &[u32]
     requires ascending { IsAscending numbers.now }
     ensures ascending { IsAscending result.now }
-    ensures kept { IsGraphlike detectors numbers.now → result.now ≡ numbers.now }
+    ensures preserved { IsGraphlike detectors numbers.now → result.now ≡ numbers.now }
     ensures others { IsGraphlike detectors numbers.now ⊎ (result.now ≡ []) }
 {
     if is_graphlike(numbers, detectors) {

@@ -1,6 +1,6 @@
 ghost use Rattle.std.specs.Prelude.{◌≡◌, ℕ, ◌<◌, ◌≤◌, false, length};
-ghost use Rattle.stab_search.specs.Ascending.{IsAscending};
-ghost use Rattle.stab_search.specs.Tables.{odd, row};
+ghost use Rattle.stab_parities.specs.Ascending.{IsAscending};
+ghost use Rattle.stab_parities.specs.OddNumbers.{odd, row};
 
 use std::alloc::{AllocError, Global};
 use std::marker::Model;
@@ -19,7 +19,7 @@ impl Drop for Row {
 
 impl Model for Row {
     ghost use Rattle.std.specs.Prelude.{ℕ, List};
-    ghost use Rattle.stab_search.specs.Ascending.{IsAscending};
+    ghost use Rattle.stab_parities.specs.Ascending.{IsAscending};
 
     ghost Value = { List ℕ };
 
@@ -30,7 +30,7 @@ impl Model for Row {
 
 impl Row {
     ghost use Rattle.std.specs.Prelude.{◌≡◌, IfOk};
-    ghost use Rattle.stab_search.specs.Ascending.{IsAscending};
+    ghost use Rattle.stab_parities.specs.Ascending.{IsAscending};
 
     /// A row of these numbers.
     pub fn copied(alloc: Global, numbers: &[u32]) -> Result<Row, AllocError>

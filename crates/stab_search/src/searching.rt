@@ -1,12 +1,11 @@
 ghost use Rattle.std.specs.Prelude.{◌≡◌, ◌+◌, ◌<◌, length, IfOk, IfSome, IfNone};
-ghost use Rattle.stab_search.specs.Ascending.{IsAscending};
 ghost use Rattle.stab_search.specs.LogicalErrors.{HasNoneWithin};
 ghost use Rattle.stab_search.specs.inner.Ends.{CompletesSetWithin, NoEnds, NoEndsBy};
-ghost use Rattle.stab_search.specs.inner.Errors.{key_of};
+ghost use Rattle.stab_search.specs.inner.Errors.{IsKeyed};
 
 use crate::candidates::candidates;
 use crate::errors::Errors;
-use crate::merging::merge_into;
+use stab_parities::merge_into;
 use std::alloc::AllocError;
 
 /// At most `left` errors that complete those chosen, which flip `flipped` together, to a logical error. `first` is the first of those chosen,
@@ -21,8 +20,7 @@ pub fn search(
     left: usize,
     cover: &mut [usize],
 ) -> Result<Option<Vec<usize>>, AllocError>
-    requires ascending { IsAscending flipped.now }
-    requires key { key ≡ key_of errors.now.numbers flipped.now }
+    requires keyed { IsKeyed errors.now.numbers flipped.now key }
     requires cover { length cover.old ≡ length errors.now.table.rows }
     ensures some { IfOk result (λ a. IfSome a (λ v. CompletesSetWithin errors.now.table flipped.now left v.items)) }
     ensures none { HasNoneWithin errors.now.table left → IfOk result (λ a. IfNone a (NoEnds errors.now.table errors.now.pairs first path.old.items flipped.now left)) }
@@ -72,8 +70,7 @@ fn try_error(
     next: &mut Vec<u32>,
     cover: &mut [usize],
 ) -> Result<Option<Vec<usize>>, AllocError>
-    requires ascending { IsAscending flipped.now }
-    requires key { key ≡ key_of errors.now.numbers flipped.now }
+    requires keyed { IsKeyed errors.now.numbers flipped.now key }
     requires inside { g < length errors.now.table.rows }
     requires cover { length cover.old ≡ length errors.now.table.rows }
     ensures some { IfOk result (λ a. IfSome a (λ v. CompletesSetWithin errors.now.table flipped.now (left + 1) v.items)) }

@@ -1,5 +1,5 @@
 ghost use Rattle.std.specs.Prelude.{◌≡◌, ℕ, ◌+◌, ◌<◌, ◌≤◌, ◌∷◌, [], true, length, IfOk, IfSome, IfNone};
-ghost use Rattle.stab_search.specs.Tables.{row};
+ghost use Rattle.stab_parities.specs.OddNumbers.{row};
 ghost use Rattle.stab_search.specs.LogicalErrors.{HasNoneWithin};
 ghost use Rattle.stab_search.specs.SearchParts.{BeginsIn, HasNoneIn};
 ghost use Rattle.stab_search.specs.inner.Ends.{NoEnds};

@@ -2,7 +2,7 @@
 //!
 //! No proof rests on how a step is found: each error is checked.
 ghost use Rattle.std.specs.Prelude.{◌≡◌, ℕ, ◌<◌, true, length, slice_index};
-ghost use Rattle.stab_search.specs.Ascending.{IsAscending};
+ghost use Rattle.stab_parities.specs.Ascending.{IsAscending};
 ghost use Rattle.stab_search.specs.inner.Steps.{lowered, AreLower, AreMoved, MovesDown, MoveDown};
 
 use crate::errors::Errors;

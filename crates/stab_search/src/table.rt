@@ -36,8 +36,8 @@ impl Model for Table {
 impl Table {
     ghost use Rattle.std.specs.Prelude.{◌≡◌, ◌<◌, ◌==◌, [], ◌∷◌, ◌++◌, length, OnOk, OnErr, IfErr};
     ghost use Rattle.stab_io.specs.declared.refusal.Refusal.TheVariants.{OutOfMemory};
-    ghost use Rattle.stab_search.specs.Ascending.{IsAscending};
-    ghost use Rattle.stab_search.specs.Tables.{row};
+    ghost use Rattle.stab_parities.specs.Ascending.{IsAscending};
+    ghost use Rattle.stab_parities.specs.OddNumbers.{row};
 
     /// A table without errors. Its observables are numbered from `detectors` on. It takes no memory.
     pub fn new(alloc: Global, detectors: usize) -> Table

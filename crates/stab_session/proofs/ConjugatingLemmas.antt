@@ -17,28 +17,28 @@ lengths-longer a b c is = (λ i. record {
 
 -- checkpoints from one after a span on
 
-module _ {n : ℕ} {coins : ℕ → Bool} {K : ℕ} {xs ys : List Step} {s : Span} {old : Recording} (count : ℕ) (kept : IsRecording n coins K xs count old) (span : IsSpan xs ys s) where
+module _ {n : ℕ} {coins : ℕ → Bool} {K : ℕ} {xs ys : List Step} {s : Span} {old : Recording} (count : ℕ) (preserved : IsRecording n coins K xs count old) (span : IsSpan xs ys s) where
   pub following-order : (j : ℕ) → IfSome (slice_get old.checkpoints.items j) (λ c. s.old_end ≤ c.step)
       → AreInOrder s.old_end (s.old_end + length (drop s.new_end ys)) (drop j old.checkpoints.items)
   following-order j stays =
       subst (λ L. AreInOrder s.old_end L (drop j old.checkpoints.items))
-      (let w = span.old_within in omega (arith, length-drop s.new_end ys, same-rest n coins K xs count old kept ys s span))
-      (in-order K (length xs) s.old_end j old.checkpoints.items kept.spaced.near span.old_within stays)
+      (let w = span.old_within in omega (arith, length-drop s.new_end ys, same-rest n coins K xs count old preserved ys s span))
+      (in-order K (length xs) s.old_end j old.checkpoints.items preserved.spaced.near span.old_within stays)
 
   pub following-qubits : (j k : ℕ) → k ≡ n → All (λ c. c.tableau.qubits ≡ k) (drop j old.checkpoints.items)
-  following-qubits j k e = All-drop (λ c. c.tableau.qubits ≡ k) j old.checkpoints.items (all-qubits n coins K xs count old kept ys s span k e)
+  following-qubits j k e = All-drop (λ c. c.tableau.qubits ≡ k) j old.checkpoints.items (all-qubits n coins K xs count old preserved ys s span k e)
 
-module _ {n : ℕ} {coins : ℕ → Bool} {K : ℕ} {xs ys : List Step} {s : Span} {old : Recording} {m : ℕ} (count : ℕ) (kept : IsRecording n coins K xs count old) (span : IsSpan xs ys s)
+module _ {n : ℕ} {coins : ℕ → Bool} {K : ℕ} {xs ys : List Step} {s : Span} {old : Recording} {m : ℕ} (count : ℕ) (preserved : IsRecording n coins K xs count old) (span : IsSpan xs ys s)
     (few : length ys ≤ 1048576) (counted : IsCheckpointCount (s.first + 1) old.checkpoints.items m) where
   abbrev pub before : IsBefore K (length xs) s.first m old.checkpoints.items
-  before = before-first n coins K xs count old kept ys s span m counted.within counted.before counted.following
+  before = before-first n coins K xs count old preserved ys s span m counted.within counted.before counted.following
 
   pub checkpoint-is : (c : Checkpoint) → c ≡ get_or old.checkpoints.items (m - 1) c → slice_get old.checkpoints.items (m - 1) ≡ Some c
   checkpoint-is c e = before.here ∙ ap (λ d. Some d) (sym (e ∙ get_or_from_slice_get old.checkpoints.items (m - 1) before.checkpoint c before.here))
 
   module _ (c : Checkpoint) (here : slice_get old.checkpoints.items (m - 1) ≡ Some c) where
     is : IsCheckpoint n coins xs c
-    is = at-get (IsCheckpoint n coins xs) old.checkpoints.items (m - 1) c kept.checkpoints here
+    is = at-get (IsCheckpoint n coins xs) old.checkpoints.items (m - 1) c preserved.checkpoints here
 
     pub checkpoint-before : c.step ≤ s.first
     checkpoint-before =
@@ -90,7 +90,7 @@ module _ {n : ℕ} {coins : ℕ → Bool} {K : ℕ} {xs ys : List Step} {s : Spa
           omega (
             arith,
             ap (λ (l : Lengths). l.free) (from-is from counts),
-            ap (λ (o : RunOutput). length o.free) (kept.run.output ∙ cut n coins xs s.first),
+            ap (λ (o : RunOutput). length o.free) (preserved.run.output ∙ cut n coins xs s.first),
             length-append (outputs n coins (take s.first xs) origin).free (outputs n coins (drop s.first xs) (point_after n coins (take s.first xs) origin)).free,
           )
 

@@ -40,10 +40,10 @@ step-of-checkpoint : (Q : ℕ → Type 0) (o : Option Checkpoint) → IfSome o (
 step-of-checkpoint Q None h = tt
 step-of-checkpoint Q (Some c) h = h
 
-module _ (n : ℕ) (coins : ℕ → Bool) (K : ℕ) (xs : List Step) (count : ℕ) (old : Recording) (kept : IsRecording n coins K xs count old)
+module _ (n : ℕ) (coins : ℕ → Bool) (K : ℕ) (xs : List Step) (count : ℕ) (old : Recording) (preserved : IsRecording n coins K xs count old)
     (ys : List Step) (s : Span) (span : IsSpan xs ys s) where
   rest : length ys ≡ s.new_end + (length xs - s.old_end)
-  rest = same-rest n coins K xs count old kept ys s span
+  rest = same-rest n coins K xs count old preserved ys s span
 
   placed : (p : Plan) → p.old_end ≡ s.old_end → p.new_end ≡ s.new_end → length ys < 2 ^ 64 → (c : Checkpoint) → IsCheckpoint n coins xs c
       → step_among_new p c ≡ s.new_end + (c.step - s.old_end)
@@ -67,7 +67,7 @@ module _ (n : ℕ) (coins : ℕ → Bool) (K : ℕ) (xs : List Step) (count : �
         | inl lt ↦ subst (λ k. MatchOption (slice_get old.checkpoints.items k) (length xs ≤ s.old_end + K) (λ c. c.step ≤ s.old_end + K)) (omega (arith, is, lt))
             (match-weaker (length xs ≤ s.old_end + K) (length xs ≤ s.old_end + K) (λ c. (s.old_end ≤ c.step) × (c.step ≤ s.old_end + K)) (λ c. c.step ≤ s.old_end + K)
             (slice_get old.checkpoints.items e) (λ h. h) (λ c h. h.1)
-            (following-near K (length xs) s.old_end e old.checkpoints.items kept.spaced within front following))
+            (following-near K (length xs) s.old_end e old.checkpoints.items preserved.spaced within front following))
         | inr le ↦ subst (λ k. MatchOption (slice_get old.checkpoints.items k) (length xs ≤ s.old_end + K) (λ c. c.step ≤ s.old_end + K)) (omega (arith, is, le))
             (match-weaker (length xs ≤ b.checkpoint.step + K) (length xs ≤ s.old_end + K) (λ c. (b.checkpoint.step ≤ c.step) × (c.step ≤ b.checkpoint.step + K)) (λ c. c.step ≤ s.old_end + K)
             (slice_get old.checkpoints.items m) (λ h. let w = b.within in let o = span.old_order in omega (arith, h)) (λ c h. let w = b.within in let o = span.old_order in let u = h.1 in omega (arith, u))
@@ -88,13 +88,13 @@ module _ (n : ℕ) (coins : ℕ → Bool) (K : ℕ) (xs : List Step) (count : �
       → slice_get old.checkpoints.items number ≡ Some c → s.old_end ≤ c.step → AgreeAfterSpan n coins xs ys s (c.step - s.old_end)
       → Misses n coins p ys old.outputs.records.items c → ⊥
   not-missed p old_end new_end few number c here after agree missed =
-      let h : IsCheckpoint n coins xs c = at-get (IsCheckpoint n coins xs) old.checkpoints.items number c kept.checkpoints here in
+      let h : IsCheckpoint n coins xs c = at-get (IsCheckpoint n coins xs) old.checkpoints.items number c preserved.checkpoints here in
       let agree_there : AgreeAt n (point_after n coins (take c.step xs) origin) (point_after n coins (take (step_among_new p c) ys) origin) =
       subst (λ k. AgreeAt n (point_after n coins (take k xs) origin) (point_after n coins (take (step_among_new p c) ys) origin)) (omega (arith, after))
       (subst (λ k. AgreeAt n (point_after n coins (take (s.old_end + (c.step - s.old_end)) xs) origin) (point_after n coins (take k ys) origin))
       (sym (placed p old_end new_end few c h)) agree) in
       let records : take c.lengths.records old.outputs.records.items ≡ (outputs n coins (take c.step xs) origin).records =
-      (λ i. take (h.lengths i).records (kept.run.output i).records) ∙ ap (λ (o : RunOutput). o.records) (front-output n coins xs c.step) in
+      (λ i. take (h.lengths i).records (preserved.run.output i).records) ∙ ap (λ (o : RunOutput). o.records) (front-output n coins xs c.step) in
       missed xs h records agree_there
 
   -- if both runs agree this many steps after what was changed, it ends at most a stride after that
@@ -112,7 +112,7 @@ module _ (n : ℕ) (coins : ℕ → Bool) (K : ℕ) (xs : List Step) (count : �
           let c = found.checkpoint in
           let after = found.following in
           let near = found.near in
-          let place = placed p old_end new_end few c (at-get (IsCheckpoint n coins xs) old.checkpoints.items found.number c kept.checkpoints found.here) in
+          let place = placed p old_end new_end few c (at-get (IsCheckpoint n coins xs) old.checkpoints.items found.number c preserved.checkpoints found.here) in
           elim (cases_lt (step_among_new p c) end) [
             | inl lt ↦
                 absurd (not-missed p old_end new_end few found.number c found.here (omega (arith, after)) (agree-at far agree c after)
@@ -132,7 +132,7 @@ module _ (n : ℕ) (coins : ℕ → Bool) (K : ℕ) (xs : List Step) (count : �
       let o = span.new_order in
       let last : end ≤ (s.new_end + far) + K =
       ends-near p old_end new_end few far agree end soon within
-      (near-checkpoint K (length xs) (s.old_end + far) p.next old.checkpoints.items kept.spaced.near
+      (near-checkpoint K (length xs) (s.old_end + far) p.next old.checkpoints.items preserved.spaced.near
       (match-weaker (length xs ≤ s.old_end + K) (length xs ≤ (s.old_end + far) + K) (λ c. c.step ≤ s.old_end + K) (λ c. c.step ≤ (s.old_end + far) + K)
       (slice_get old.checkpoints.items p.next) (λ l. omega (arith, l)) (λ c l. omega (arith, l)) (next-near m e p.next b e_within front following next))) in
       omega (arith, here, near, counted, last)
@@ -141,7 +141,7 @@ module _ (n : ℕ) (coins : ℕ → Bool) (K : ℕ) (xs : List Step) (count : �
 
   checkpoint-place : (k : ℕ) (c : Checkpoint) → slice_get old.checkpoints.items k ≡ Some c → length ys < 2 ^ 64 → moved s.old_end s.new_end c.step ≡ s.new_end + (c.step - s.old_end)
   checkpoint-place k c here few =
-      let w = (at-get (IsCheckpoint n coins xs) old.checkpoints.items k c kept.checkpoints here).within in
+      let w = (at-get (IsCheckpoint n coins xs) old.checkpoints.items k c preserved.checkpoints here).within in
       moved-within s.old_end s.new_end c.step (length xs) w (omega (arith, rest, few))
 
   pub stop-within : (q : ℕ) → length ys < 2 ^ 64 → conjugated_end s (length ys) (slice_get old.checkpoints.items q) ≤ length ys
@@ -150,7 +150,7 @@ module _ (n : ℕ) (coins : ℕ → Bool) (K : ℕ) (xs : List Step) (count : �
       at-stop : (o : Option Checkpoint) → slice_get old.checkpoints.items q ≡ o → conjugated_end s (length ys) o ≤ length ys
       at-stop None is = omega arith
       at-stop (Some d) is =
-          let w = (at-get (IsCheckpoint n coins xs) old.checkpoints.items q d kept.checkpoints is).within in omega (arith, checkpoint-place q d is few, rest, w)
+          let w = (at-get (IsCheckpoint n coins xs) old.checkpoints.items q d preserved.checkpoints is).within in omega (arith, checkpoint-place q d is few, rest, w)
 
   -- later checkpoints are not before that
   pub stop-order : (p : Plan) → p.old_end ≡ s.old_end → p.new_end ≡ s.new_end → length ys < 2 ^ 64 → (q k : ℕ) (c : Checkpoint) → q ≤ k → slice_get old.checkpoints.items k ≡ Some c
@@ -169,7 +169,7 @@ module _ (n : ℕ) (coins : ℕ → Bool) (K : ℕ) (xs : List Step) (count : �
           some-at (λ x. d.step ≤ x.step) old.checkpoints.items k c here
           (from-drop (λ x. d.step ≤ x.step) old.checkpoints.items q k from
           (All-weaker (λ x. (d.step ≤ x.step) × (x.step ≤ length xs)) (λ x. d.step ≤ x.step) (λ x h. h.0) (drop q old.checkpoints.items)
-          (all-following K (length xs) d.step q old.checkpoints.items kept.spaced.near
+          (all-following K (length xs) d.step q old.checkpoints.items preserved.spaced.near
           (subst (λ o. IfSome o (λ x. d.step ≤ x.step)) (sym is) (omega arith))))) in
           omega (arith, later, old_end, new_end)
 
@@ -199,9 +199,9 @@ module _ (n : ℕ) (coins : ℕ → Bool) (K : ℕ) (xs : List Step) (count : �
     some-at (λ d. s.first + 1 ≤ d.step) old.checkpoints.items k c here
         (from-drop (λ d. s.first + 1 ≤ d.step) old.checkpoints.items m k (omega (arith, le, from))
         (All-weaker (λ d. (s.first + 1 ≤ d.step) × (d.step ≤ length xs)) (λ d. s.first + 1 ≤ d.step) (λ d h. h.0) (drop m old.checkpoints.items)
-        (all-following K (length xs) (s.first + 1) m old.checkpoints.items kept.spaced.near later))),
+        (all-following K (length xs) (s.first + 1) m old.checkpoints.items preserved.spaced.near later))),
     some-at (λ d. s.old_end ≤ d.step) old.checkpoints.items k c here
-        (from-drop (λ d. s.old_end ≤ d.step) old.checkpoints.items next k from (all-next n coins K xs count old kept ys s span next following)),
+        (from-drop (λ d. s.old_end ≤ d.step) old.checkpoints.items next k from (all-next n coins K xs count old preserved ys s span next following)),
   )
 
   -- where it meets a checkpoint they agree
@@ -209,7 +209,7 @@ module _ (n : ℕ) (coins : ℕ → Bool) (K : ℕ) (xs : List Step) (count : �
       → (j : ℕ) (d : Checkpoint) → slice_get old.checkpoints.items j ≡ Some d → s.old_end ≤ d.step → MeetsAt n p r old.outputs.records.items old.outputs.free.items d
       → AgreeBackAfterSpan n coins xs ys s (d.step - s.old_end)
   met-agrees p window old_end new_end few r run j d found after met_at =
-      let h : IsCheckpoint n coins xs d = at-get (IsCheckpoint n coins xs) old.checkpoints.items j d kept.checkpoints found in
+      let h : IsCheckpoint n coins xs d = at-get (IsCheckpoint n coins xs) old.checkpoints.items j d preserved.checkpoints found in
       let step : r.step ≡ s.new_end + (d.step - s.old_end) = sym met_at.0 ∙ placed p old_end new_end few d h in
       let back : drop d.step xs ≡ drop (s.new_end + (d.step - s.old_end)) ys =
       ap (λ k. drop k xs) (omega (arith, after))
@@ -217,12 +217,12 @@ module _ (n : ℕ) (coins : ℕ → Bool) (K : ℕ) (xs : List Step) (count : �
       ∙ ap (drop (d.step - s.old_end)) span.following
       ∙ drop-drop (d.step - s.old_end) s.new_end ys in
       let met = meets-agree n p.window coins xs (take r.step ys) d r.tableau (output_of r.outputs) old.outputs.records.items old.outputs.free.items h
-      (ap (λ (o : RunOutput). o.records) kept.run.output) (ap (λ (o : RunOutput). o.free) kept.run.output) run met_at.1 in
+      (ap (λ (o : RunOutput). o.records) preserved.run.output) (ap (λ (o : RunOutput). o.free) preserved.run.output) run met_at.1 in
       let far : d.step ≡ s.old_end + (d.step - s.old_end) = omega (arith, after) in (
         subst (λ x. x) (λ i. MayHaveCoin n coins (back i) (point_after n coins (take (far i) xs) origin) (point_after n coins (take (step i) ys) origin).coin) met.0,
         p.window,
         subst (λ zs. looks_too_far p.window zs ≡ false) back
-            (near-enough old.window p.window (drop d.step xs) (omega (arith, window)) (All-drop (LooksWithin old.window) d.step xs kept.has_pivots.near)),
+            (near-enough old.window p.window (drop d.step xs) (omega (arith, window)) (All-drop (LooksWithin old.window) d.step xs preserved.has_pivots.near)),
         subst (λ x. x)
             (λ i. AgreeBack n p.window (with_coin (point_after n coins (take (step i) ys) origin).coin (point_after n coins (take (far i) xs) origin)) (point_after n coins (take (step i) ys) origin)) met.1,
       )
@@ -252,7 +252,7 @@ module _ (n : ℕ) (coins : ℕ → Bool) (K : ℕ) (xs : List Step) (count : �
 
       not-there : (c : Checkpoint) → slice_get old.checkpoints.items number ≡ Some c → NotThere c.step
       not-there c is may before agree =
-          let place = placed p old_end new_end few c (at-get (IsCheckpoint n coins xs) old.checkpoints.items number c kept.checkpoints is) in
+          let place = placed p old_end new_end few c (at-get (IsCheckpoint n coins xs) old.checkpoints.items number c preserved.checkpoints is) in
           not-missed p old_end new_end few number c is may.1 agree
           (some-at (λ c. step_among_new p c < end → Misses n coins p ys old.outputs.records.items c) old.checkpoints.items number c is
           (soon number (may-meet c is may.0 may.1)) (omega (arith, place, before)))
@@ -270,7 +270,7 @@ module _ (n : ℕ) (coins : ℕ → Bool) (K : ℕ) (xs : List Step) (count : �
         → IsCounted (AgreeAfterSpan n coins xs ys s) (AgreeBackAfterSpan n coins xs ys s) (checkpoint_steps old.checkpoints.items) s.first s.old_end s.new_end (length ys) applied
     is-counted within front following none =
         let last : last_until s.first 0 (checkpoint_steps old.checkpoints.items) ≡ b.checkpoint.step =
-        last-is s.first m 0 old.checkpoints.items within front following ∙ (front-spaced n coins K xs count old kept ys s span m b).1 in
+        last-is s.first m 0 old.checkpoints.items within front following ∙ (front-spaced n coins K xs count old preserved ys s span m b).1 in
         record { end = end; count = omega (arith, here, last, counted); ends = ends; none_before = none }
 
 -- coins of some of the steps

@@ -2,7 +2,7 @@
 use Rattle.stab_session.proofs.Names.{◌≡◌, ℕ, ◌+◌, ◌-◌, ◌^◌, ◌<◌, ◌≤◌, refl, sym, ◌∙◌, ap, subst, Bool, List, [], ◌∷◌, ◌++◌, length, take, drop, All, Option, Some, None, arith, IfSome, All-append, All-drop, All-take, Letter, Step, Span, Lengths, ones, RunOutput, origin, joined, point_after, outputs, lengths_of, front_of, rest_of, StepFits, output_of, flipped_output, unflipped, pivot_at, Checkpoint, IsCheckpoint, checkpoint_steps, Near, last_of, moved, moved_lengths, HasAtMost, outputs-short, length-take, KeepsPivotList, DifferByPaulis, DifferAtSites, IsFrameBetween, IsBeforeSites, PauliChange, Recording, PastSites, Conjugating, Followed, IsRecording, IsSpan, Follows, IsCheckpointCount, conjugated_end, StaysNear, IsPastSites, IsConjugating, IsPutInPlace, HasConjugated, span_meeting, checkpoints_conjugated, no_lengths}
 use Rattle.std.specs.Prelude.{slice_get}
 use Rattle.stab_session.proofs.FrameBetweenLemmas.{between-first}
-use Rattle.stab_session.proofs.PauliSpanLemmas.{span-near, span-true, span-true-all, span-flags}
+use Rattle.stab_session.proofs.PauliSpanLemmas.{span-near, span-true, span-true-all, span-randomness}
 use Rattle.stab_session.proofs.PropagatedRunLemmas.{IsPropagatedRun, rest, run-lengths, run-output, run-unflagged, run-has_pivots}
 use Rattle.stab_session.proofs.RestLemmas.{IsPropagatedRest, rest-group}
 use Rattle.stab_session.proofs.PropagatedCheckpointLemmas.{rest-checkpoints, rest-agrees, rest-differs}
@@ -23,7 +23,7 @@ stay-long k o few short = λ i. record {
     stay : (x : ℕ) → x < 2 ^ 64 → moved 0 0 x ≡ x
     stay x lt = omega (arith, lt)
 
-module _ {coins : ℕ → Bool} {K : ℕ} {xs ys : List Step} {s : Span} {change : PauliChange} {old : Recording} {m j : ℕ} (count : ℕ) (kept : IsRecording old.tableau.qubits coins K xs count old)
+module _ {coins : ℕ → Bool} {K : ℕ} {xs ys : List Step} {s : Span} {change : PauliChange} {old : Recording} {m j : ℕ} (count : ℕ) (preserved : IsRecording old.tableau.qubits coins K xs count old)
     (span : IsSpan xs ys s) (few : length ys ≤ 1048576) (counted : IsCheckpointCount (s.first + 1) old.checkpoints.items m)
     (differ : DifferByPaulis old.tableau.qubits xs ys s change.string.letters change.old change.new change.gaps.items) (fits : All (StepFits old.tableau.qubits) ys)
     (following : IfSome (slice_get old.checkpoints.items j) (λ c. s.old_end ≤ c.step)) (p : PastSites) (passed : IsPastSites ys s m j change old p.from p.propagation p.checkpoints.items)
@@ -45,8 +45,8 @@ module _ {coins : ℕ → Bool} {K : ℕ} {xs ys : List Step} {s : Span} {change
 
   from_is : p.from ≡ lengths_of front
   from_is =
-      from-is count kept span few counted (before count kept span few counted).checkpoint (before count kept span few counted).here p.from
-      (some-at _ old.checkpoints.items (m - 1) (before count kept span few counted).checkpoint (before count kept span few counted).here passed.from_is)
+      from-is count preserved span few counted (before count preserved span few counted).checkpoint (before count preserved span few counted).here p.from
+      (some-at _ old.checkpoints.items (m - 1) (before count preserved span few counted).checkpoint (before count preserved span few counted).here passed.from_is)
 
   at_sites : DifferAtSites n xs ys s change
   at_sites = record {
@@ -54,7 +54,7 @@ module _ {coins : ℕ → Bool} {K : ℕ} {xs ys : List Step} {s : Span} {change
     new_order = span.new_order;
     old_within = span.old_within;
     new_within = span.new_within;
-    old_few = kept.few;
+    old_few = preserved.few;
     new_few = few;
     following = span.following;
     differ = differ;
@@ -65,11 +65,11 @@ module _ {coins : ℕ → Bool} {K : ℕ} {xs ys : List Step} {s : Span} {change
     left_is = refl;
     differ = at_sites;
     between =
-        between-first n coins xs ys pivots free s.first (ones (take p.from.free free)) p.from passed.start kept.fits fits (let o = span.old_order in let w = span.old_within in omega arith)
+        between-first n coins xs ys pivots free s.first (ones (take p.from.free free)) p.from passed.start preserved.fits fits (let o = span.old_order in let w = span.old_within in omega arith)
         (let o = span.new_order in let w = span.new_within in omega arith) span.before from_is passed.begins
-        (span-true span.old_order span.new_order differ span.before span.following coins pivots kept.fits fits kept.has_pivots.are_true)
-        (span-flags span.old_order span.new_order differ span.before span.following coins pivots kept.fits fits
-        ∙ (λ i. drop (ap (λ (l : Lengths). l.free) (sym from_is) i) (ap (λ (o : RunOutput). o.free) (sym kept.run.output) i)));
+        (span-true span.old_order span.new_order differ span.before span.following coins pivots preserved.fits fits preserved.has_pivots.are_true)
+        (span-randomness span.old_order span.new_order differ span.before span.following coins pivots preserved.fits fits
+        ∙ (λ i. drop (ap (λ (l : Lengths). l.free) (sym from_is) i) (ap (λ (o : RunOutput). o.free) (sym preserved.run.output) i)));
   }
 
   between : IsFrameBetween n coins xs ys pivots free base (unflipped front) s.old_end s.new_end p.propagation
@@ -84,13 +84,13 @@ module _ {coins : ℕ → Bool} {K : ℕ} {xs ys : List Step} {s : Span} {change
     begins = span.old_order;
     from_is = from_is;
     between = between;
-    are_true = span-true-all span.old_order span.new_order differ span.before span.following coins pivots kept.fits fits kept.has_pivots.are_true;
-    near = span-near span.old_order span.new_order differ span.before span.following old.window kept.has_pivots.near;
-    output = kept.run.output;
-    flags = refl;
-    has_pivots = kept.has_pivots;
-    are_checkpoints = All-drop (IsCheckpoint n coins xs) j old.checkpoints.items kept.checkpoints;
-    order = in-order K (length xs) s.old_end j old.checkpoints.items kept.spaced.near span.old_within following;
+    are_true = span-true-all span.old_order span.new_order differ span.before span.following coins pivots preserved.fits fits preserved.has_pivots.are_true;
+    near = span-near span.old_order span.new_order differ span.before span.following old.window preserved.has_pivots.near;
+    output = preserved.run.output;
+    randomness = refl;
+    has_pivots = preserved.has_pivots;
+    are_checkpoints = All-drop (IsCheckpoint n coins xs) j old.checkpoints.items preserved.checkpoints;
+    order = in-order K (length xs) s.old_end j old.checkpoints.items preserved.spaced.near span.old_within following;
     advanced = conjugating.advanced;
   }
 
@@ -122,7 +122,7 @@ module _ {coins : ℕ → Bool} {K : ℕ} {xs ys : List Step} {s : Span} {change
   checkpoints =
       All-append (IsCheckpoint n coins ys) p.checkpoints.items (checkpoints_conjugated s t.rest.conjugated.items (drop j old.checkpoints.items))
       (passed.are_checkpoints coins xs base (unflipped front) begins
-      (All-take (IsCheckpoint n coins xs) (j - m) (drop m old.checkpoints.items) (All-drop (IsCheckpoint n coins xs) m old.checkpoints.items kept.checkpoints)))
+      (All-take (IsCheckpoint n coins xs) (j - m) (drop m old.checkpoints.items) (All-drop (IsCheckpoint n coins xs) m old.checkpoints.items preserved.checkpoints)))
       (rest-checkpoints advanced (span_meeting s) refl refl (omega (arith, few))
       (λ c following is. (λ i. moved_lengths no_lengths no_lengths (run-lengths n coins xs ys (drop s.new_end ys) s.old_end s.new_end old.strings free old.window (drop j old.checkpoints.items) t.rest.conjugated.items
       (output_of old.outputs) p.from p.propagation t.rest.propagation run c following is i))
@@ -162,10 +162,10 @@ pub has-conjugated-here : {coins : ℕ → Bool} {K : ℕ} {ys : List Step} {s :
     → (g.applied + g.by_frame) + c.step ≡ conjugated_end s (length ys) (slice_get old.checkpoints.items (j + length t.rest.conjugated.items))
     → HasConjugated old.tableau.qubits coins K ys (length old.observables.items) s old g new
 has-conjugated-here {coins} {K} {ys} {s} {change} {old} {m} {j} f few counted inside c here p passed last close last_is stays t conjugating new put fits g took =
-    let determines = determines-run f.count f.kept f.span few counted f.differ fits (stays-following K s (length ys) last (slice_get old.checkpoints.items j) stays) p passed t conjugating in
-    let first : Checkpoint = (before f.count f.kept f.span few counted).checkpoint in
-    let same : c ≡ first = (let e : Some c ≡ Some first = sym here ∙ (before f.count f.kept f.span few counted).here in cc) in
-    has-conjugated f.count f.kept f.span few m j counted inside t determines conjugating.number conjugating.meeting last stays new put
+    let determines = determines-run f.count f.preserved f.span few counted f.differ fits (stays-following K s (length ys) last (slice_get old.checkpoints.items j) stays) p passed t conjugating in
+    let first : Checkpoint = (before f.count f.preserved f.span few counted).checkpoint in
+    let same : c ≡ first = (let e : Some c ≡ Some first = sym here ∙ (before f.count f.preserved f.span few counted).here in cc) in
+    has-conjugated f.count f.preserved f.span few m j counted inside t determines conjugating.number conjugating.meeting last stays new put
     (subst (λ x. x) (λ i. Near K ((same i).step ∷ checkpoint_steps (sym conjugating.passed i))) close)
     ((λ i. last_of (sym same i).step (checkpoint_steps (conjugating.passed i))) ∙ last_is)
     fits g

@@ -25,11 +25,11 @@ order-from from end (c ∷ cs) (suc j) order = below (slice_get cs j) (order-fro
     below (Some d) h = omega (arith, order.0, h)
 
 -- what it flipped is what it had flipped
-pub ending-flips : (n window : ℕ) (back : List Step) (from steps : ℕ) (kept : List Checkpoint) (conjugated : List TableauState) (last new : PropagationState)
-    → Ending n window back from steps kept conjugated last new → new.flips ≡ last.flips
-ending-flips n window back from steps kept conjugated last new (over all same is) = ap (λ (w : PropagationState). w.flips) is
-ending-flips n window back from steps kept conjugated last new (gone none is) = ap (λ (w : PropagationState). w.flips) is
-ending-flips n window back from steps kept conjugated last new (dropped c found at d) = ap (λ (w : PropagationState). w.flips) d.left
+pub ending-flips : (n window : ℕ) (back : List Step) (from steps : ℕ) (stored : List Checkpoint) (conjugated : List TableauState) (last new : PropagationState)
+    → Ending n window back from steps stored conjugated last new → new.flips ≡ last.flips
+ending-flips n window back from steps stored conjugated last new (over all same is) = ap (λ (w : PropagationState). w.flips) is
+ending-flips n window back from steps stored conjugated last new (gone none is) = ap (λ (w : PropagationState). w.flips) is
+ending-flips n window back from steps stored conjugated last new (dropped c found at d) = ap (λ (w : PropagationState). w.flips) d.left
 
 -- a string with a sign that stabilises a checkpoint flips no sign at the run's point there
 stabiliser-quiet : (n : ℕ) (coins : ℕ → Bool) (xs back : List Step) (from steps : ℕ) (c : Checkpoint) (window : ℕ) (last new : PropagationState) → drop from xs ≡ back → All (StepFits n) xs
@@ -46,13 +46,13 @@ stabiliser-quiet n coins xs back from steps c window last new following fits is 
     place = omega (arith, le, at)
 
 -- it passed all, past all checkpoints, or it ended at a point where it flips no sign
-pub endings : (n window : ℕ) (back : List Step) (from steps : ℕ) (kept : List Checkpoint) (conjugated : List TableauState) (last new : PropagationState) (coins : ℕ → Bool) (xs : List Step)
-    → drop from xs ≡ back → All (StepFits n) xs → All (IsCheckpoint n coins xs) kept → AreInOrder from (length xs) kept → length last.letters ≡ n
-    → Ending n window back from steps kept conjugated last new
-    → ((steps ≡ length back) × (length conjugated ≡ length kept) × (new.letters ≡ last.letters))
+pub endings : (n window : ℕ) (back : List Step) (from steps : ℕ) (stored : List Checkpoint) (conjugated : List TableauState) (last new : PropagationState) (coins : ℕ → Bool) (xs : List Step)
+    → drop from xs ≡ back → All (StepFits n) xs → All (IsCheckpoint n coins xs) stored → AreInOrder from (length xs) stored → length last.letters ≡ n
+    → Ending n window back from steps stored conjugated last new
+    → ((steps ≡ length back) × (length conjugated ≡ length stored) × (new.letters ≡ last.letters))
     ⊎ IsEnded n window (point_after n coins (take steps back) (point_after n coins (take from xs) origin)) last new
-endings n window back from steps kept conjugated last new coins xs following fits are order size (over all same is) = inl (all, same, ap (λ (w : PropagationState). w.letters) is)
-endings n window back from steps kept conjugated last new coins xs following fits are order size (gone none is) =
+endings n window back from steps stored conjugated last new coins xs following fits are order size (over all same is) = inl (all, same, ap (λ (w : PropagationState). w.letters) is)
+endings n window back from steps stored conjugated last new coins xs following fits are order size (gone none is) =
     inr (record {
       quiet =
           subst (λ l. IsConjugated n l (member (point_after n coins (take steps back) (point_after n coins (take from xs) origin)).trace)
@@ -61,11 +61,11 @@ endings n window back from steps kept conjugated last new coins xs following fit
           (conjugated-blank n (member (point_after n coins (take steps back) (point_after n coins (take from xs) origin)).trace));
       blank = none;
     })
-endings n window back from steps kept conjugated last new coins xs following fits are order size (dropped c found at d) =
+endings n window back from steps stored conjugated last new coins xs following fits are order size (dropped c found at d) =
     inr (record {
       quiet =
           stabiliser-quiet n coins xs back from steps c window last new following fits
-          (subst (IsCheckpoint n coins xs) (get_or_from_slice_get kept (length conjugated) c c found) (are (length conjugated) c (slice_get_within kept (length conjugated) c found)))
-          (subst (λ o. IfSome o (λ e. from ≤ e.step)) found (order-from from (length xs) kept (length conjugated) order)) at size d;
+          (subst (IsCheckpoint n coins xs) (get_or_from_slice_get stored (length conjugated) c c found) (are (length conjugated) c (slice_get_within stored (length conjugated) c found)))
+          (subst (λ o. IfSome o (λ e. from ≤ e.step)) found (order-from from (length xs) stored (length conjugated) order)) at size d;
       blank = d.gone;
     })

@@ -1,5 +1,5 @@
--- Conjugated runs: what is kept once a frame conjugated a run where it lies is the run of the new steps, and this many steps were followed for it.
-use Rattle.stab_session.proofs.Names.{◌≡◌, ℕ, zero, suc, ◌+◌, ◌-◌, ◌*◌, ◌<◌, ◌≤◌, inl, inr, refl, sym, ◌∙◌, ap, subst, Bool, false, List, [], ◌∷◌, ◌++◌, length, max, take, drop, map, All, Option, Some, None, arith, IfSome, MatchOption, cases_lt, drop-drop, All-append, All-drop, All-head, All-nil, All-weaker, take-add, with_sign, strings_anticommute, member, TableauState, stabilises, IsConjugated, Step, looks_too_far, Span, Lengths, Point, RunOutput, origin, joined, point_after, outputs, looked_up, ones, AgreeAt, StepFits, output_of, front_of, rest_of, AgreeBack, with_coin, flags-are-coins, front-output, records-are-records, flipped_output, PivotsState, LooksWithin, PropagationState, Checkpoint, IsCheckpoint, checkpoint_steps, moved, moved_checkpoint, all_saved, IsSpaced, Near, last_of, Plan, KeepsPivotList, Misses, EndsSoon, step_among_new, Recording, Followed, Conjugating, EndsAt, IsCounted, IsRecording, IsSpan, AgreeAfterSpan, AgreeBackAfterSpan, IsCheckpointCount, conjugated_end, StaysNear, IsPutInPlace, HasConjugated, span_meeting, checkpoints_conjugated, same-future, MayHaveCoin, with_states}
+-- Conjugated runs: what is stored once a frame conjugated a run where it lies is the run of the new steps, and this many steps were followed for it.
+use Rattle.stab_session.proofs.Names.{◌≡◌, ℕ, zero, suc, ◌+◌, ◌-◌, ◌*◌, ◌<◌, ◌≤◌, inl, inr, refl, sym, ◌∙◌, ap, subst, Bool, false, List, [], ◌∷◌, ◌++◌, length, max, take, drop, map, All, Option, Some, None, arith, IfSome, MatchOption, cases_lt, drop-drop, All-append, All-drop, All-head, All-nil, All-weaker, take-add, with_sign, strings_anticommute, member, TableauState, stabilises, IsConjugated, Step, looks_too_far, Span, Lengths, Point, RunOutput, origin, joined, point_after, outputs, looked_up, ones, AgreeAt, StepFits, output_of, front_of, rest_of, AgreeBack, with_coin, randomness-is-coins, front-output, records-are-records, flipped_output, PivotsState, LooksWithin, PropagationState, Checkpoint, IsCheckpoint, checkpoint_steps, moved, moved_checkpoint, all_saved, IsSpaced, Near, last_of, Plan, KeepsPivotList, Misses, EndsSoon, step_among_new, Recording, Followed, Conjugating, EndsAt, IsCounted, IsRecording, IsSpan, AgreeAfterSpan, AgreeBackAfterSpan, IsCheckpointCount, conjugated_end, StaysNear, IsPutInPlace, HasConjugated, span_meeting, checkpoints_conjugated, same-future, MayHaveCoin, with_states}
 use Rattle.std.specs.Prelude.{slice_get}
 use Rattle.stab_recording.proofs.RecordedReplayLemmas.{near-enough}
 use Rattle.stab_recording.proofs.CutLemmas.{get-drop}
@@ -30,10 +30,10 @@ pub checkpoint-agrees : (n : ℕ) (coins : ℕ → Bool) (xs zs : List Step) (c 
 checkpoint-agrees n coins xs zs c records is also there here = record {
   group = λ p size. sym (is.group p size) ∙ also.group p size;
   coin =
-      sym (flags-are-coins n coins (take c.step xs))
+      sym (randomness-is-coins n coins (take c.step xs))
       ∙ sym (ap (λ (l : Lengths). l.free) is.lengths)
       ∙ ap (λ (l : Lengths). l.free) also.lengths
-      ∙ flags-are-coins n coins (take c.step zs);
+      ∙ randomness-is-coins n coins (take c.step zs);
   records =
       sym (records-are-records n coins (take c.step xs))
       ∙ sym there
@@ -49,10 +49,10 @@ agree-trans n a b c f g = record {
 }
 
 -- the records of a recording up to a checkpoint of it
-pub kept-records : (n : ℕ) (coins : ℕ → Bool) (K : ℕ) (xs : List Step) (count : ℕ) (r : Recording) → IsRecording n coins K xs count r → (c : Checkpoint) → IsCheckpoint n coins xs c
+pub preserved-records : (n : ℕ) (coins : ℕ → Bool) (K : ℕ) (xs : List Step) (count : ℕ) (r : Recording) → IsRecording n coins K xs count r → (c : Checkpoint) → IsCheckpoint n coins xs c
     → take c.lengths.records r.outputs.records.items ≡ (outputs n coins (take c.step xs) origin).records
-kept-records n coins K xs count r kept c is =
-    (λ i. take (is.lengths i).records (kept.run.output i).records)
+preserved-records n coins K xs count r preserved c is =
+    (λ i. take (is.lengths i).records (preserved.run.output i).records)
     ∙ ap (λ (o : RunOutput). o.records) (front-output n coins xs c.step)
 
 -- the coins of a run serve another one, if those of one that agrees with it do
@@ -95,29 +95,29 @@ before-end s checkpoints m k inside counted =
         (take m checkpoints) counted.before)
         inside.among)
 
-module _ {n : ℕ} {coins : ℕ → Bool} {K : ℕ} {xs ys : List Step} {s : Span} {old : Recording} (count : ℕ) (kept : IsRecording n coins K xs count old) (span : IsSpan xs ys s)
+module _ {n : ℕ} {coins : ℕ → Bool} {K : ℕ} {xs ys : List Step} {s : Span} {old : Recording} (count : ℕ) (preserved : IsRecording n coins K xs count old) (span : IsSpan xs ys s)
     (few : length ys ≤ 1048576) (m j : ℕ) (counted : IsCheckpointCount (s.first + 1) old.checkpoints.items m) (inside : AreInside s old.checkpoints.items m j) (t : Conjugating)
     (determines : DeterminesRun n coins xs ys s (drop j old.checkpoints.items) (output_of old.outputs) old.strings old.window t.from t.rest.propagation t.passed.items t.rest.conjugated.items)
     (number : t.rest.number ≡ j) (meeting : t.rest.meeting ≡ span_meeting s) where
   abbrev pub near : IsBefore K (length xs) s.first m old.checkpoints.items
-  near = before-first n coins K xs count old kept ys s span m counted.within counted.before counted.following
+  near = before-first n coins K xs count old preserved ys s span m counted.within counted.before counted.following
 
   rest : length ys ≡ s.new_end + (length xs - s.old_end)
-  rest = same-rest n coins K xs count old kept ys s span
+  rest = same-rest n coins K xs count old preserved ys s span
 
   is-checkpoint : (k : ℕ) (c : Checkpoint) → slice_get old.checkpoints.items k ≡ Some c → IsCheckpoint n coins xs c
-  is-checkpoint k c here = at-get (IsCheckpoint n coins xs) old.checkpoints.items k c kept.checkpoints here
+  is-checkpoint k c here = at-get (IsCheckpoint n coins xs) old.checkpoints.items k c preserved.checkpoints here
 
-  -- what is kept is the run of the new steps
-  pub conjugated-kept : (new : Recording) (last : ℕ) → IsPutInPlace old m K t new → Near K (near.checkpoint.step ∷ checkpoint_steps t.passed.items)
+  -- what is stored is the run of the new steps
+  pub conjugated-preserved : (new : Recording) (last : ℕ) → IsPutInPlace old m K t new → Near K (near.checkpoint.step ∷ checkpoint_steps t.passed.items)
       → last_of near.checkpoint.step (checkpoint_steps t.passed.items) ≡ last → StaysNear K s (length ys) last (slice_get old.checkpoints.items j) → All (StepFits n) ys
       → IsRecording n coins K ys (length old.observables.items) new
-  conjugated-kept new last put close last_is stays fits = record {
-    qubits = put.qubits ∙ kept.qubits;
+  conjugated-preserved new last put close last_is stays fits = record {
+    qubits = put.qubits ∙ preserved.qubits;
     run = record {
       group = λ p size.
           put_conjugated p size
-          ∙ kept.run.group (with_sign (strings_anticommute t.rest.propagation.letters p.letters) p) size
+          ∙ preserved.run.group (with_sign (strings_anticommute t.rest.propagation.letters p.letters) p) size
           ∙ sym (determines.group p size);
       output = put.output ∙ sym determines.output;
     };
@@ -126,18 +126,18 @@ module _ {n : ℕ} {coins : ℕ → Bool} {K : ℕ} {xs ys : List Step} {s : Spa
     few = few;
     has_pivots =
         subst (λ x. x) (λ i. KeepsPivotList n coins ys (sym put.strings i) (sym (put.output ∙ sym determines.output) i).free (sym put.window i)) determines.has_pivots;
-    few_strings = omega (arith, ap (λ (s : PivotsState). s.most) put.strings, kept.few_strings);
+    few_strings = omega (arith, ap (λ (s : PivotsState). s.most) put.strings, preserved.few_strings);
     checkpoints =
         subst (All (IsCheckpoint n coins ys)) (sym put_checkpoints)
         (all-saved-all (IsCheckpoint n coins ys) K (t.passed.items ++ checkpoints_conjugated s t.rest.conjugated.items (drop j old.checkpoints.items))
-        (take m old.checkpoints.items) determines.moved_checkpoints (front-checkpoints n coins K xs count old kept ys s span m counted.before));
+        (take m old.checkpoints.items) determines.moved_checkpoints (front-checkpoints n coins K xs count old preserved ys s span m counted.before));
     spaced =
         subst (λ cs. IsSpaced K (length ys) (checkpoint_steps cs)) (sym put_checkpoints)
         (spaced-all K (length ys) near.checkpoint.step (t.passed.items ++ checkpoints_conjugated s t.rest.conjugated.items (drop j old.checkpoints.items))
         (take m old.checkpoints.items)
         (near-both K (length ys) near.checkpoint.step last t.passed.items (checkpoints_conjugated s t.rest.conjugated.items (drop j old.checkpoints.items)) close last_is
-        (conjugated-near K (length xs) (length ys) last j s t.rest.conjugated.items old.checkpoints.items span.old_within rest (omega (arith, few)) stays kept.spaced.near))
-        (front-spaced n coins K xs count old kept ys s span m near).0 (front-spaced n coins K xs count old kept ys s span m near).1);
+        (conjugated-near K (length xs) (length ys) last j s t.rest.conjugated.items old.checkpoints.items span.old_within rest (omega (arith, few)) stays preserved.spaced.near))
+        (front-spaced n coins K xs count old preserved ys s span m near).0 (front-spaced n coins K xs count old preserved ys s span m near).1);
   }
     where
       put_checkpoints : new.checkpoints.items
@@ -148,7 +148,7 @@ module _ {n : ℕ} {coins : ℕ → Bool} {K : ℕ} {xs ys : List Step} {s : Spa
           ∙ sym (all-saved-append K t.passed.items (checkpoints_conjugated s t.rest.conjugated.items (drop j old.checkpoints.items)) (take m old.checkpoints.items))
 
       put_conjugated : IsConjugated n t.rest.propagation.letters (stabilises old.tableau) (stabilises new.tableau)
-      put_conjugated = subst (λ k. IsConjugated k t.rest.propagation.letters (stabilises old.tableau) (stabilises new.tableau)) kept.qubits put.conjugated
+      put_conjugated = subst (λ k. IsConjugated k t.rest.propagation.letters (stabilises old.tableau) (stabilises new.tableau)) preserved.qubits put.conjugated
 
   -- the first checkpoint that was not conjugated, if there is one, is after the span
   abbrev stop : Option Checkpoint
@@ -162,7 +162,7 @@ module _ {n : ℕ} {coins : ℕ → Bool} {K : ℕ} {xs ys : List Step} {s : Spa
       some-at (λ d. s.first + 1 ≤ d.step) old.checkpoints.items k c here
       (from-drop (λ d. s.first + 1 ≤ d.step) old.checkpoints.items m k from
       (All-weaker (λ d. (s.first + 1 ≤ d.step) × (d.step ≤ length xs)) (λ d. s.first + 1 ≤ d.step) (λ d h. h.0) (drop m old.checkpoints.items)
-      (all-following K (length xs) (s.first + 1) m old.checkpoints.items kept.spaced.near counted.following)))
+      (all-following K (length xs) (s.first + 1) m old.checkpoints.items preserved.spaced.near counted.following)))
 
   module _ (last : ℕ) (stays : StaysNear K s (length ys) last (slice_get old.checkpoints.items j)) where
     next-following : IfSome (slice_get old.checkpoints.items j) (λ c. s.old_end ≤ c.step)
@@ -173,7 +173,7 @@ module _ {n : ℕ} {coins : ℕ → Bool} {K : ℕ} {xs ys : List Step} {s : Spa
         some-at (λ d. s.old_end ≤ d.step) old.checkpoints.items k c here
         (from-drop (λ d. s.old_end ≤ d.step) old.checkpoints.items j k from
         (All-weaker (λ d. (s.old_end ≤ d.step) × (d.step ≤ length xs)) (λ d. s.old_end ≤ d.step) (λ d h. h.0) (drop j old.checkpoints.items)
-        (all-following K (length xs) s.old_end j old.checkpoints.items kept.spaced.near next-following)))
+        (all-following K (length xs) s.old_end j old.checkpoints.items preserved.spaced.near next-following)))
 
     place : (k : ℕ) (c : Checkpoint) → slice_get old.checkpoints.items k ≡ Some c → moved s.old_end s.new_end c.step ≡ s.new_end + (c.step - s.old_end)
     place k c here = let w = (is-checkpoint k c here).within in moved-within s.old_end s.new_end c.step (length xs) w (omega (arith, rest, few))
@@ -186,7 +186,7 @@ module _ {n : ℕ} {coins : ℕ → Bool} {K : ℕ} {xs ys : List Step} {s : Spa
         (get-drop j (k - j) old.checkpoints.items ∙ ap (slice_get old.checkpoints.items) (omega (arith, from)) ∙ here)
         (agree-trans n (point_after n coins (take c.step xs) origin) (point_after n coins (take c.step zs) origin)
         (point_after n coins (take (s.new_end + (c.step - s.old_end)) ys) origin)
-        (checkpoint-agrees n coins xs zs c old.outputs.records.items (is-checkpoint k c here) also (kept-records n coins K xs count old kept c (is-checkpoint k c here)) records)
+        (checkpoint-agrees n coins xs zs c old.outputs.records.items (is-checkpoint k c here) also (preserved-records n coins K xs count old preserved c (is-checkpoint k c here)) records)
         (subst (λ i. AgreeAt n (point_after n coins (take c.step zs) origin) (point_after n coins (take i ys) origin)) (place k c here) agree))
 
     soon : EndsSoon n coins plan ys old.checkpoints.items old.outputs.records.items (conjugated_end s (length ys) stop)
@@ -195,12 +195,12 @@ module _ {n : ℕ} {coins : ℕ → Bool} {K : ℕ} {xs ys : List Step} {s : Spa
         (λ c here before.
         elim (cases_lt k (j + length t.rest.conjugated.items)) [
           | inl lt ↦ missed k c from lt here
-          | inr le ↦ let order = stop-order n coins K xs count old kept ys s span plan refl refl (omega (arith, few)) (j + length t.rest.conjugated.items) k c le here in
+          | inr le ↦ let order = stop-order n coins K xs count old preserved ys s span plan refl refl (omega (arith, few)) (j + length t.rest.conjugated.items) k c le here in
               absurd (omega (arith, order, before))
         ])
 
     end-within : conjugated_end s (length ys) stop ≤ length ys
-    end-within = stop-within n coins K xs count old kept ys s span (j + length t.rest.conjugated.items) (omega (arith, few))
+    end-within = stop-within n coins K xs count old preserved ys s span (j + length t.rest.conjugated.items) (omega (arith, few))
 
     -- the first checkpoint after the span is near its end
     next-near : (zs : List Step) (far : ℕ) → length ys ≡ s.new_end + (length zs - s.old_end)
@@ -228,7 +228,7 @@ module _ {n : ℕ} {coins : ℕ → Bool} {K : ℕ} {xs ys : List Step} {s : Spa
           let after : s.old_end ≤ d.step = following-span (j + length t.rest.conjugated.items) d (omega arith) is in
           let on : AgreeAt n (point_after n coins (take d.step zs) origin) (point_after n coins (take d.step xs) origin) =
           checkpoint-agrees n coins zs xs d old.outputs.records.items (also-checkpoint (j + length t.rest.conjugated.items) d is) (is-checkpoint (j + length t.rest.conjugated.items) d is)
-          (kept-records n coins K zs other old also d (also-checkpoint (j + length t.rest.conjugated.items) d is)) (kept-records n coins K xs count old kept d (is-checkpoint (j + length t.rest.conjugated.items) d is)) in
+          (preserved-records n coins K zs other old also d (also-checkpoint (j + length t.rest.conjugated.items) d is)) (preserved-records n coins K xs count old preserved d (is-checkpoint (j + length t.rest.conjugated.items) d is)) in
           let agreed = determines.agree d (get-drop j (length t.rest.conjugated.items) old.checkpoints.items ∙ is) in
           let from : d.step ≡ s.old_end + (d.step - s.old_end) = omega (arith, after) in
           let back : drop d.step zs ≡ drop (s.new_end + (d.step - s.old_end)) ys =
@@ -281,10 +281,10 @@ module _ {n : ℕ} {coins : ℕ → Bool} {K : ℕ} {xs ys : List Step} {s : Spa
         → IfSome (slice_get old.checkpoints.items (m - 1)) (λ c. (f.applied + f.by_frame) + c.step ≡ conjugated_end s (length ys) stop)
         → HasConjugated n coins K ys (length old.observables.items) s old f new
     has-conjugated new put close last_is fits f took = record {
-      kept = conjugated-kept new last put close last_is stays fits;
+      preserved = conjugated-preserved new last put close last_is stays fits;
       way = record {
         most =
-            applied-within n coins K xs count old kept ys s span m near near.checkpoint.step (conjugated_end s (length ys) stop) (f.applied + f.by_frame)
+            applied-within n coins K xs count old preserved ys s span m near near.checkpoint.step (conjugated_end s (length ys) stop) (f.applied + f.by_frame)
             (subst (λ o. IfSome o (λ c. near.checkpoint.step ≡ c.step)) (sym near.here) refl)
             (some-at (λ c. (f.applied + f.by_frame) + c.step ≡ conjugated_end s (length ys) stop) old.checkpoints.items (m - 1) near.checkpoint near.here took) end-within;
         few = λ zs other far also span_also agree.

@@ -1,4 +1,4 @@
--- Following an edit: where a replay of the new steps begins, which old checkpoints it may meet, and what is kept of its end.
+-- Following an edit: where a replay of the new steps begins, which old checkpoints it may meet, and what is stored of its end.
 use Rattle.stab_session.proofs.Names.{◌≡◌, ℕ, ◌+◌, ◌-◌, ◌^◌, ◌<◌, ◌≤◌, reverse, refl, sym, ◌∙◌, ap, subst, Bool, List, [], ◌∷◌, ◌++◌, length, take, drop, get_or, All, Option, Some, None, arith, IfSome, take-map, length-drop, get_or-drop, All-weaker, All-take, All-nil, get_or_from_slice_get, slice_get_within, slice_get-map, IfSome_then, TableauState, Step, Checkpoint, Replay, Plan, End, Last, Joined, Recording, Span, Prepared, Rest, ones, RunOutput, origin, joined, outputs, replicate, I, program_state, output_of, Near, IsSpaced, last_of, front_of, rest_of, IsRunFromStart, IsCheckpoint, checkpoint_steps, all_saved, PivotsState, IsRecording, IsSameRecording, IsSpan, KeepsPivotList, IsSpliced, IsReplay, Ascending, Begins, IsRest, IsOldRest, IsPrepared, IsCommitted, IsTableauAfter, checkpoints_after, front-output}
 use Rattle.std.specs.Prelude.{IsSomeAnd, option_map, slice_get}
 use Rattle.stab_recording.proofs.RecordedReplayLemmas.{has_pivots-front}
@@ -75,14 +75,14 @@ committed-same a b p before K new same h = record {
   checkpoints = h.checkpoints ∙ ap (λ cs. all_saved K (checkpoints_after p.rest cs) (all_saved K (reverse p.saved.items) (take before cs))) same.checkpoints;
 }
 
-module _ (n : ℕ) (coins : ℕ → Bool) (K : ℕ) (xs : List Step) (count : ℕ) (old : Recording) (kept : IsRecording n coins K xs count old)
+module _ (n : ℕ) (coins : ℕ → Bool) (K : ℕ) (xs : List Step) (count : ℕ) (old : Recording) (preserved : IsRecording n coins K xs count old)
     (ys : List Step) (s : Span) (span : IsSpan xs ys s) where
   -- where it begins
 
   pub before-first : (b : ℕ) → b ≤ length old.checkpoints.items → All (λ c. c.step < s.first + 1) (take b old.checkpoints.items)
       → IfSome (slice_get old.checkpoints.items b) (λ c. s.first + 1 ≤ c.step) → IsBefore K (length xs) s.first b old.checkpoints.items
   before-first b within front following =
-      before-near K (length xs) s.first b old.checkpoints.items kept.spaced (let o = span.old_order in let w = span.old_within in omega arith) within front following
+      before-near K (length xs) s.first b old.checkpoints.items preserved.spaced (let o = span.old_order in let w = span.old_within in omega arith) within front following
 
   checkpoint-of-new : (c : Checkpoint) → c.step ≤ s.first → IsCheckpoint n coins xs c → IsCheckpoint n coins ys c
   checkpoint-of-new c le h = checkpoint-before n coins xs ys s.first c span.before le (let o = span.new_order in let w = span.new_within in omega arith) h
@@ -92,36 +92,36 @@ module _ (n : ℕ) (coins : ℕ → Bool) (K : ℕ) (xs : List Step) (count : �
   begun b c r here le begins = record {
     at_step = record {
       qubits = ap (λ (t : TableauState). t.qubits) begins.tableau ∙ is.qubits;
-      string = begins.string ∙ kept.qubits;
+      string = begins.string ∙ preserved.qubits;
       all = begins.all;
       left = begins.left ∙ ap (λ k. drop k ys) (sym begins.step);
       within = let w = is.within in omega (arith, begins.step);
       run =
           subst (λ k. IsRunFromStart n coins (take k ys) (program_state r.tableau (output_of r.outputs))) (sym begins.step)
           (begun-from-start n coins xs ys c r.tableau (output_of r.outputs) is (take-same c.step s.first xs ys le span.before) begins.tableau
-          (begins.output ∙ ap (front_of c.lengths) kept.run.output));
-      scratch = begins.scratch ∙ kept.qubits;
+          (begins.output ∙ ap (front_of c.lengths) preserved.run.output));
+      scratch = begins.scratch ∙ preserved.qubits;
       has_pivots =
           subst (λ zs. KeepsPivotList n coins zs r.pivots.strings r.outputs.free.items r.pivots.window)
           (take-same c.step s.first xs ys le span.before ∙ ap (λ k. take k ys) (sym begins.step))
           (subst (KeepsPivotList n coins (take c.step xs) r.pivots.strings r.outputs.free.items) (sym begins.window)
-          (has_pivots-front n coins xs old.strings old.outputs.free.items old.window kept.has_pivots (ap (λ (o : RunOutput). o.free) kept.run.output) c.step r.pivots.strings
-          r.outputs.free.items flags begins.strings));
+          (has_pivots-front n coins xs old.strings old.outputs.free.items old.window preserved.has_pivots (ap (λ (o : RunOutput). o.free) preserved.run.output) c.step r.pivots.strings
+          r.outputs.free.items randomness begins.strings));
     };
     checkpoints = subst (All (IsCheckpoint n coins ys)) (sym begins.saved) (All-nil (IsCheckpoint n coins ys));
     near = subst (λ cs. Near K (r.step ∷ checkpoint_steps cs ++ r.step ∷ [])) (sym begins.saved) (omega arith, omega arith, tt);
   }
     where
       is : IsCheckpoint n coins ys c
-      is = checkpoint-of-new c le (at-get (IsCheckpoint n coins xs) old.checkpoints.items b c kept.checkpoints here)
+      is = checkpoint-of-new c le (at-get (IsCheckpoint n coins xs) old.checkpoints.items b c preserved.checkpoints here)
 
       was : IsCheckpoint n coins xs c
-      was = at-get (IsCheckpoint n coins xs) old.checkpoints.items b c kept.checkpoints here
+      was = at-get (IsCheckpoint n coins xs) old.checkpoints.items b c preserved.checkpoints here
 
-      flags : r.outputs.free.items ≡ (outputs n coins (take c.step xs) origin).free
-      flags =
+      randomness : r.outputs.free.items ≡ (outputs n coins (take c.step xs) origin).free
+      randomness =
           ap (λ (o : RunOutput). o.free) begins.output
-          ∙ (λ i. take (was.lengths i).free (kept.run.output i).free)
+          ∙ (λ i. take (was.lengths i).free (preserved.run.output i).free)
           ∙ ap (λ (o : RunOutput). o.free) (front-output n coins xs c.step)
 
   -- which old checkpoints it may meet
@@ -134,17 +134,17 @@ module _ (n : ℕ) (coins : ℕ → Bool) (K : ℕ) (xs : List Step) (count : �
   next-following e next le following =
       from-drop (λ c. s.old_end ≤ c.step) old.checkpoints.items e next le
       (All-weaker (λ c. (s.old_end ≤ c.step) × (c.step ≤ length xs)) (λ c. s.old_end ≤ c.step) (λ c p. p.0) (drop e old.checkpoints.items)
-      (all-following K (length xs) s.old_end e old.checkpoints.items kept.spaced.near following))
+      (all-following K (length xs) s.old_end e old.checkpoints.items preserved.spaced.near following))
 
   pub all-next : (next : ℕ) → IfSome (slice_get old.checkpoints.items next) (λ c. s.old_end ≤ c.step) → All (λ c. s.old_end ≤ c.step) (drop next old.checkpoints.items)
   all-next next following =
       All-weaker (λ c. (s.old_end ≤ c.step) × (c.step ≤ length xs)) (λ c. s.old_end ≤ c.step) (λ c p. p.0) (drop next old.checkpoints.items)
-      (all-following K (length xs) s.old_end next old.checkpoints.items kept.spaced.near following)
+      (all-following K (length xs) s.old_end next old.checkpoints.items preserved.spaced.near following)
 
   pub all-ascending : (p : Plan) (step : ℕ) → p.old_end ≡ s.old_end → p.new_end ≡ s.new_end → p.total ≡ length ys → length ys < 2 ^ 64
       → IfSome (slice_get old.checkpoints.items p.next) (λ c. s.old_end ≤ c.step) → step ≤ s.first → Ascending p step (drop p.next old.checkpoints.items)
   all-ascending p step old_end new_end total few following le =
-      ascending-following p K (length xs) step p.next old.checkpoints.items kept.spaced.near
+      ascending-following p K (length xs) step p.next old.checkpoints.items preserved.spaced.near
       (subst (λ e. IfSome (slice_get old.checkpoints.items p.next) (λ c. e ≤ c.step)) (sym old_end) following)
       (let w = span.old_within in omega (arith, old_end))
       (omega (arith, old_end, new_end, total, same-rest))
@@ -152,20 +152,20 @@ module _ (n : ℕ) (coins : ℕ → Bool) (K : ℕ) (xs : List Step) (count : �
       (let o = span.new_order in omega (arith, new_end))
 
   pub all-qubits : (m : ℕ) → m ≡ n → All (λ c. c.tableau.qubits ≡ m) old.checkpoints.items
-  all-qubits m is = All-weaker (IsCheckpoint n coins xs) (λ c. c.tableau.qubits ≡ m) (λ c h. h.qubits ∙ sym is) old.checkpoints.items kept.checkpoints
+  all-qubits m is = All-weaker (IsCheckpoint n coins xs) (λ c. c.tableau.qubits ≡ m) (λ c h. h.qubits ∙ sym is) old.checkpoints.items preserved.checkpoints
 
-  -- what is kept of its end
+  -- what is stored of its end
 
   pub front-checkpoints : (m : ℕ) → All (λ c. c.step < s.first + 1) (take m old.checkpoints.items) → All (IsCheckpoint n coins ys) (take m old.checkpoints.items)
   front-checkpoints m front = λ k d lt.
       checkpoint-of-new (get_or (take m old.checkpoints.items) k d) (let l = front k d lt in omega arith)
-      (All-take (IsCheckpoint n coins xs) m old.checkpoints.items kept.checkpoints k d lt)
+      (All-take (IsCheckpoint n coins xs) m old.checkpoints.items preserved.checkpoints k d lt)
 
   pub front-spaced : (m : ℕ) (b : IsBefore K (length xs) s.first m old.checkpoints.items)
       → IsSpaced K b.checkpoint.step (checkpoint_steps (take m old.checkpoints.items)) × (last_of 0 (checkpoint_steps (take m old.checkpoints.items)) ≡ b.checkpoint.step)
   front-spaced m b =
       subst (λ steps. IsSpaced K b.checkpoint.step steps × (last_of 0 steps ≡ b.checkpoint.step)) same
-      (spaced-front K (length xs) (checkpoint_steps old.checkpoints.items) (m - 1) b.checkpoint.step kept.spaced here)
+      (spaced-front K (length xs) (checkpoint_steps old.checkpoints.items) (m - 1) b.checkpoint.step preserved.spaced here)
     where
       same : take (m - 1 + 1) (checkpoint_steps old.checkpoints.items) ≡ checkpoint_steps (take m old.checkpoints.items)
       same = ap (λ k. take k (checkpoint_steps old.checkpoints.items)) (let o = b.some in omega arith) ∙ take-map (λ c. c.step) m old.checkpoints.items

@@ -1,8 +1,8 @@
 -- A frame between two runs: it passes steps that both have, past Pauli gates that are in the one or the other, and conjugates checkpoints.
-use Rattle.stab_session.proofs.Names.{◌≡◌, ℕ, ◌+◌, ◌≤◌, refl, sym, ◌∙◌, ap, subst, Bool, false, List, ◌++◌, append-nil, All, length, map, take, drop, replicate, Option, arith, drop-drop, drop_at, take_at, take-append-drop, length-append, length-drop, replicate-append-replicate, All-take, All-drop, take-add, Letter, I, with_sign, strings_anticommute, string_product, TableauState, stabilises, member, IsConjugated, Step, one, Lengths, gate_of, Point, RunOutput, nothing, origin, joined, point_after, outputs, all_coins_of, StepFits, lengths_of, after-append, outputs-append, joined-assoc, joined-nothing, flags-are-coins, coins-are, flipped_output, unflipped, Matches, PointsDifferBy, frame_of, identity_frame, AreFronts, frame_over, flips_over, AreTrue, same_coins, letters_on, AreEnough, PropagationState, frame_at, PropagatesOver, fronts-go-on, fronts-take-paulis, same-lengths, gates-fit, unflipped-output, unflipped-matches, by_frame-same, by_frame-paulis, by_frame-exchanged, true-rest, Checkpoint, IsCheckpoint, AreEnoughBy, ArePaulis, IsFrameBetween}
+use Rattle.stab_session.proofs.Names.{◌≡◌, ℕ, ◌+◌, ◌≤◌, refl, sym, ◌∙◌, ap, subst, Bool, false, List, ◌++◌, append-nil, All, length, map, take, drop, replicate, Option, arith, drop-drop, drop_at, take_at, take-append-drop, length-append, length-drop, replicate-append-replicate, All-take, All-drop, take-add, Letter, I, with_sign, strings_anticommute, string_product, TableauState, stabilises, member, IsConjugated, Step, one, Lengths, gate_of, Point, RunOutput, nothing, origin, joined, point_after, outputs, all_coins_of, StepFits, lengths_of, after-append, outputs-append, joined-assoc, joined-nothing, randomness-is-coins, coins-are, flipped_output, unflipped, Matches, PointsDifferBy, frame_of, identity_frame, AreFronts, frame_over, flips_over, AreTrue, same_coins, letters_on, AreEnough, PropagationState, frame_at, PropagatesOver, fronts-go-on, fronts-take-paulis, same-lengths, gates-fit, unflipped-output, unflipped-matches, by_frame-same, by_frame-paulis, by_frame-exchanged, true-rest, Checkpoint, IsCheckpoint, AreEnoughBy, ArePaulis, IsFrameBetween}
 use Rattle.stab_recording.proofs.FlippedLemmas.{flips-random}
-use Rattle.stab_recording.proofs.RestPropagatedLemmas.{flags-counted, rest-flags}
-use Rattle.stab_session.proofs.SamePivotsLemmas.{IsReached, reached-on, pivots-distinct, flags-distinct, gates-random}
+use Rattle.stab_recording.proofs.RestPropagatedLemmas.{randomness-counted, rest-randomness}
+use Rattle.stab_session.proofs.SamePivotsLemmas.{IsReached, reached-on, pivots-distinct, randomness-distinct, gates-random}
 
 -- the steps of a run up to a step are some, if this many of those after another step are
 
@@ -31,7 +31,7 @@ module _ {n : ℕ} {coins : ℕ → Bool} {xs ys : List Step} {strings : ℕ →
     piece_fits = All-take (StepFits n) m (drop new ys) (All-drop (StepFits n) new ys b.new_fit)
 
     determined : AreEnough n coins (same_coins strings) piece (frame_at base w) here
-    determined = enough coins here base (sym b.coin) b.are_true b.flags
+    determined = enough coins here base (sym b.coin) b.are_true b.randomness
 
     frames : frame_over n (same_coins strings) piece here.coin (frame_at base w) ≡ frame_at base v
     frames = (λ i. frame_over n (same_coins strings) piece (sym b.coin i) (frame_at base w)) ∙ sym (propagated.frame base)
@@ -67,13 +67,13 @@ module _ {n : ℕ} {coins : ℕ → Bool} {xs ys : List Step} {strings : ℕ →
           subst (λ x. x) (λ i. AreTrue n coins strings (sym rest i) (sym point i))
           (true-rest n coins strings piece (drop m (drop new ys)) here
           (subst (λ zs. AreTrue n coins strings zs here) (sym (take-append-drop m (drop new ys))) b.are_true));
-      flags =
+      randomness =
           (λ i. (outputs n coins (rest i) (point i)).free)
-          ∙ rest-flags (outputs n coins piece here).free (outputs n coins (drop m (drop new ys)) (point_after n coins piece here)).free free w.coin (all_coins_of piece) v.coin
+          ∙ rest-randomness (outputs n coins piece here).free (outputs n coins (drop m (drop new ys)) (point_after n coins piece here)).free free w.coin (all_coins_of piece) v.coin
           (sym (ap (λ (o : RunOutput). o.free) (outputs-append n coins piece (drop m (drop new ys)) here))
           ∙ ap (λ zs. (outputs n coins zs here).free) (take-append-drop m (drop new ys))
-          ∙ b.flags)
-          (flags-counted n coins piece here) propagated.coin;
+          ∙ b.randomness)
+          (randomness-counted n coins piece here) propagated.coin;
       flagged = b.flagged + all_coins_of piece;
       unflagged =
           ap (λ (o : RunOutput). o.free) (propagated.flips base)
@@ -129,12 +129,12 @@ module _ {n : ℕ} {coins : ℕ → Bool} {xs ys : List Step} {strings : ℕ →
           (pivots-distinct n coins (point_after n coins (map (one (gate_of m)) rs) here) (point_after n coins (map (one (gate_of l)) qs) here) _ new_rest rest_fits following distinct strings
           (true-rest n coins strings (map (one (gate_of m)) rs) new_rest here
           (subst (λ zs. AreTrue n coins strings zs here) new_there b.are_true)));
-      flags =
+      randomness =
           (λ i. (outputs n coins (rest_is i) (there i)).free)
-          ∙ flags-distinct n coins (point_after n coins (map (one (gate_of m)) rs) here) (point_after n coins (map (one (gate_of l)) qs) here) _ new_rest rest_fits following distinct
+          ∙ randomness-distinct n coins (point_after n coins (map (one (gate_of m)) rs) here) (point_after n coins (map (one (gate_of l)) qs) here) _ new_rest rest_fits following distinct
           ∙ sym (gates-random n coins m rs new_rest here)
           ∙ ap (λ zs. (outputs n coins zs here).free) (sym new_there)
-          ∙ b.flags;
+          ∙ b.randomness;
       flagged = b.flagged;
       unflagged = b.unflagged;
     }
@@ -164,7 +164,7 @@ pub between-first : (n : ℕ) (coins : ℕ → Bool) (xs ys : List Step) (string
     → AreTrue n coins strings (drop first ys) (point_after n coins (take first xs) origin)
     → (outputs n coins (drop first ys) (point_after n coins (take first xs) origin)).free ≡ drop from.free free
     → IsFrameBetween n coins xs ys strings free (length (point_after n coins (take first xs) origin).records) (unflipped (outputs n coins (take first xs) origin)) first first w
-between-first n coins xs ys strings free first number from w old_fit new_fit old_within new_within same from_is begun are_true flags = record {
+between-first n coins xs ys strings free first number from w old_fit new_fit old_within new_within same from_is begun are_true randomness = record {
   old_fit = old_fit;
   new_fit = new_fit;
   old_within = old_within;
@@ -179,9 +179,9 @@ between-first n coins xs ys strings free first number from w old_fit new_fit old
         ∙ ap (flipped_output (outputs n coins (take first xs) origin)) none;
     matches = subst (λ x. x) (λ i. Matches (outputs n coins (take first xs) origin) (none i)) (unflipped-matches (outputs n coins (take first xs) origin));
   };
-  coin = coin ∙ ap (λ (l : Lengths). l.free) from_is ∙ flags-are-coins n coins (take first xs);
+  coin = coin ∙ ap (λ (l : Lengths). l.free) from_is ∙ randomness-is-coins n coins (take first xs);
   are_true = are_true;
-  flags = flags ∙ ap (λ c. drop c free) (sym coin);
+  randomness = randomness ∙ ap (λ c. drop c free) (sym coin);
   flagged = 0;
   unflagged = ap (λ (v : PropagationState). v.flips.free) begun;
 }

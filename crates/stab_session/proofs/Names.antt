@@ -32,7 +32,7 @@ pub use Rattle.stab_frames.specs.FrameSteps.{frame_over, flips_over}
 pub use Rattle.stab_frames.specs.Frames.{Frame, PointsDifferBy, frame_of, identity_frame}
 pub use Rattle.stab_frames.specs.FirstSteps.{AreFronts}
 pub use Rattle.stab_frames.specs.Limits.{most_strings}
-pub use Rattle.stab_frames.specs.Pivots.{AreTrue, PivotsState, pivot_at, front_kept, cut_to}
+pub use Rattle.stab_frames.specs.Pivots.{AreTrue, PivotsState, pivot_at, front_stored, cut_to}
 pub use Rattle.stab_frames.specs.PivotsOfSteps.{AreEnough, AreRight}
 pub use Rattle.stab_frames.specs.Propagations.{PropagationState, frame_at, IsGone, PropagatesOver, IsPlaced}
 pub use Rattle.stab_frames.specs.RunPivots.{same_coins}
@@ -51,7 +51,7 @@ pub use Rattle.stab_run.proofs.FitLemmas.{check-fits, check-steps, check-whole, 
 pub use Rattle.stab_run.proofs.FixedLemmas.{fixed-future, fixed-front}
 pub use Rattle.stab_run.proofs.FutureBackLemmas.{same-future-back}
 pub use Rattle.stab_run.proofs.FutureLemmas.{same-future}
-pub use Rattle.stab_run.proofs.PointLemmas.{flags-are-coins, records-are-records, front-output, HasAtMost, outputs-short, cut, rest-output}
+pub use Rattle.stab_run.proofs.PointLemmas.{randomness-is-coins, records-are-records, front-output, HasAtMost, outputs-short, cut, rest-output}
 pub use Rattle.stab_run.proofs.RecordLemmas.{ones-append}
 pub use Rattle.stab_run.proofs.RunLemmas.{after-append, outputs-append, joined-nothing, joined-assoc}
 pub use Rattle.stab_run.proofs.StepsLeftLemmas.{take-empty, drop-empty, take-none, drop-none}
@@ -77,7 +77,7 @@ pub use Rattle.stab_recording.specs.Meets.{Meets}
 pub use Rattle.stab_session.specs.PassedSites.{IsFrameBetween, IsBeforePiece, IsBeforeSites}
 pub use Rattle.stab_session.specs.PauliSpans.{ArePaulis, DifferByPaulis, DifferAtSites}
 pub use Rattle.stab_recording.specs.PivotLists.{KeepsPivotList, IsSpliced}
-pub use Rattle.stab_rounds.specs.Spans.{IsSpan}
+pub use Rattle.stab_run.specs.Spans.{IsSpan}
 pub use Rattle.stab_session.specs.Recordings.{IsRecording, AgreeAfterSpan, AgreeBackAfterSpan, IsSameRecording, Follows}
 pub use Rattle.stab_recording.specs.Replays.{MeetsAt, Misses, EndsSoon, step_among_new, IsReplay, Ascending, IsEnd}
 pub use Rattle.stab_recording.specs.declared.propagate.Stop.TheVariants.{NoString}

@@ -86,5 +86,5 @@ module _ {n : ℕ} {xs ys : List Step} {s : Span} {letters : List Letter} {i j :
           (subst (λ zs. AreTrue n coins strings zs origin) (sym (take-append-drop s.first xs)) are))
           (span-true are))
 
-      pub span-flags : (outputs n coins (drop s.first ys) here).free ≡ drop (length (outputs n coins (take s.first xs) origin).free) (outputs n coins xs origin).free
-      span-flags = same.flags ∙ ap (λ (o : RunOutput). o.free) (sym (rest-output n coins xs s.first))
+      pub span-randomness : (outputs n coins (drop s.first ys) here).free ≡ drop (length (outputs n coins (take s.first xs) origin).free) (outputs n coins xs origin).free
+      span-randomness = same.randomness ∙ ap (λ (o : RunOutput). o.free) (sym (rest-output n coins xs s.first))

@@ -19,7 +19,7 @@ pub record IsPropagatedRun (n : ℕ) (coins : ℕ → Bool) (xs ys back : List S
   pub are_true : AreTrue n coins (pivot_at strings.strings free) ys origin
   pub near : All (LooksWithin window) ys
   pub output : o ≡ outputs n coins xs origin
-  pub flags : free ≡ o.free
+  pub randomness : free ≡ o.free
   pub has_pivots : KeepsPivotList n coins xs strings free window
   pub are_checkpoints : All (IsCheckpoint n coins xs) checkpoints
   pub order : AreInOrder i (length xs) checkpoints
@@ -48,7 +48,7 @@ module _ (n : ℕ) (coins : ℕ → Bool) (xs ys back : List Step) (i k : ℕ) (
     by_frame = r.between.fronts.by_frame;
     coin = r.between.coin;
     are_true = subst (λ zs. AreTrue n coins (pivot_at strings.strings free) zs old_point) r.new_after r.between.are_true;
-    flags = subst (λ zs. (outputs n coins zs old_point).free ≡ drop old.coin free) r.new_after r.between.flags;
+    randomness = subst (λ zs. (outputs n coins zs old_point).free ≡ drop old.coin free) r.new_after r.between.randomness;
     are_checkpoints = r.are_checkpoints;
     order = r.order;
     advanced = r.advanced;
@@ -101,31 +101,31 @@ module _ (n : ℕ) (coins : ℕ → Bool) (xs ys back : List Step) (i k : ℕ) (
       rest_is : rest_of from o ≡ since
       rest_is = (λ j. rest_of (r.from_is j) (r.output j)) ∙ rest-output n coins xs r.first
 
-  -- its flags are those of the old one, and so its strings are
+  -- its randomness is that of the old one, and so its strings are those
 
   abbrev flagged : ℕ
   flagged = r.between.flagged + all_coins_of (take r.advanced.steps back)
 
-  flags_kept : (bits : List Bool) → flipped bits new.flips.free ≡ flipped bits []
-  flags_kept bits = ap (flipped bits) (advanced-unflagged (rest-after rest) r.between.flagged r.between.unflagged) ∙ flipped-zeros bits flagged ∙ sym (flipped-empty bits)
+  randomness_preserved : (bits : List Bool) → flipped bits new.flips.free ≡ flipped bits []
+  randomness_preserved bits = ap (flipped bits) (advanced-unflagged (rest-after rest) r.between.flagged r.between.unflagged) ∙ flipped-zeros bits flagged ∙ sym (flipped-empty bits)
 
   pub run-unflagged : (q : RunOutput) → flipped_output q new.flips ≡ flipped_output q (record new.flips { free = [] })
   run-unflagged q = λ j. record {
     records = flipped q.records new.flips.records;
-    free = flags_kept q.free j;
+    free = randomness_preserved q.free j;
     outcomes = flipped q.outcomes new.flips.outcomes;
     detectors = flipped q.detectors new.flips.detectors;
     additions = flipped_additions q.additions new.flips.additions;
   }
 
-  pub run-flags : (joined (front_of from o) (flipped_output (rest_of from o) new.flips)).free ≡ free
-  run-flags =
+  pub run-randomness : (joined (front_of from o) (flipped_output (rest_of from o) new.flips)).free ≡ free
+  run-randomness =
       ap (λ bits. take from.free o.free ++ bits)
-      (flags_kept (drop from.free o.free) ∙ flipped-empty (drop from.free o.free))
+      (randomness_preserved (drop from.free o.free) ∙ flipped-empty (drop from.free o.free))
       ∙ take-append-drop from.free o.free
-      ∙ sym r.flags
+      ∙ sym r.randomness
 
   pub run-has_pivots : KeepsPivotList n coins ys strings (joined (front_of from o) (flipped_output (rest_of from o) new.flips)).free window
   run-has_pivots =
-      subst (λ bits. KeepsPivotList n coins ys strings bits window) (sym run-flags)
+      subst (λ bits. KeepsPivotList n coins ys strings bits window) (sym run-randomness)
       (record { size = r.has_pivots.size; numbered = r.has_pivots.numbered; are_true = r.are_true; near = r.near })

@@ -17,7 +17,7 @@ pub record IsPropagatedRest (n : ℕ) (coins : ℕ → Bool) (xs ys back : List 
   pub by_frame : PointsDifferBy n (frame_at base old) (point_after n coins (take i xs) origin) (point_after n coins (take k ys) origin)
   pub coin : old.coin ≡ (point_after n coins (take i xs) origin).coin
   pub are_true : AreTrue n coins (pivot_at strings.strings free) back (point_after n coins (take i xs) origin)
-  pub flags : (outputs n coins back (point_after n coins (take i xs) origin)).free ≡ drop old.coin free
+  pub randomness : (outputs n coins back (point_after n coins (take i xs) origin)).free ≡ drop old.coin free
   pub are_checkpoints : All (IsCheckpoint n coins xs) checkpoints
   pub order : AreInOrder i (length xs) checkpoints
   pub advanced : IsRestFrame n strings.strings free window back i checkpoints conjugated old new
@@ -33,7 +33,7 @@ module _ {n : ℕ} {coins : ℕ → Bool} {xs ys back : List Step} {i k : ℕ} {
     coin = sym r.coin;
     within = r.advanced.within;
     propagated = r.advanced.propagated;
-    determined = r.advanced.enough coins (point_after n coins (take i xs) origin) base (sym r.coin) r.are_true r.flags;
+    determined = r.advanced.enough coins (point_after n coins (take i xs) origin) base (sym r.coin) r.are_true r.randomness;
   }
 
   -- how it ended

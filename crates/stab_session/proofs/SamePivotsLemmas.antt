@@ -1,4 +1,4 @@
--- Same pivots: what was recorded of a run is true of it with steps that differ from its own by Pauli gates, and its flags are the same.
+-- Same pivots: what was recorded of a run is true of it with steps that differ from its own by Pauli gates, and its randomness is the same.
 use Rattle.stab_session.proofs.Names.{◌≡◌, ℕ, ◌<◌, refl, sym, ◌∙◌, ap, subst, Bool, List, [], ◌∷◌, ◌++◌, append_assoc, All, map, take, Option, All-nil, All-cons, All-head, All-tail, All-append, All-take, Letter, member, IsStabiliserGroup, Step, one, gate_of, Point, RunOutput, origin, next_point, point_after, outputs, all_coins_of, StepFits, after-append, outputs-append, flipped, Frame, PointsDifferBy, same_coins, AreRight, AreEnough, AreTrue, gates-fit, group-origin, gates-give-nothing, right-enough, enough-before, run-pivots, by_frame-exchanged, over-by_frame, true-append, true-front, true-rest, true-conjugated, interleaved}
 use Rattle.stab_recording.proofs.FlippedLemmas.{flips-random, flipped-zeros}
 
@@ -50,8 +50,8 @@ module _ (n : ℕ) (coins : ℕ → Bool) (a b : Point) (f : Frame) (zs : List S
       (λ m. (_, (over-by_frame n coins (same_coins has_pivots.0) (take m zs) f a b (All-take (StepFits n) m zs fits) group (enough-before n coins (same_coins has_pivots.0) m zs f a enough) distinct).1.group))
       are
 
-  pub flags-distinct : (outputs n coins zs b).free ≡ (outputs n coins zs a).free
-  flags-distinct =
+  pub randomness-distinct : (outputs n coins zs b).free ≡ (outputs n coins zs a).free
+  randomness-distinct =
       ap (λ (o : RunOutput). o.free) (over-by_frame n coins (same_coins has_pivots.0) zs f a b fits group enough distinct).0
       ∙ ap (flipped (outputs n coins zs a).free) (flips-random n (same_coins has_pivots.0) zs a.coin f)
       ∙ flipped-zeros (outputs n coins zs a).free (all_coins_of zs)
@@ -68,18 +68,18 @@ gates-random n coins l qs zs a =
     ap (λ (o : RunOutput). o.free) (outputs-append n coins (map (one (gate_of l)) qs) zs a)
     ∙ ap (λ (o : RunOutput). o.free ++ (outputs n coins zs (point_after n coins (map (one (gate_of l)) qs) a)).free) (gates-give-nothing n coins l qs a)
 
--- from a point on, pivots that are true with the one steps are so with the others, and the flags are the same
+-- from a point on, pivots that are true with the one steps are so with the others, and the randomness is the same
 pub record AreSamePivots (n : ℕ) (coins : ℕ → Bool) (strings : ℕ → Option (List Letter)) (zs ws : List Step) (a : Point) : Type 0 where
   pub are_true : AreTrue n coins strings zs a → AreTrue n coins strings ws a
-  pub flags : (outputs n coins ws a).free ≡ (outputs n coins zs a).free
+  pub randomness : (outputs n coins ws a).free ≡ (outputs n coins zs a).free
 
 piece-same : (n : ℕ) (coins : ℕ → Bool) (strings : ℕ → Option (List Letter)) (xs zs ws : List Step) (a : Point)
     → AreSamePivots n coins strings zs ws (point_after n coins xs a) → AreSamePivots n coins strings (xs ++ zs) (xs ++ ws) a
 piece-same n coins strings xs zs ws a same = record {
   are_true = λ are. true-append n coins strings xs ws a (true-front n coins strings xs zs a are) (same.are_true (true-rest n coins strings xs zs a are));
-  flags =
+  randomness =
       ap (λ (o : RunOutput). o.free) (outputs-append n coins xs ws a)
-      ∙ ap (λ bits. (outputs n coins xs a).free ++ bits) same.flags
+      ∙ ap (λ bits. (outputs n coins xs a).free ++ bits) same.randomness
       ∙ sym (ap (λ (o : RunOutput). o.free) (outputs-append n coins xs zs a));
 }
 
@@ -93,11 +93,11 @@ module _ (n : ℕ) (coins : ℕ → Bool) (strings : ℕ → Option (List Letter
         (pivots-distinct n coins (point_after n coins (map (one (gate_of l)) qs) a) (point_after n coins (map (one (gate_of m)) rs) a) _ ws fits there
         (by_frame-exchanged n coins l m qs rs left right a) strings
         (same.are_true (true-rest n coins strings (map (one (gate_of l)) qs) zs a are)));
-    flags =
+    randomness =
         gates-random n coins m rs ws a
-        ∙ flags-distinct n coins (point_after n coins (map (one (gate_of l)) qs) a) (point_after n coins (map (one (gate_of m)) rs) a) _ ws fits there
+        ∙ randomness-distinct n coins (point_after n coins (map (one (gate_of l)) qs) a) (point_after n coins (map (one (gate_of m)) rs) a) _ ws fits there
         (by_frame-exchanged n coins l m qs rs left right a)
-        ∙ same.flags
+        ∙ same.randomness
         ∙ sym (gates-random n coins l qs zs a);
   }
     where
@@ -107,7 +107,7 @@ module _ (n : ℕ) (coins : ℕ → Bool) (strings : ℕ → Option (List Letter
   -- and so before each of some pieces
   pub interleaved-same : (pieces : List (List Step)) (back : List Step) (a : Point) → All (StepFits n) (interleaved (map (one (gate_of m)) rs) pieces ++ back) → IsReached n coins a
       → AreSamePivots n coins strings (interleaved (map (one (gate_of l)) qs) pieces ++ back) (interleaved (map (one (gate_of m)) rs) pieces ++ back) a
-  interleaved-same [] back a fits r = record { are_true = λ are. are; flags = refl }
+  interleaved-same [] back a fits r = record { are_true = λ are. are; randomness = refl }
   interleaved-same (p ∷ ps) back a fits r =
       subst (λ x. x)
       (λ i. AreSamePivots n coins strings (sym (distinct (map (one (gate_of l)) qs) (interleaved (map (one (gate_of l)) qs) ps)) i) (sym (distinct (map (one (gate_of m)) rs) (interleaved (map (one (gate_of m)) rs) ps)) i) a)

@@ -31,7 +31,7 @@ module _ {C : Type 0} (sequence : C → ℕ → Bool) (items : Items) (stride : 
             is.observables
             ∙ ap (λ (o : RunOutput). with_additions o.additions (replicate count false)) is.run.output
             ∙ sym (ap (λ (s : State). s.observables) all);
-        decided = subst (λ flags. DependsOnCoinsAt flags n bits items) (sym free) (run_of-same n bits items);
+        decided = subst (λ randomness. DependsOnCoinsAt randomness n bits items) (sym free) (run_of-same n bits items);
       }
 
   -- the strings that stabilise its state are those of the run's group

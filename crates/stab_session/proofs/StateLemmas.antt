@@ -45,8 +45,8 @@ module _ (k K : ℕ) (ts : List TableauState) (cs put : List Checkpoint) (within
   pub put-saved : (m : ℕ) (s : Meeting) (room taken left others mid saved : List Checkpoint) → m ≤ k → room ≡ [] → taken ≡ room ++ reverse (map (moved_checkpoint s) (drop k put))
       → left ≡ take k put → mid ≡ all_saved K (reverse others) (take m left) → saved ≡ all_saved K (reverse taken) mid
       → saved ≡ all_saved K (map (moved_checkpoint s) (with_states ts (drop k cs))) (all_saved K (reverse others) (take m cs))
-  put-saved m s room taken left others mid saved order empty took kept between done =
-      done ∙ (λ i. all_saved K (conjugated i) ((between ∙ ap (all_saved K (reverse others)) (ap (take m) (kept ∙ put-front) ∙ take-take m k cs order)) i))
+  put-saved m s room taken left others mid saved order empty took preserved between done =
+      done ∙ (λ i. all_saved K (conjugated i) ((between ∙ ap (all_saved K (reverse others)) (ap (take m) (preserved ∙ put-front) ∙ take-take m k cs order)) i))
     where
       conjugated : reverse taken ≡ map (moved_checkpoint s) (with_states ts (drop k cs))
       conjugated =

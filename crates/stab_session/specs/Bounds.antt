@@ -1,4 +1,4 @@
--- Bounds: what an edit of a session may cost, in steps that are carried out and checkpoints of the state that are kept.
+-- Bounds: what an edit of a session may cost, in steps that are carried out and checkpoints of the state that are stored.
 -- Source: this project's own.
 use Rattle.std.specs.Prelude.{ℕ, ◌+◌, ◌-◌, ◌*◌, ◌/◌, Bool, List, [], ◌∷◌, Option, Some, None, Result, Ok, Err, length, take, drop, slice_get}
 use Rattle.stab_io.specs.declared.refusal.Refusal.{Refusal}
@@ -16,7 +16,7 @@ use Rattle.stab_session.specs.Sessions.{SessionState}
 abbrev pub number_of_steps : {C : Type 0} → SessionState C → ℕ
 number_of_steps s = length (unroll s.items)
 
--- at most this many checkpoints are kept: two for each stride of steps, and two more
+-- at most this many checkpoints are stored: two for each stride of steps, and two more
 abbrev pub most_checkpoints : {C : Type 0} → SessionState C → ℕ
 most_checkpoints s = 2 * (number_of_steps s / s.stride) + 2
 

@@ -3,7 +3,7 @@
 use Rattle.std.specs.Prelude.{ℕ, ◌+◌, ◌-◌, ◌*◌, ◌≤◌, Bool, List, All, length}
 use Rattle.stab_items.specs.Steps.{Step, HasDistinctQubits}
 use Rattle.stab_items.specs.declared.edit.Span.{Span}
-use Rattle.stab_rounds.specs.Spans.{IsSpan}
+use Rattle.stab_run.specs.Spans.{IsSpan}
 use Rattle.stab_run.specs.Records.{ones}
 use Rattle.stab_run.specs.Points.{all_coins_of}
 use Rattle.stab_recording.specs.Checkpoints.{checkpoint_steps}
@@ -21,10 +21,10 @@ pub record IsWay (n : ℕ) (coins : ℕ → Bool) (K : ℕ) (ys : List Step) (s 
   pub counted : (xs : List Step) (count : ℕ) → IsRecording n coins K xs count old → IsSpan xs ys s
       → IsCounted (AgreeAfterSpan n coins xs ys s) (AgreeBackAfterSpan n coins xs ys s) (checkpoint_steps old.checkpoints.items) s.first s.old_end s.new_end (length ys) passed
 
--- an edit was followed: what is kept is the run of the new steps, with this many observables, and these are the steps that it took and, before
+-- an edit was followed: what is stored is the run of the new steps, with this many observables, and these are the steps that it took and, before
 -- and after it, the numbers of coins asked for
 pub record HasFollowed (n : ℕ) (coins : ℕ → Bool) (K : ℕ) (ys : List Step) (observables : ℕ) (s : Span) (before after : ℕ) (old : Recording) (f : Followed) (new : Recording) : Type 0 where
-  pub kept : IsRecording n coins K ys observables new
+  pub preserved : IsRecording n coins K ys observables new
   pub distinct : All HasDistinctQubits ys
   pub way : IsWay n coins K ys s old (f.applied + f.by_frame)
   pub tried : f.tried ≤ 3 * (length ys - s.first)

@@ -1,9 +1,9 @@
 -- The headline: what a session is, after any list of edits, whatever its coins.
 --
--- Its records, flags, detectors and observables are those of the run of its present items on its n qubits with its coins, from the
+-- Its records, randomness, detectors and observables are those of the run of its present items on its n qubits with its coins, from the
 -- first step on: nothing of earlier items is left in them. So are the signed strings that stabilise its state: what `sign_of` and
 -- `reduced_rows` answer is said of the members of that run's group. Flag t is 1 if and only if neither sign of what was measured with coin
--- t was in the group, and so the coin decided; coins that are the same where the flags are 1 make the same run.
+-- t was in the group, and so the coin decided; coins that are the same where the randomness is 1 make the same run.
 -- Source: this project's own, over the stabiliser groups of Gottesman 1997.
 use Rattle.std.specs.Prelude.{◌≡◌, ℕ, Bool}
 use Rattle.stab_run.specs.Runs.{run_of}

@@ -16,7 +16,7 @@ use Rattle.stab_session.specs.PauliSpans.{DifferAtSites}
 use Rattle.stab_session.specs.declared.past_sites.PauliChange.{PauliChange}
 
 -- after this many steps an old run and a new one differ by a frame that began after some records, and what both had given differed by
--- some flips; what was recorded of the old run is true of it there with the steps that the new one has left, and so are the flags
+-- some flips; what was recorded of the old run is true of it there with the steps that the new one has left, and so is the randomness
 pub record IsFrameBetween (n : ℕ) (coins : ℕ → Bool) (xs ys : List Step) (strings : ℕ → Option (List Letter)) (free : List Bool) (base : ℕ) (front : RunOutput)
     (old new : ℕ) (w : PropagationState) : Type 0 where
   pub old_fit : All (StepFits n) xs
@@ -26,7 +26,7 @@ pub record IsFrameBetween (n : ℕ) (coins : ℕ → Bool) (xs ys : List Step) (
   pub fronts : AreFronts n coins coins (take old xs) (take new ys) (frame_at base w) (joined front w.flips)
   pub coin : w.coin ≡ (point_after n coins (take old xs) origin).coin
   pub are_true : AreTrue n coins strings (drop new ys) (point_after n coins (take old xs) origin)
-  pub flags : (outputs n coins (drop new ys) (point_after n coins (take old xs) origin)).free ≡ drop w.coin free
+  pub randomness : (outputs n coins (drop new ys) (point_after n coins (take old xs) origin)).free ≡ drop w.coin free
   pub flagged : ℕ
   pub unflagged : w.flips.free ≡ replicate flagged false
 

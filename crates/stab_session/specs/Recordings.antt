@@ -1,10 +1,10 @@
--- Recordings: a run that is kept with checkpoints of its state, and another one whose steps differ from its within a span.
+-- Recordings: a run that is stored with checkpoints of its state, and another one whose steps differ from its within a span.
 -- Source: this project's own.
 use Rattle.std.specs.Prelude.{◌≡◌, ℕ, ◌+◌, ◌≤◌, Bool, false, List, All, Option, IfSome, length, take, drop, replicate}
 use Rattle.stab_items.specs.Steps.{Step, most_steps}
 use Rattle.stab_session.specs.declared.recording.Recording.{Recording}
 use Rattle.stab_items.specs.declared.edit.Span.{Span}
-use Rattle.stab_rounds.specs.Spans.{IsSpan}
+use Rattle.stab_run.specs.Spans.{IsSpan}
 use Rattle.stab_run.specs.Points.{origin, point_after, with_additions}
 use Rattle.stab_run.specs.Laws.{AgreeAt}
 use Rattle.stab_session.specs.Counts.{AgreeAsFarAsLooked}
@@ -16,7 +16,7 @@ use Rattle.stab_recording.specs.PivotLists.{KeepsPivotList}
 use Rattle.stab_session.specs.PauliSpans.{DifferByPaulis}
 use Rattle.stab_session.specs.declared.past_sites.PauliChange.{PauliChange}
 
--- what is kept is the run of these steps, which fit on the qubits, with this many observables, strings up to the limit, and checkpoints at most
+-- what is stored is the run of these steps, which fit on the qubits, with this many observables, strings up to the limit, and checkpoints at most
 -- K steps from each other
 pub record IsRecording (n : ℕ) (coins : ℕ → Bool) (K : ℕ) (xs : List Step) (count : ℕ) (r : Recording) : Type 0 where
   pub qubits : r.tableau.qubits ≡ n
@@ -38,11 +38,11 @@ pub record IsSameRecording (a b : Recording) : Type 0 where
   pub window : a.window ≡ b.window
   pub checkpoints : a.checkpoints.items ≡ b.checkpoints.items
 
--- what is kept is the run of other steps, from which these differ within the span; if a change is given, by Pauli gates alone, as it says
+-- what is stored is the run of other steps, from which these differ within the span; if a change is given, by Pauli gates alone, as it says
 pub record Follows (n : ℕ) (coins : ℕ → Bool) (K : ℕ) (ys : List Step) (s : Span) (paulis : Option PauliChange) (r : Recording) : Type 0 where
   pub old : List Step
   pub count : ℕ
-  pub kept : IsRecording n coins K old count r
+  pub preserved : IsRecording n coins K old count r
   pub span : IsSpan old ys s
   pub differ : IfSome paulis (λ p. DifferByPaulis n old ys s p.string.letters p.old p.new p.gaps.items)
 

@@ -6,7 +6,7 @@ use Rattle.stab_tableau.specs.Rules.{is_random_by}
 use Rattle.stab_items.specs.Items.{Items}
 
 -- the items, the number of qubits, the stride, the source of coins, the four lists, and the steps before which checkpoints of the state of the
--- qubits are kept
+-- qubits are stored
 pub record SessionState (C : Type 0) : Type 0 where
   pub items : Items
   pub qubits : ℕ

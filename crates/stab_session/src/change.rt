@@ -7,7 +7,7 @@ ghost use Rattle.stab_items.specs.Views.{circuit_items};
 ghost use Rattle.stab_items.specs.Repeats.{AreRepeats};
 ghost use Rattle.stab_items.specs.declared.edit.Edit.{Edit};
 ghost use Rattle.stab_items.specs.declared.edit.Span.{Span as span_type};
-ghost use Rattle.stab_rounds.specs.Spans.{IsEditOf};
+ghost use Rattle.stab_run.specs.Spans.{IsEditOf};
 ghost use Rattle.stab_session.specs.PauliSpans.{DifferByPaulis};
 ghost use Rattle.stab_session.specs.inner.Pendings.{IsBegun};
 ghost use Rattle.stab_session.specs.inner.PauliItems.{AreAccepted};
@@ -18,7 +18,7 @@ use crate::pending::Pending;
 use stab_circuit::Circuit;
 use stab_io::Refusal;
 use stab_items::{Repeat, Span};
-use stab_rounds::edited_rounds;
+use stab_run::edited_rounds;
 use std::alloc::Global;
 
 /// What an edit changes.

@@ -276,7 +276,7 @@ impl Recording {
 
     /// Makes this the run of an edited circuit, whose steps differ within the span by Pauli gates alone,
     /// as a change says, by conjugating it where it lies. `None`, and nothing has changed, where a frame
-    /// can't give the new run, or a checkpoint must be kept; the steps that it passed are then counted. Checkpoints are looked at
+    /// can't give the new run, or a checkpoint must be stored; the steps that it passed are then counted. Checkpoints are looked at
     /// in the memory of a spare tableau if there is one.
     ///
     /// Refusal `OutOfMemory` alone; then nothing has changed either.

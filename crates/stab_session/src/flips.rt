@@ -45,7 +45,7 @@ fn flip_additions_from(additions: &mut Vec<Addition>, from: usize, flips: &[Addi
     flip_additions(rest, flips);
 }
 
-/// Flips what a run gave after these lengths, as a frame says that was propagated over what is there. The flags of coin numbers are as
+/// Flips what a run gave after these lengths, as a frame says that was propagated over what is there. The randomness of coin numbers is as
 /// they were. It takes no memory.
 pub fn flip_outputs(outputs: &mut Outputs, from: Lengths, propagation: &Propagation)
     ensures value { output_of outputs.new ≡ joined (front_of from (output_of outputs.old)) (flipped_output (rest_of from (output_of outputs.old)) (record propagation.now.flips { free = [] })) }

@@ -12,8 +12,7 @@ ghost use Rattle.stab_session.specs.Recordings.{IsRecording};
 use crate::recording::Recording;
 use stab_io::{Fault, Refusal};
 use stab_items::{Circuit, Repeat, Span};
-use stab_rounds::find_rounds;
-use stab_run::Coins;
+use stab_run::{Coins, find_rounds};
 use std::alloc::Global;
 
 /// A recording, and where the steps that it is of come again.
@@ -35,7 +34,7 @@ pub fn record_run<C: Coins>(
 ) -> Result<Recorded, Fault>
     requires in_range { n ≤ most_qubits }
     requires stride { 1 ≤ stride }
-    ensures kept { IfOk result (λ r. IsRecording n (C.sequence coins.old) stride (unroll (circuit_items circuit.now)) (observables_of (circuit_items circuit.now)) r.recording) }
+    ensures preserved { IfOk result (λ r. IsRecording n (C.sequence coins.old) stride (unroll (circuit_items circuit.now)) (observables_of (circuit_items circuit.now)) r.recording) }
     ensures repeats { IfOk result (λ r. AreRepeats 0 (unroll (circuit_items circuit.now)) r.repeats.items) }
     ensures distinct { OnOk result (All HasDistinctQubits (unroll (circuit_items circuit.now))) }
     ensures refused { Refuses result (check_within n (circuit_items circuit.now)) }
@@ -58,7 +57,7 @@ fn run_checked<C: Coins>(
     requires in_range { n ≤ most_qubits }
     requires stride { 1 ≤ stride }
     requires checked { check_within n (circuit_items circuit.now) ≡ None }
-    ensures kept { IfOk result (λ r. IsRecording n (C.sequence coins.old) stride (unroll (circuit_items circuit.now)) (observables_of (circuit_items circuit.now)) r.recording) }
+    ensures preserved { IfOk result (λ r. IsRecording n (C.sequence coins.old) stride (unroll (circuit_items circuit.now)) (observables_of (circuit_items circuit.now)) r.recording) }
     ensures repeats { IfOk result (λ r. AreRepeats 0 (unroll (circuit_items circuit.now)) r.repeats.items) }
     ensures distinct { OnOk result (All HasDistinctQubits (unroll (circuit_items circuit.now))) }
     ensures same_coins { C.sequence coins.new ≡ C.sequence coins.old }

@@ -6,7 +6,7 @@ ghost use Rattle.stab_items.specs.Views.{circuit_items};
 ghost use Rattle.stab_items.specs.Repeats.{AreRepeats};
 ghost use Rattle.stab_run.specs.Records.{ones};
 ghost use Rattle.stab_run.specs.ProgramStates.{output_of};
-ghost use Rattle.stab_frames.specs.Pivots.{front_kept};
+ghost use Rattle.stab_frames.specs.Pivots.{front_stored};
 ghost use Rattle.stab_session.specs.FollowedEdits.{AsksWithin, HasFollowed};
 ghost use Rattle.stab_session.specs.Recordings.{IsRecording, IsSameRecording, Follows};
 ghost use Rattle.stab_session.specs.inner.Prepared.{Begins, HasCheckpoint, IsRest, IsOldRest, HasRoom, IsPrepared, checkpoints_after, IsCommitted};
@@ -21,7 +21,7 @@ use stab_run::{Coins, Outputs, observables};
 use stab_tableau::Tableau;
 use std::alloc::{AllocError, Global};
 
-/// A run that is kept: the state after the last step, what the steps gave, checkpoints of the state on
+/// A run that is stored: the state after the last step, what the steps gave, checkpoints of the state on
 /// the way, the first before the first step, and pivots of its random outcomes. Its steps
 /// look back to no more records than its lookback window.
 #[derive(Drop)]
@@ -50,7 +50,7 @@ struct Prepared {
     observables: Vec<bool>,
     strings: Pivots,
     window: u32,
-    // The checkpoints kept on the way, the last first.
+    // The checkpoints stored on the way, the last first.
     saved: Vec<Checkpoint>,
     rest: Rest,
 }
@@ -68,7 +68,7 @@ impl Recording {
     /// The run of no steps.
     pub fn new(alloc: Global, n: usize) -> Result<Recording, Refusal>
         requires in_range { n ≤ most_qubits }
-        ensures kept { (coins : ℕ → Bool) (K : ℕ) → IfOk result (IsRecording n coins K [] 0) }
+        ensures preserved { (coins : ℕ → Bool) (K : ℕ) → IfOk result (IsRecording n coins K [] 0) }
         ensures err { IfErr result (λ r. r ≡ OutOfMemory) }
     {
         let tableau = Tableau::new(alloc, n)?;
@@ -89,11 +89,11 @@ impl Recording {
         })
     }
 
-    /// The pivots of the first steps, which have these flags.
+    /// The pivots of the first steps, which have this randomness.
     ///
     /// Refusal `OutOfMemory` alone.
     fn front_pivots(&self, alloc: Global, free: &[bool]) -> Result<PivotRecorder, Refusal>
-        ensures strings { IfOk result (λ pivots. pivots.strings ≡ front_kept (ones free.now) self.now.strings) }
+        ensures strings { IfOk result (λ pivots. pivots.strings ≡ front_stored (ones free.now) self.now.strings) }
         ensures window { IfOk result (λ pivots. pivots.window ≡ self.now.window) }
         ensures string { IfOk result (λ pivots. length pivots.string.letters ≡ self.now.tableau.qubits) }
         ensures err { IfErr result (λ r. r ≡ OutOfMemory) }

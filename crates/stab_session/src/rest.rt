@@ -56,7 +56,7 @@ fn put_states(checkpoints: &mut Vec<Checkpoint>, from: usize, states: &mut Vec<C
 }
 
 impl Recording {
-    /// Keeps checkpoints, the last of them first, after this many of those that are kept. It takes no
+    /// Keeps checkpoints, the last of them first, after this many of those that are stored. It takes no
     /// memory.
     pub(crate) fn save_after(&mut self, before: usize, saved: &mut Vec<Checkpoint>, stride: usize)
         requires room { before + length saved.old.items ≤ vec_capacity self.old.checkpoints }
@@ -73,7 +73,7 @@ impl Recording {
         save_all(&mut self.checkpoints, saved, stride);
     }
 
-    /// Puts the rest of the run in place, after checkpoints, the last of them first, that come after this many of those that are kept. It
+    /// Puts the rest of the run in place, after checkpoints, the last of them first, that come after this many of those that are stored. It
     /// takes no memory.
     pub(crate) fn put_rest(
         &mut self,
@@ -102,7 +102,7 @@ impl Recording {
     }
 
     /// Appends the pivots of random outcomes from this coin number on to those before, in a run with
-    /// these flags.
+    /// this randomness.
     ///
     /// Refusal `OutOfMemory` alone.
     pub(crate) fn append_strings(

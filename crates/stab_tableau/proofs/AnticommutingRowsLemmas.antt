@@ -21,18 +21,18 @@ pub record AreDistinct (first rest mask : ℕ) (letters : List Letter) : Type 0 
 module _ (first rest mask : ℕ) (letters : List Letter) (distinct : AreDistinct first rest mask letters) (b new next : ℕ)
     (here : (w : InverseRow) → chooses new (row_position w b) ≡ letters_anticommute (row_letter w) (letter_at letters (first + b)))
     (others : (w : InverseRow) (j : ℕ) → j ≢ b → chooses new (row_position w j) ≡ chooses mask (row_position w j))
-    (gone : chooses next b ≡ false) (kept : (j : ℕ) → j ≢ b → j < 64 → chooses next j ≡ chooses rest j) where
+    (gone : chooses next b ≡ false) (preserved : (j : ℕ) → j ≢ b → j < 64 → chooses next j ≡ chooses rest j) where
   other : (j : ℕ) → chooses next j ≡ true → j ≢ b
   other j chosen e = clash (chooses next b) (ap (chooses next) (sym e) ∙ chosen) gone
 
   before : (j : ℕ) → j < 64 → chooses next j ≡ true → chooses rest j ≡ true
-  before j lj chosen = sym (kept j (other j chosen) lj) ∙ chosen
+  before j lj chosen = sym (preserved j (other j chosen) lj) ∙ chosen
 
   done-next : (k : ℕ) → k < 32 → chooses next k ≡ false → FindsAnticommuting new first k letters
   done-next k lk none w = by_position (cases_order k b)
     where
       away : k ≢ b → chooses new (row_position w k) ≡ letters_anticommute (row_letter w) (letter_at letters (first + k))
-      away ne = others w k ne ∙ distinct.done k lk (sym (kept k ne (omega arith)) ∙ none) w
+      away ne = others w k ne ∙ distinct.done k lk (sym (preserved k ne (omega arith)) ∙ none) w
 
       by_position : (k ≡ b) ⊎ ((k < b) ⊎ (b < k)) → chooses new (row_position w k) ≡ letters_anticommute (row_letter w) (letter_at letters (first + k))
       by_position (inl e) =

@@ -98,9 +98,9 @@ module _ (rows new : List InverseRows) (q : ℕ) (l : Letter) (lt : q < length r
   conjugated-length = ap length e ∙ length-set rows q (conjugated_row l (rows_at rows q))
 
   -- they are a tableau again
-  pub conjugated-kept : ((scratch : InverseRows) → IsOver (length rows) scratch → IsTableau (length rows) rows scratch)
+  pub conjugated-preserved : ((scratch : InverseRows) → IsOver (length rows) scratch → IsTableau (length rows) rows scratch)
       → (scratch : InverseRows) → IsOver (length new) scratch → IsTableau (length new) new scratch
-  conjugated-kept is scratch over =
+  conjugated-preserved is scratch over =
       let old : IsTableau (length rows) rows scratch = is scratch (subst (λ n. IsOver n scratch) conjugated-length over) in
       subst (λ n. IsTableau n new scratch) (sym conjugated-length) (record {
         table = same-table (length rows) rows new conjugated-same old.table;

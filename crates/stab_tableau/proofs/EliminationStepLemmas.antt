@@ -107,7 +107,7 @@ module _ (member : Signed → Bool) (n k used : ℕ) (xs ys : List Signed) (h : 
     by-row : (P : ℕ → Signed → Type 0) → P used leading → ((a : ℕ) → a < length xs → a ≢ used → P a (cleared_with n k leading (at n xs a)))
         → (a : ℕ) → a < length ys → P a (at n ys a)
     by-row P here there a la = elim (eqb_tells a used) [
-      | inl same ↦ subst (λ b. P b (at n ys b)) (sym same.1) (subst (P used) (sym c.kept) here)
+      | inl same ↦ subst (λ b. P b (at n ys b)) (sym same.1) (subst (P used) (sym c.preserved) here)
       | inr other ↦ let lx : a < length xs = (let e = c.count in omega arith) in
           subst (P a) (sym (c.others a lx other.1)) (there a lx other.1)
     ]
@@ -148,7 +148,7 @@ module _ (member : Signed → Bool) (n k used : ℕ) (xs ys : List Signed) (h : 
         ]
           where
             quiet : f leading.letters ≡ false
-            quiet = ap (λ (s : Signed). f s.letters) (sym c.kept) ∙ zeros used (let e = c.count in omega arith)
+            quiet = ap (λ (s : Signed). f s.letters) (sym c.preserved) ∙ zeros used (let e = c.count in omega arith)
 
         bits : (v : ℕ → Bool) (f : List Letter → Bool) → IsLinear f → ((a : ℕ) → a < length xs → f (at n xs a).letters ≡ wanted v a)
             → (a : ℕ) → a < length ys → f (at n ys a).letters ≡ v a
@@ -191,7 +191,7 @@ module _ (member : Signed → Bool) (n k used : ℕ) (xs ys : List Signed) (h : 
             cleared-bit (at n xs a) (h.lead a) (h.before a la) ∙ f.1,
             λ j lj. cleared-bit (at n xs a) j (let b = h.before a la in omega arith) ∙ f.2 j lj,
           ))
-          (first-at (at n ys used) leading (lead used) k c.kept lead-used (in_range, one, still)) a (omega arith);
+          (first-at (at n ys used) leading (lead used) k c.preserved lead-used (in_range, one, still)) a (omega arith);
       before = λ a la. up-to (λ a. lead a < k + 1) used
           (λ a la. let b = h.before a la in let e = lead-low a la in omega arith) (let e = lead-used in omega arith) a (omega arith);
       ascend = λ a b ab lb. up-to (λ b. a < b → lead a < lead b) used
@@ -201,7 +201,7 @@ module _ (member : Signed → Bool) (n k used : ℕ) (xs ys : List Signed) (h : 
           (λ a la ne. up-to (λ b. b ≢ a → bit_at n (at n ys b).letters (lead a) ≡ false) used
           (λ b lb ne. bit-of (at n ys b) (cleared_with n k leading (at n xs b)) (lead a) (h.lead a) (row-other b lb) (lead-low a la)
           (cleared-bit (at n xs b) (h.lead a) (h.before a la) ∙ h.clear a b la lb ne))
-          (λ _. bit-of (at n ys used) leading (lead a) (h.lead a) c.kept (lead-low a la) (still (h.lead a) (h.before a la))) b (omega arith) ne)
+          (λ _. bit-of (at n ys used) leading (lead a) (h.lead a) c.preserved (lead-low a la) (still (h.lead a) (h.before a la))) b (omega arith) ne)
           (λ ne. let low : b < used = (omega (arith, ne)) in
           bit-of (at n ys b) (cleared_with n k leading (at n xs b)) (lead used) k (row-other b low) lead-used (cleared-zero (at n xs b))) a (omega arith);
       zeros = λ b lb ly j lj. ap (λ (s : Signed). bit_at n s.letters j)

@@ -1,6 +1,6 @@
 -- Exchanged outcomes: the stabiliser at a position where the preimage of what is measured has X or Y.
 use Rattle.stab_tableau.proofs.Names.{◌≡◌, ℕ, ◌<◌, true, false, sym, ◌∙◌, ap, subst, List, length, Letter, Z, letters_anticommute, has_x, Signed, single, strings_anticommute, Phased, phased, letter_at, stabiliser_of, IsPivot, TableauState, stabilises, column, InverseRows, string_preimage, extend, IsInverseTable, IsOnto, IsTableau}
-use Rattle.stab_tableau.proofs.HomomorphismLemmas.{kept-anticommute}
+use Rattle.stab_tableau.proofs.HomomorphismLemmas.{preserved-anticommute}
 use Rattle.stab_tableau.proofs.OneLetterLemmas.{one_letter-anticommute}
 use Rattle.stab_tableau.proofs.ColumnLemmas.{column-preimage}
 use Rattle.stab_tableau.proofs.GeneratedLemmas.{stabiliser-length, stabiliser-member}
@@ -17,7 +17,7 @@ column-exchanges t is onto q lq k lt e = record {
   negative = (stabiliser_of t k).negative;
   stabilises = stabiliser-member t is onto k lt;
   anticommutes =
-      sym (kept-anticommute t.qubits t.qubits (string_preimage t.qubits t.rows) is.keeps (column Z k t.rows) q.letters (stabiliser-length t is onto k lt) lq)
+      sym (preserved-anticommute t.qubits t.qubits (string_preimage t.qubits t.rows) is.keeps (column Z k t.rows) q.letters (stabiliser-length t is onto k lt) lq)
       ∙ ap (λ s. strings_anticommute s (string_preimage t.qubits t.rows q.letters).letters) (column-preimage t.qubits t.rows is onto Z k lt)
       ∙ one_letter-anticommute t.qubits k Z (string_preimage t.qubits t.rows q.letters).letters (is.keeps.size q.letters lq) lt
       ∙ e;

@@ -2,7 +2,7 @@
 use Rattle.stab_tableau.proofs.Names.{◌≡◌, true, false, sym, ◌∙◌, ap, length, phase_add, Phase, Zero, Quarter, Half, ThreeQuarters, Signed, minus, anticommute, Phased, phased, phased-product, phased-minus, TableauState, stabilises_zeros, stabilises, IsStabiliserGroup, string_preimage, extend, IsInverseTable}
 use Rattle.stab_tableau.proofs.TestLemmas.{not-true}
 use Rattle.stab_tableau.proofs.DiagonalLemmas.{diagonal-blank, diagonal-commute}
-use Rattle.stab_tableau.proofs.HomomorphismLemmas.{extend-product, extend-times_phase, kept-anticommute}
+use Rattle.stab_tableau.proofs.HomomorphismLemmas.{extend-product, extend-times_phase, preserved-anticommute}
 use Rattle.stab_tableau.proofs.StabiliseLemmas.{zeros-phase, zeros-letters, zeros-product}
 
 -- the phase -1 is not 1
@@ -16,7 +16,7 @@ module _ (t : TableauState) (is : IsInverseTable t.qubits t.rows) where
   stabilises-commuting : (p q : Signed) → length p.letters ≡ t.qubits → length q.letters ≡ t.qubits → stabilises t p ≡ true → stabilises t q ≡ true
       → anticommute p q ≡ false
   stabilises-commuting p q lp lq mp mq =
-      sym (kept-anticommute t.qubits t.qubits (string_preimage t.qubits t.rows) is.keeps p.letters q.letters lp lq)
+      sym (preserved-anticommute t.qubits t.qubits (string_preimage t.qubits t.rows) is.keeps p.letters q.letters lp lq)
       ∙ diagonal-commute (string_preimage t.qubits t.rows p.letters).letters (string_preimage t.qubits t.rows q.letters).letters
       (zeros-letters (extend (string_preimage t.qubits t.rows) (phased p)) mp)
       (zeros-letters (extend (string_preimage t.qubits t.rows) (phased q)) mq)

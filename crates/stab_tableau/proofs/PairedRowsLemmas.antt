@@ -59,8 +59,8 @@ length-put w q p rows = length-set rows q (with_string w p (rows_at rows q))
 
 -- the rows of a table
 
-pub kept-paired : (r new : Rows) (a : ℕ) (p : Signed) → IsPaired r → new ≡ with_row r a p → IsPaired new
-kept-paired r new a p is e =
+pub preserved-paired : (r new : Rows) (a : ℕ) (p : Signed) → IsPaired r → new ≡ with_row r a p → IsPaired new
+preserved-paired r new a p is e =
     let P : Rows → Type 0 = IsPaired in
     subst P (sym e) (record { few = is.few; size = length-set r.rows a p ∙ is.size })
 
@@ -97,7 +97,7 @@ module _ (r : Rows) (is : IsPaired r) (v : InverseRow) (a : ℕ) (w : InverseRow
 
   mid-paired : IsPaired mid
   unfolding mid
-  mid-paired = kept-paired r mid (row_position v a) (string_at r (row_position w b)) is refl
+  mid-paired = preserved-paired r mid (row_position v a) (string_at r (row_position w b)) is refl
 
   mid-is : paired_strings mid.rows ≡ put v a (row_string w (rows_at (paired_strings r.rows) b)) (paired_strings r.rows)
   unfolding mid

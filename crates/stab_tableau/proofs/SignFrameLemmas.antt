@@ -1,6 +1,6 @@
 -- Tables whose rows differ in their signs alone: which strings stabilise, and when both have one group.
 use Rattle.stab_tableau.proofs.Names.{◌≡◌, ℕ, suc, ◌<◌, Bool, true, false, refl, sym, ◌∙◌, ap, List, [], ◌∷◌, length, get_or, arith, Letter, I, X, Y, Z, Quarter, phase_of_sign, ◌⊕◌, letters_anticommute, Signed, minus, with_sign, strings_anticommute, Phased, plain, phased, times_phase, phased_product, phase_of_sign-parity, strings_anticommute-comm, times_phase-times_phase, times_phase-comm, phased_product-times_phase_left, phased_product-times_phase_right, signed_path, phased-with_sign, clash, diagonal, InverseRows, blank, letter_preimage, string_preimage, extend, IsInverseTable, IsOnto, stabilises_zeros, stabilises, letter_anticommuting, column, stabiliser_of, SameGroup, SameLetters, sign_frame}
-use Rattle.stab_tableau.proofs.HomomorphismLemmas.{extend-times_phase, kept-anticommute}
+use Rattle.stab_tableau.proofs.HomomorphismLemmas.{extend-times_phase, preserved-anticommute}
 use Rattle.stab_tableau.proofs.OneLetterLemmas.{one_letter-anticommute}
 use Rattle.stab_tableau.proofs.DiagonalLemmas.{diagonal-commute}
 use Rattle.stab_tableau.proofs.TestLemmas.{not-true}
@@ -86,10 +86,10 @@ module _ (n : ℕ) (rows others : List InverseRows) (is : IsInverseTable n rows)
   length-frame_n = length-frame rows others s ∙ is.count
 
   -- the frame and a string anticommute if their preimages do
-  frame-kept : (p : List Letter) → length p ≡ n
+  frame-preserved : (p : List Letter) → length p ≡ n
       → strings_anticommute (string_preimage n rows (sign_frame rows others)).letters (string_preimage n rows p).letters
       ≡ strings_anticommute (sign_frame rows others) p
-  frame-kept p lp = kept-anticommute n n (string_preimage n rows) is.keeps (sign_frame rows others) p length-frame_n lp
+  frame-preserved p lp = preserved-anticommute n n (string_preimage n rows) is.keeps (sign_frame rows others) p length-frame_n lp
 
   pub frame-same : diagonal (string_preimage n rows (sign_frame rows others)).letters ≡ true
       → SameGroup n (stabilises (record { qubits = n; rows = rows })) (stabilises (record { qubits = n; rows = others }))
@@ -100,7 +100,7 @@ module _ (n : ℕ) (rows others : List InverseRows) (is : IsInverseTable n rows)
       neither q e a =
           not-true (stabilises (record { qubits = n; rows = rows }) q)
           (λ m. let c : strings_anticommute (sign_frame rows others) p.letters ≡ false =
-          sym (frame-kept p.letters lp)
+          sym (frame-preserved p.letters lp)
           ∙ diagonal-commute (string_preimage n rows (sign_frame rows others)).letters (string_preimage n rows p.letters).letters d
           (ap (λ p. diagonal (string_preimage n rows p).letters) (sym e)
           ∙ zeros-letters (extend (string_preimage n rows) (phased q)) m) in cc)
@@ -142,5 +142,5 @@ module _ (n : ℕ) (rows others : List InverseRows) (is : IsInverseTable n rows)
           sym (one_letter-anticommute n k Z (string_preimage n rows (sign_frame rows others)).letters (is.keeps.size (sign_frame rows others) length-frame_n) lt)
           ∙ strings_anticommute-comm _ (string_preimage n rows (sign_frame rows others)).letters
           ∙ ap (strings_anticommute (string_preimage n rows (sign_frame rows others)).letters) (sym (column-preimage n rows is onto Z k lt))
-          ∙ frame-kept (column Z k rows) (length-column_n n rows is onto Z k lt)
+          ∙ frame-preserved (column Z k rows) (length-column_n n rows is onto Z k lt)
           ∙ commutes k lt

@@ -67,8 +67,8 @@ module _ (words : List ℕ) (at old positions : ℕ) (lt : at < length words) (r
   pub positions-added : (position : ℕ) → chooses positions position ≡ true → chooses (get_or (set words at (bit_or old positions)) at 0) position ≡ true
   positions-added position one = ap (λ n. chooses n position) here ∙ chosen-second (get_or words at 0) positions position one
 
-  pub positions-kept : (a position : ℕ) → chooses (get_or words a 0) position ≡ true → chooses (get_or (set words at (bit_or old positions)) a 0) position ≡ true
-  positions-kept a position one = by_position (cases_order a at)
+  pub positions-unchanged : (a position : ℕ) → chooses (get_or words a 0) position ≡ true → chooses (get_or (set words at (bit_or old positions)) a 0) position ≡ true
+  positions-unchanged a position one = by_position (cases_order a at)
     where
       distinct : a ≢ at → chooses (get_or (set words at (bit_or old positions)) a 0) position ≡ true
       distinct ne = ap (λ n. chooses n position) (get_or-set_other words at a (bit_or old positions) 0 ne) ∙ one
@@ -101,7 +101,7 @@ pub multiplied-covered : (s new_s : Supports) (group mask : ℕ) (q : Signed) (o
     → ((g word position : ℕ) → has_position s g word position ≡ true → has_position new_s g word position ≡ true)
     → ((word position : ℕ) → position < 64 → has_x (get_or q.letters (64 * word + position) I) ≡ true → has_position new_s group word position ≡ true)
     → AreChosen (64 * group) mask (λ b p. product_times_i_if b p q) old new → Covers s old → Covers new_s new
-multiplied-covered s new_s group mask q old new same kept added chosen covers = record {
+multiplied-covered s new_s group mask q old new same preserved added chosen covers = record {
   groups = (let e = ap length same in let f = chosen.size in let le = covers.groups in omega arith);
   holds = λ g k w p lk lw lp x known. by_group g k w p lk lw lp x (ap (λ l. chooses (get_or l g 0) w) (sym same) ∙ known) (cases_order g group);
 }
@@ -115,10 +115,10 @@ multiplied-covered s new_s group mask q old new same kept added chosen covers = 
         by_letter : (has_x (get_or (row_at old (64 * group + k)).letters (64 * w + p) I) ≡ true) ⊎ (has_x (get_or q.letters (64 * w + p) I) ≡ true)
             → has_position new_s g w p ≡ true
         by_letter (inl before) =
-            kept g w p (covers.holds g k w p lk lw lp (ap (λ n. has_x (get_or (row_at old (64 * n + k)).letters (64 * w + p) I)) e ∙ before) known)
+            preserved g w p (covers.holds g k w p lk lw lp (ap (λ n. has_x (get_or (row_at old (64 * n + k)).letters (64 * w + p) I)) e ∙ before) known)
         by_letter (inr there) = ap (λ n. has_position new_s n w p) e ∙ added w p lp there
     by_group g k w p lk lw lp x known (inr away) =
-        kept g w p (covers.holds g k w p lk lw lp (ap (λ (t : Signed). has_x (get_or t.letters (64 * w + p) I)) (sym (chosen.others (64 * g + k) (distinct away))) ∙ x) known)
+        preserved g w p (covers.holds g k w p lk lw lp (ap (λ (t : Signed). has_x (get_or t.letters (64 * w + p) I)) (sym (chosen.others (64 * g + k) (distinct away))) ∙ x) known)
       where
         distinct : (g < group) ⊎ (group < g) → (64 * g + k < 64 * group) ⊎ (64 * group + 64 ≤ 64 * g + k)
         distinct (inl lt) = inl (omega arith)

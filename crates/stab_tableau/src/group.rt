@@ -46,9 +46,9 @@ fn write_frame(table: &Table, others: &Table, out: &mut Pauli)
     }
 }
 
-/// Makes the letters of a string those that say where the signs of the rows of a kept table and of another differ,
+/// Makes the letters of a string those that say where the signs of the rows of a stored table and of another differ,
 /// whose letters are the same.
-pub fn write_kept_frame(table: &CompactTable, others: &Table, out: &mut Pauli)
+pub fn write_stored_frame(table: &CompactTable, others: &Table, out: &mut Pauli)
     requires same_letters { SameLetters table.now others.now }
     requires out_length { length out.old.letters ≡ length table.now }
     ensures value { out.new ≡ record out.old { letters = sign_frame table.now others.now } }

@@ -1,7 +1,7 @@
 //! Stabiliser states: gates, measurements, and what both make of a state.
 //!
 //! - `tableau`: a state, its gates, the sign of any Pauli, measurements, stabilisers and destabilisers, and states
-//!   that are kept in little memory.
+//!   that are stored in little memory.
 //! - `collapse`: what a measurement answers, and what it does to the rows of a state.
 //! - `observable`: what is measured, a string or a letter on a qubit.
 //! - `table`: the two rows that a state keeps for each qubit, all in one allocation.
@@ -22,7 +22,7 @@
 //!
 //! Sources: D. Gottesman, Stabilizer codes and quantum error correction (1997) and The Heisenberg representation of
 //! quantum computers (1998); S. Aaronson and D. Gottesman, Improved simulation of stabilizer circuits (2004), section III.
-//! It differs in that the tableau is kept by qubit, as preimages of X and Z, so that stabilisers and destabilisers are its
+//! It differs in that the tableau is stored by qubit, as preimages of X and Z, so that stabilisers and destabilisers are its
 //! columns, and that any Pauli string is measured, with a coin that is given.
 //!
 //! Proved: after each call a tableau is stabilised by the strings that the rules say, and no others; the sign and the

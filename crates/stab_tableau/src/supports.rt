@@ -203,7 +203,7 @@ impl XSupports {
         requires in_range { group < length self.old.known }
         requires few { length string.now.letters ≤ most_qubits }
         ensures known { self.new.known ≡ self.old.known }
-        ensures kept { (g word position : ℕ) → has_position self.old g word position ≡ true → has_position self.new g word position ≡ true }
+        ensures preserved { (g word position : ℕ) → has_position self.old g word position ≡ true → has_position self.new g word position ≡ true }
         ensures added { (word position : ℕ) → position < 64 → has_x (slice_index_or string.now.letters (64 * word + position) I) ≡ true → has_position self.new group word position ≡ true }
     {
         for word in 0..words_of(string.len()) {
@@ -217,7 +217,7 @@ impl XSupports {
         requires in_range { group < length self.old.known }
         requires word_in_range { word < 16 }
         ensures known { self.new.known ≡ self.old.known }
-        ensures kept { (g w position : ℕ) → has_position self.old g w position ≡ true → has_position self.new g w position ≡ true }
+        ensures preserved { (g w position : ℕ) → has_position self.old g w position ≡ true → has_position self.new g w position ≡ true }
         ensures added { (position : ℕ) → chooses positions position ≡ true → has_position self.new group word position ≡ true }
     {
         let _ = &self.known;

@@ -9,7 +9,7 @@ use Rattle.stab_run.proofs.PointLemmas.{rest-joined}
 use Rattle.stab_frames.proofs.RepeatedStepLemmas.{looks-front}
 use Rattle.stab_frames.proofs.AlikeLemmas.{AreAlike, letters-seen, given-seen, given-makes}
 use Rattle.stab_ways.specs.declared.folds.Checkpoint.{Checkpoint}
-use Rattle.stab_ways.specs.inner.Folds.{IsWalkKept, IsSince, WaitsLonger, IsWalkAgain, later, waits_after, again}
+use Rattle.stab_ways.specs.inner.Folds.{IsWalkStored, IsSince, WaitsLonger, IsWalkAgain, later, waits_after, again}
 use Rattle.stab_ways.proofs.WalkedLemmas.{steps_in, walked-reported, walked-past}
 use Rattle.stab_ways.proofs.ItemLemmas.{walked-steps}
 
@@ -128,25 +128,25 @@ module _ (n : ℕ) (string : List Letter) (parts : List Part) where
   listed-soon (Some k) every t f = All-nil (λ (x : Turn). x.after ≤ t + length steps)
 
   -- since a checkpoint, to which it has come again
-  module _ (window : ℕ) (c : Checkpoint) (first w : WalkState) (near : looks_too_far window steps ≡ false) (kept : IsWalkKept c first) (over : w ≡ walked n string parts first)
+  module _ (window : ℕ) (c : Checkpoint) (first w : WalkState) (near : looks_too_far window steps ≡ false) (preserved : IsWalkStored c first) (over : w ≡ walked n string parts first)
       (is : IsWalkAgain window c w) where
     since : w.steps - c.steps ≡ length steps
-    since = omega (arith, ap (λ (v : WalkState). v.steps) over ∙ walked-steps n string parts first, kept.steps)
+    since = omega (arith, ap (λ (v : WalkState). v.steps) over ∙ walked-steps n string parts first, preserved.steps)
 
     on : WaitsOn (length steps) first.waits × WaitsOn (length steps) (waits_after (length steps) first.waits)
-    on = waits-on (length steps) first.waits (subst (λ d. WaitsLonger d first.waits) since (subst (WaitsLonger (w.steps - c.steps)) kept.waits is.waits))
+    on = waits-on (length steps) first.waits (subst (λ d. WaitsLonger d first.waits) since (subst (WaitsLonger (w.steps - c.steps)) preserved.waits is.waits))
 
     went : w ≡ gone first.every first.steps first.waits first.frame first.turns
     went = over ∙ walked-on first.every first.steps first.waits first.frame first.turns on.0
 
     records : take c.lengths.records w.frame.flips.records ≡ first.frame.flips.records
     records =
-        (λ i. take (kept.lengths i).records (went i).frame.flips.records)
+        (λ i. take (preserved.lengths i).records (went i).frame.flips.records)
         ∙ take-append_seam first.frame.flips.records (way_flips n steps (frame_at 0 first.frame)).records
 
     alike : AreAlike window (frame_at 0 w.frame) (frame_at 0 first.frame)
     alike = record {
-      letters = sym is.letters ∙ kept.letters;
+      letters = sym is.letters ∙ preserved.letters;
       flips = λ k le. sym (is.records k le) ∙ ap (λ bits. looked_up bits k) records;
     }
 
@@ -156,21 +156,21 @@ module _ (n : ℕ) (string : List Letter) (parts : List Part) where
 
     rest : rest_of c.lengths w.frame.flips ≡ way_flips n steps (frame_at 0 w.frame)
     rest =
-        (λ i. rest_of (kept.lengths i) (went i).frame.flips)
-        ∙ rest-joined first.frame.flips (way_flips n steps (frame_at 0 first.frame)) kept.each
+        (λ i. rest_of (preserved.lengths i) (went i).frame.flips)
+        ∙ rest-joined first.frame.flips (way_flips n steps (frame_at 0 first.frame)) preserved.each
         ∙ sym over-again.0
 
     listed : drop c.turns w.turns ≡ listed_over first.waits first.every first.steps (frame_at 0 first.frame)
-    listed = (λ i. drop (kept.turns i) (went i).turns) ∙ drop-append_seam first.turns (listed_over first.waits first.every first.steps (frame_at 0 first.frame))
+    listed = (λ i. drop (preserved.turns i) (went i).turns) ∙ drop-append_seam first.turns (listed_over first.waits first.every first.steps (frame_at 0 first.frame))
 
     coins : w.frame.coin ≡ first.frame.coin + all_coins_of steps
     coins = ap (λ (v : WalkState). v.frame.coin) went
 
     pub since-again : IsSince c w
     since-again = record {
-      steps = omega (arith, kept.steps, ap (λ (v : WalkState). v.steps) went);
-      coin = omega (arith, coins, kept.coin);
-      coins = omega (arith, coins, kept.coin, coins-steps steps, kept.steps, ap (λ (v : WalkState). v.steps) went);
+      steps = omega (arith, preserved.steps, ap (λ (v : WalkState). v.steps) went);
+      coin = omega (arith, coins, preserved.coin);
+      coins = omega (arith, coins, preserved.coin, coins-steps steps, preserved.steps, ap (λ (v : WalkState). v.steps) went);
       within = subst (All (λ (x : Turn). x.after ≤ w.steps)) (sym listed)
           (subst (λ most. All (λ (x : Turn). x.after ≤ most) (listed_over first.waits first.every first.steps (frame_at 0 first.frame))) (sym (ap (λ (v : WalkState). v.steps) went))
           (listed-soon first.waits first.every first.steps (frame_at 0 first.frame)));
@@ -182,7 +182,7 @@ module _ (n : ℕ) (string : List Letter) (parts : List Part) where
         ∙ sym (walked-on w.every w.steps w.waits w.frame w.turns (subst (WaitsOn (length steps)) (sym (ap (λ (v : WalkState). v.waits) went)) on.1))
       where
         more : w.frame.coin + (w.frame.coin - c.coin) ≡ w.frame.coin + all_coins_of steps
-        more = omega (arith, coins, kept.coin)
+        more = omega (arith, coins, preserved.coin)
 
         frame : record w.frame { flips = joined w.frame.flips (rest_of c.lengths w.frame.flips); coin = w.frame.coin + (w.frame.coin - c.coin) } ≡ passed n steps w.frame
         frame = λ i. record {

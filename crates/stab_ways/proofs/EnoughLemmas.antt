@@ -1,5 +1,5 @@
 -- Enough: a frame that takes each outcome as a fixed one needs no pivot, if exactly the coins of those random outcomes differ that it flips.
-use Rattle.stab_ways.proofs.Names.{◌≡◌, ℕ, zero, suc, ◌+◌, ◌<◌, refl, sym, ◌∙◌, ap, subst, Bool, true, false, ◌&&◌, List, [], ◌∷◌, ◌++◌, length, get_or, arith, length-append, ◌⊕◌, single, strings_anticommute, is_random, Step, one, two, controlled, collapse, product, detector, observable, string_of, Point, RunOutput, coins_of, all_coins_of, next_point, point_after, outputs, outputs-append, flags-counted, coins-are, coins-append, Frame, no_strings, flips_given, IsEnoughAt, by_letters, way_after, way_over, way_flips}
+use Rattle.stab_ways.proofs.Names.{◌≡◌, ℕ, zero, suc, ◌+◌, ◌<◌, refl, sym, ◌∙◌, ap, subst, Bool, true, false, ◌&&◌, List, [], ◌∷◌, ◌++◌, length, get_or, arith, length-append, ◌⊕◌, single, strings_anticommute, is_random, Step, one, two, controlled, collapse, product, detector, observable, string_of, Point, RunOutput, coins_of, all_coins_of, next_point, point_after, outputs, outputs-append, randomness-counted, coins-are, coins-append, Frame, no_strings, flips_given, IsEnoughAt, by_letters, way_after, way_over, way_flips}
 use Rattle.stab_ways.proofs.FixedLemmas.{flips-more}
 
 -- a random outcome whose coin differs exactly if the frame anticommutes
@@ -83,7 +83,7 @@ long-flips n (x ∷ xs) f =
 
 module _ (n : ℕ) (coins changes : ℕ → Bool) where
   long-random : (xs : List Step) (a : Point) → length (outputs n coins xs a).free ≡ all_coins_of xs
-  long-random xs a = omega (arith, flags-counted n coins xs a, coins-are n coins xs a)
+  long-random xs a = omega (arith, randomness-counted n coins xs a, coins-are n coins xs a)
 
   pub differ-front : (xs ys : List Step) (f : Frame) (a : Point) → Differ n coins changes (xs ++ ys) f a → Differ n coins changes xs f a
   differ-front xs ys f a e t lt =

@@ -1,4 +1,4 @@
--- Fronts: steps one after another on the way of a string keep two runs apart by it, also once what a reset leaves is left out.
+-- Fronts: steps one after another on the way of a string make two runs differ by it, also once what a reset leaves is left out.
 use Rattle.stab_ways.proofs.Names.{◌≡◌, ℕ, ◌<◌, refl, sym, ◌∙◌, ap, subst, Bool, true, false, not, ◌&&◌, ◌||◌, List, [], ◌∷◌, ◌++◌, length, All, append_assoc, append-nil, All-nil, All-cons, All-head, All-tail, All-append, Letter, Signed, single, with_sign, anticommute, identity, product-self, strings_anticommute-self, length-string_product, length-one_letter, Event, projected, member, IsStabiliserGroup, Step, one, two, controlled, collapse, product, detector, observable, letter_product, letter_at, acts, flip_of, applied_where, outcome_at, Point, RunOutput, origin, nothing, joined, joined-assoc, joined-nothing, point_after, after-append, StepFits, Frame, times_where, RunPivots, no_strings, coins_changed, frame_after, flips_given, IsEnoughAt, AreFronts, group-origin, fronts-go-on, conjugated-over, conjugated-comm, conjugated-stabiliser, sign-twice, back-letter, by_letters, reset_leaves, step_leaves, way_after, way_over, way_flips}
 use Rattle.stab_ways.proofs.FixedLemmas.{fixed-after, fixed-given}
 use Rattle.stab_ways.proofs.EnoughLemmas.{Differ, here-enough, later}

@@ -3,7 +3,7 @@ use Rattle.stab_ways.proofs.Names.{◌≡◌, ℕ, ◌+◌, ◌-◌, ◌*◌, �
 use Rattle.stab_items.specs.Steps.{looks_too_far}
 use Rattle.stab_run.proofs.RoundLemmas.{rounds-within}
 use Rattle.stab_ways.specs.declared.folds.Checkpoint.{Checkpoint}
-use Rattle.stab_ways.specs.inner.Folds.{CameFrom, IsSince, IsWalkAgain, StaysOrIsKept, again}
+use Rattle.stab_ways.specs.inner.Folds.{CameFrom, IsSince, IsWalkAgain, StaysOrIsStored, again}
 use Rattle.stab_ways.proofs.WalkedLemmas.{steps_in}
 use Rattle.stab_ways.proofs.ItemLemmas.{steps-unrolled, steps-rounds, walked-rounds, walked-steps, long-rounds}
 use Rattle.stab_ways.proofs.AlikeWayLemmas.{since-again, walked-again}
@@ -17,28 +17,28 @@ came-further n string parts c done k whole w v sum came is =
     record {
       earlier = omega (arith, sum, came.earlier);
       state = came.state;
-      kept = came.kept;
+      preserved = came.preserved;
       over = walked-rounds n (done - c.done) k (whole - c.done) string parts came.state w v since came.over is;
     }
 
 -- and over as many again, from the same checkpoint or from the walk before them
 
 pub came-once-more : (n : ℕ) (string : List Letter) (parts : List Part) (c d : Checkpoint) (done : ℕ) (w v : WalkState) → CameFrom n string parts c done w
-    → v ≡ walked n string (part_rounds (done - c.done) parts) w → c.done < done → StaysOrIsKept c d done w
+    → v ≡ walked n string (part_rounds (done - c.done) parts) w → c.done < done → StaysOrIsStored c d done w
     → (d.done < done + (done - c.done)) × CameFrom n string parts d (done + (done - c.done)) v
 came-once-more n string parts c d done w v came is later (inl same) =
     let whole = done + (done - c.done) in (
       omega (arith, later, ap (λ (x : Checkpoint). x.done) same),
       subst (λ x. CameFrom n string parts x whole v) (sym same) (came-further n string parts c done (done - c.done) whole w v refl came is),
     )
-came-once-more n string parts c d done w v came is later (inr (here, kept)) =
+came-once-more n string parts c d done w v came is later (inr (here, preserved)) =
     let whole = done + (done - c.done) in
     let since : done - c.done ≡ whole - d.done = omega (arith, later, here) in (
       omega (arith, later, here),
       record {
         earlier = omega (arith, here);
         state = w;
-        kept = kept;
+        preserved = preserved;
         over = is ∙ ap (λ k. walked n string (part_rounds k parts) w) since;
       },
     )
@@ -50,7 +50,7 @@ pub steps-since : (n : ℕ) (string : List Letter) (body : Items) (c : Checkpoin
 steps-since n string body c done w came =
     ap (λ (v : WalkState). v.steps) came.over
     ∙ walked-steps n string (part_rounds (done - c.done) (carried_parts body)) came.state
-    ∙ (λ i. sym came.kept.steps i + long-rounds (done - c.done) body i)
+    ∙ (λ i. sym came.preserved.steps i + long-rounds (done - c.done) body i)
 
 pub two-parts : (j k l : ℕ) → (j + k) * l ≡ j * l + k * l
 two-parts j k l = omega arith
@@ -78,7 +78,7 @@ module _ (n window : ℕ) (string : List Letter) (body : Items) (c : Checkpoint)
       (rounds-within window (done - c.done) (unroll body) near)
 
   pub came-since : IsSince c w
-  came-since = since-again n string parts window c came.state w near-rounds came.kept came.over is
+  came-since = since-again n string parts window c came.state w near-rounds came.preserved came.over is
 
   pub came-again : (v : WalkState) → v ≡ again c w → v ≡ walked n string parts w
-  came-again v same = same ∙ walked-again n string parts window c came.state w near-rounds came.kept came.over is
+  came-again v same = same ∙ walked-again n string parts window c came.state w near-rounds came.preserved came.over is

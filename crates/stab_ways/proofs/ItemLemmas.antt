@@ -193,9 +193,9 @@ times-more k count l lt =
     let whole : (k + 1) + (count - (k + 1)) ≡ count = omega (arith, lt) in subst (λ c. k * l + l ≤ c * l) whole (times-split k (count - (k + 1)) l)
 
 -- a round looks no further back than its summary says
-pub near-enough : (kept : Summary) (body : Items) → kept ≡ summary_of body → looks_too_far kept.window (unroll body) ≡ false
-near-enough kept body is =
-    looks_too_far_window kept.window (unroll body) ∙ ap (λ (s : Summary). nat_lt s.window (window (unroll body))) is ∙ below-itself (window (unroll body))
+pub near-enough : (stored : Summary) (body : Items) → stored ≡ summary_of body → looks_too_far stored.window (unroll body) ≡ false
+near-enough stored body is =
+    looks_too_far_window stored.window (unroll body) ∙ ap (λ (s : Summary). nat_lt s.window (window (unroll body))) is ∙ below-itself (window (unroll body))
   where
     below-itself : (n : ℕ) → nat_lt n n ≡ false
     below-itself n = grind arith

@@ -31,7 +31,7 @@ pub use Rattle.stab_run.specs.Runs.{gate_of, flip_of, string_of, when, applied_w
 pub use Rattle.stab_run.specs.Points.{Point, RunOutput, origin, nothing, joined, coins_of, all_coins_of, next_point, point_after, outputs}
 pub use Rattle.stab_run.specs.ProgramStates.{StepFits}
 pub use Rattle.stab_run.proofs.CoinLemmas.{coins-few, coins-are, coins-append}
-pub use Rattle.stab_run.proofs.PointLemmas.{flags-counted}
+pub use Rattle.stab_run.proofs.PointLemmas.{randomness-counted}
 pub use Rattle.stab_run.proofs.RunLemmas.{after-append, outputs-append, joined-assoc, joined-nothing}
 pub use Rattle.stab_run.proofs.StateLemmas.{run-state}
 pub use Rattle.stab_run.proofs.LookbackLemmas.{looked_up-zeros, or-left, or-right}

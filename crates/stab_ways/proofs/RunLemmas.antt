@@ -1,13 +1,13 @@
 -- Runs: what a string that is put in flips in them.
-use Rattle.stab_ways.proofs.Names.{◌≡◌, ℕ, ◌+◌, ◌-◌, ◌<◌, ◌≤◌, refl, sym, ◌∙◌, ap, subst, Bool, false, ◌&&◌, List, [], ◌∷◌, ◌++◌, length, take, drop, All, replicate, get_or, arith, take-take, take-append-drop, All-take, All-nil, All-drop, Letter, I, string_product, string_product-blank, ◌⊕◌, member, IsConjugated, Step, records_of, State, start, run, Point, RunOutput, origin, nothing, all_coins_of, point_after, outputs, StepFits, coins-are, flags-counted, outputs-append, run-state, length-replicate, drop-take, Frame, frame_of, identity_frame, AreFronts, IsFlippedRun, by_frame-same, flipped-run, letter_gates, with_string_in, way_over, way_flips, frame_begun, string_after, string_flips, coins_with, StringsFlipRuns, LettersFlipRuns, FixedOutcomesKeepCoins, append_assoc, gate_of, one, single, length-one_letter}
+use Rattle.stab_ways.proofs.Names.{◌≡◌, ℕ, ◌+◌, ◌-◌, ◌<◌, ◌≤◌, refl, sym, ◌∙◌, ap, subst, Bool, false, ◌&&◌, List, [], ◌∷◌, ◌++◌, length, take, drop, All, replicate, get_or, arith, take-take, take-append-drop, All-take, All-nil, All-drop, Letter, I, string_product, string_product-blank, ◌⊕◌, member, IsConjugated, Step, records_of, State, start, run, Point, RunOutput, origin, nothing, all_coins_of, point_after, outputs, StepFits, coins-are, randomness-counted, outputs-append, run-state, length-replicate, drop-take, Frame, frame_of, identity_frame, AreFronts, IsFlippedRun, by_frame-same, flipped-run, letter_gates, with_string_in, way_over, way_flips, frame_begun, string_after, string_flips, coins_with, StringsFlipRuns, LettersFlipRuns, FixedOutcomesKeepCoins, append_assoc, gate_of, one, single, length-one_letter}
 use Rattle.stab_ways.proofs.EnoughLemmas.{Differ, differ-front, get_or-following, get_or-front, long-flips}
 use Rattle.stab_ways.proofs.BlankLemmas.{blank-over}
 use Rattle.stab_ways.proofs.FirstStepLemmas.{fronts-way}
 use Rattle.stab_ways.proofs.GateLemmas.{product-whole, letter-put, letters-put}
 
 -- a flag for each coin
-long-flags : (n : ℕ) (coins : ℕ → Bool) (xs : List Step) → length (outputs n coins xs origin).free ≡ all_coins_of xs
-long-flags n coins xs = omega (arith, flags-counted n coins xs origin, coins-are n coins xs origin)
+long-randomness : (n : ℕ) (coins : ℕ → Bool) (xs : List Step) → length (outputs n coins xs origin).free ≡ all_coins_of xs
+long-randomness n coins xs = omega (arith, randomness-counted n coins xs origin, coins-are n coins xs origin)
 
 module _ (n k : ℕ) (string : List Letter) (xs : List Step) (coins : ℕ → Bool) (fits : All (StepFits n) xs) (size : length string ≡ n) where
   abbrev front : List Step
@@ -22,14 +22,14 @@ module _ (n k : ℕ) (string : List Letter) (xs : List Step) (coins : ℕ → Bo
   abbrev begun : Frame
   begun = frame_begun k string xs
 
-  abbrev flags : List Bool
-  flags = (run n coins xs (start 0)).free
+  abbrev randomness : List Bool
+  randomness = (run n coins xs (start 0)).free
 
   abbrev flips : List Bool
   flips = (string_flips n k string xs).outcomes
 
   abbrev changes : ℕ → Bool
-  changes t = get_or flags t false && get_or flips t false
+  changes t = get_or randomness t false && get_or flips t false
 
   abbrev others : ℕ → Bool
   others = coins_with n k string xs coins
@@ -43,9 +43,9 @@ module _ (n k : ℕ) (string : List Letter) (xs : List Step) (coins : ℕ → Bo
   fits-back : All (StepFits n) back
   fits-back = All-drop (StepFits n) k xs fits
 
-  -- the flags in two parts
-  flags-parts : flags ≡ (outputs n coins front origin).free ++ (outputs n coins back there).free
-  flags-parts =
+  -- the randomness in two parts
+  randomness-parts : randomness ≡ (outputs n coins front origin).free ++ (outputs n coins back there).free
+  randomness-parts =
       ap (λ (s : State). s.free) (run-state n coins xs (start 0))
       ∙ ap (λ ys. (outputs n coins ys origin).free) (sym (take-append-drop k xs))
       ∙ ap (λ (o : RunOutput). o.free) (outputs-append n coins front back origin)
@@ -54,15 +54,15 @@ module _ (n k : ℕ) (string : List Letter) (xs : List Step) (coins : ℕ → Bo
   differ-begin t lt =
       let none : 0 + t ≡ t = omega arith in
       ap changes none
-      ∙ (λ i. (ap (λ fs. get_or fs t false) flags-parts ∙ get_or-front (outputs n coins front origin).free (outputs n coins back there).free t
-      (subst (λ m. t < m) (sym (long-flags n coins front)) lt)) i
+      ∙ (λ i. (ap (λ fs. get_or fs t false) randomness-parts ∙ get_or-front (outputs n coins front origin).free (outputs n coins back there).free t
+      (subst (λ m. t < m) (sym (long-randomness n coins front)) lt)) i
       && get_or-front front_flips.outcomes (way_flips n back begun).outcomes t (subst (λ m. t < m) (sym (long-flips n front (identity_frame n 0))) lt) i)
 
   differ-back : Differ n coins changes back begun there
   differ-back t lt =
       ap (λ c. changes (c + t)) coin
-      ∙ (λ i. (ap (λ fs. get_or fs (all_coins_of front + t) false) flags-parts
-      ∙ get_or-following (outputs n coins front origin).free (outputs n coins back there).free (all_coins_of front) t (long-flags n coins front)) i
+      ∙ (λ i. (ap (λ fs. get_or fs (all_coins_of front + t) false) randomness-parts
+      ∙ get_or-following (outputs n coins front origin).free (outputs n coins back there).free (all_coins_of front) t (long-randomness n coins front)) i
       && get_or-following front_flips.outcomes (way_flips n back begun).outcomes (all_coins_of front) t (long-flips n front (identity_frame n 0)) i)
     where
       coin : there.coin ≡ all_coins_of front

@@ -18,11 +18,11 @@ walk-passed n j zs old new walks is size steps strings = record {
 
 -- and the string is not listed, if it is as it was
 
-pub reported-kept : (n : ℕ) (q : Part) (w : WalkState) → w.every ≡ false → length w.frame.letters ≡ n → (way_over n q.steps (frame_at 0 w.frame)).letters ≡ w.frame.letters
+pub reported-preserved : (n : ℕ) (q : Part) (w : WalkState) → w.every ≡ false → length w.frame.letters ≡ n → (way_over n q.steps (frame_at 0 w.frame)).letters ≡ w.frame.letters
     → reported n q w ≡ past_steps n q.steps w
-reported-kept n q w turns size kept = λ i. record (past_steps n q.steps w) {
+reported-preserved n q w turns size preserved = λ i. record (past_steps n q.steps w) {
   turns = (ap (λ b. w.turns ++ listed_string b q.tick (w.steps + length q.steps) w.frame.letters (passed n q.steps w.frame).letters) turns
-      ∙ ap (λ s. w.turns ++ changed_string (w.steps + length q.steps) w.frame.letters s) kept
+      ∙ ap (λ s. w.turns ++ changed_string (w.steps + length q.steps) w.frame.letters s) preserved
       ∙ ap (λ ts. w.turns ++ ts) (changed_string-same (w.steps + length q.steps) n w.frame.letters size)
       ∙ append-nil w.turns) i;
 }

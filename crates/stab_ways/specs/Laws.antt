@@ -13,7 +13,7 @@ use Rattle.stab_frames.specs.FirstSteps.{IsFlippedRun}
 use Rattle.stab_ways.specs.Ways.{Turn, placed, string_turns}
 use Rattle.stab_ways.specs.PutIn.{with_string_in, string_after, string_flips, coins_exchanged}
 
--- with other coins the run of the steps with a string put in after k of them has the records, flags, detectors and observables of the run
+-- with other coins the run of the steps with a string put in after k of them has the records, randomness, detectors and observables of the run
 -- without it, flipped as the string flips them; and after each m steps its state is the other's, with what the string is there applied
 pub record FlipsRun (n k : ℕ) (string : List Letter) (xs : List Step) (coins others : ℕ → Bool) : Type 0 where
   pub run : IsFlippedRun n coins others xs (with_string_in k string xs) (string_flips n k string xs)

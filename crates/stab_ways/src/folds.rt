@@ -5,7 +5,7 @@ ghost use Rattle.stab_items.specs.Items.{listed};
 ghost use Rattle.stab_items.specs.Steps.{looks_too_far, most_steps, unroll};
 ghost use Rattle.stab_run.specs.Records.{looked_up as looked_up_of};
 ghost use Rattle.stab_ways.specs.Ways.{part_rounds, carried_parts, turn_shown};
-ghost use Rattle.stab_ways.specs.inner.Folds.{again, later, waits_after as waits_after_of, CameFrom, IsWalkAgain, IsWalkKept, IsSince, StaysOrIsKept, WaitsLonger};
+ghost use Rattle.stab_ways.specs.inner.Folds.{again, later, waits_after as waits_after_of, CameFrom, IsWalkAgain, IsWalkStored, IsSince, StaysOrIsStored, WaitsLonger};
 ghost use Rattle.stab_ways.specs.inner.Walks.{walked, walk_shown, IsWalkOn};
 
 use crate::walk::Walk;
@@ -16,7 +16,7 @@ use stab_pauli::Pauli;
 use stab_run::{Lengths, looked_up};
 use std::alloc::{AllocError, Global};
 
-/// What is kept of a walk after rounds of a block, for later ones to be compared with.
+/// What is stored of a walk after rounds of a block, for later ones to be compared with.
 #[derive(Drop)]
 pub(crate) struct Checkpoint {
     /// How many rounds were done.
@@ -36,7 +36,7 @@ pub(crate) struct Checkpoint {
 impl Checkpoint {
     /// That of a walk after this many rounds, of which those since a number are compared.
     pub fn of(alloc: Global, walk: &Walk, done: u64, began: u64) -> Result<Checkpoint, AllocError>
-        ensures kept { IfOk result (λ c. IsWalkKept c (walk_shown walk.now)) }
+        ensures preserved { IfOk result (λ c. IsWalkStored c (walk_shown walk.now)) }
         ensures done { IfOk result (λ c. c.done ≡ done) }
     {
         Ok(Checkpoint {
@@ -192,7 +192,7 @@ fn pass_once_more(
     requires few { walk.old.steps + (walk.old.steps - checkpoint.old.steps) ≤ most_steps }
     ensures walks { OnOk result (IsWalkOn (length walk.old.propagation.letters) walk.new) }
     ensures again { OnOk result (walk_shown walk.new ≡ again checkpoint.old (walk_shown walk.old)) }
-    ensures kept { OnOk result (StaysOrIsKept checkpoint.old checkpoint.new done (walk_shown walk.old)) }
+    ensures preserved { OnOk result (StaysOrIsStored checkpoint.old checkpoint.new done (walk_shown walk.old)) }
 {
     if !moves {
         return pass_again(alloc, walk, checkpoint);
@@ -204,7 +204,7 @@ fn pass_once_more(
 }
 
 /// Repeats the rounds since a checkpoint as often as they fit, as long as the walk is as it was there: twice as many each time, or as many,
-/// if what is left is then a multiple of twice as many. After that a new checkpoint is kept, and from there on another one after a first,
+/// if what is left is then a multiple of twice as many. After that a new checkpoint is stored, and from there on another one after a first,
 /// second, fourth, eighth round and so on. Says how many rounds are done.
 pub(crate) fn fold_rounds(
     alloc: Global,

@@ -35,10 +35,10 @@ fn over_item(alloc: Global, walk: &mut Walk, string: &Pauli, item: &Item) -> Res
         Part::Block {
             count,
             body,
-            kept,
+            stored,
             ..
         } => {
-            over_rounds(alloc, walk, string, body, count.number(), kept.window)?;
+            over_rounds(alloc, walk, string, body, count.number(), stored.window)?;
             Ok(())
         }
     }

@@ -201,14 +201,14 @@ const PLAIN: [Refusal; 5] = [
     Refusal::OutOfMemory,
 ];
 
-/// The most bytes of a line that are kept: the line of a fault has fewer.
-const MOST_KEPT: usize = 96;
+/// The most bytes of a line that are stored: the line of a fault has fewer.
+const MOST_STORED: usize = 96;
 
 /// A writer that keeps the first line that is written to it.
 #[derive(Drop)]
 pub(crate) struct FirstLine<W> {
     writer: W,
-    line: [u8; MOST_KEPT],
+    line: [u8; MOST_STORED],
     length: usize,
     is_ended: bool,
 }
@@ -218,7 +218,7 @@ impl<W> FirstLine<W> {
     pub(crate) fn new(writer: W) -> FirstLine<W> {
         FirstLine {
             writer,
-            line: [0; MOST_KEPT],
+            line: [0; MOST_STORED],
             length: 0,
             is_ended: false,
         }
@@ -226,7 +226,7 @@ impl<W> FirstLine<W> {
 
     /// Whether the first line says that a circuit was refused for what it contains.
     pub(crate) fn refuses_circuit(&self) -> bool {
-        let line = self.line.split_at(self.length.min(MOST_KEPT)).0;
+        let line = self.line.split_at(self.length.min(MOST_STORED)).0;
         self.is_ended
             && PLAIN
                 .iter()
@@ -237,7 +237,7 @@ impl<W> FirstLine<W> {
     fn keep(&mut self, bytes: &[u8]) {
         for byte in bytes {
             self.is_ended |= *byte == b'\n';
-            if !self.is_ended && self.length < MOST_KEPT {
+            if !self.is_ended && self.length < MOST_STORED {
                 self.line[self.length] = *byte;
                 self.length += 1;
             }

@@ -11,7 +11,7 @@ use Rattle.stab_items.specs.declared.edit.Edit.{Edit}
 use Rattle.stab_items.specs.declared.edit.Span.{Span}
 use Rattle.stab_io.specs.declared.refusal.Refusal.{Refusal}
 use Rattle.stab_io.specs.declared.refusal.Refusal.TheVariants.{TooDeep}
-use Rattle.stab_rounds.specs.Spans.{IsSpan, IsEditOf}
+use Rattle.stab_run.specs.Spans.{IsSpan, IsEditOf}
 use Rattle.stab_run.proofs.FitLemmas.{check-steps, check-whole}
 
 ends-within : (k : ℕ) (xs : List OneItem) → length (unroll (listed (take k xs))) ≤ length (unroll (listed xs))

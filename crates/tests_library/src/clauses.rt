@@ -223,7 +223,7 @@ fn recorded_reference(
 ) -> Result<Option<Reference>, stab_pauli::Fault>
     requires in_range { n ≤ most_qubits }
     ensures reference { IfOk result (λ found. IfSome found (λ r. IsReference n (circuit_items circuit.now) r)) }
-    ensures kept { IfOk result (λ found. ones (run_of n zero_coins (circuit_items circuit.now)).free ≤ most_pivots n → is_some found ≡ true) }
+    ensures preserved { IfOk result (λ found. ones (run_of n zero_coins (circuit_items circuit.now)).free ≤ most_pivots n → is_some found ≡ true) }
     ensures refused { Refuses result (check_within n (circuit_items circuit.now)) }
 {
     Reference::of(alloc, circuit, n)
@@ -270,7 +270,7 @@ fn edited_or_given_back<C: Coins>(session: &mut Session<C>, edit: Edit) -> Resul
 }
 
 /// A report bounds and counts the steps that an edit carried out and those that it went past in another way, or in vain. An edit asks for no more coins
-/// than it carried out steps, and a refused one for few. The report says how many checkpoints are kept, and these are few.
+/// than it carried out steps, and a refused one for few. The report says how many checkpoints are stored, and these are few.
 fn edited_with_counts<C: Coins>(session: &mut Session<C>, edit: Edit) -> Result<Report, Refused>
     ensures by_frame { IfOk result (λ r. r.applied + r.by_frame ≤ steps_from_change edit session.old session.new + r.tried) }
     ensures tried { IfOk result (λ r. r.tried ≤ most_tried edit session.old session.new) }

@@ -1,6 +1,6 @@
 //! The search for a least logical error in a table of errors: worked examples, and tables at random beside all sets of their errors.
 ghost use Rattle.std.specs.Prelude.{IfOk, None};
-ghost use Rattle.stab_search.specs.Ascending.{IsAscending};
+ghost use Rattle.stab_parities.specs.Ascending.{IsAscending};
 
 use stab_io::Refusal;
 use stab_search::{Answer, Progress, Table, Unwatched, least_graphlike_error, least_logical_error};

@@ -9,7 +9,7 @@
 //! - `made_items`: an item that is made and not read.
 //! - `circuits`, `circuit_edits`, `cursors`, `gaps`, `step_items`: circuits, their edits and their steps.
 //! - `coins`, `samplers`: coins, and runs by them. `results`: entries of results.
-//! - `rounds`: where rounds are that come again, in blocks and written out, and that their pivots count once. `kept_rounds`: which of
+//! - `rounds`: where rounds are that come again, in blocks and written out, and that their pivots count once. `stored_rounds`: which of
 //!   them an edit leaves.
 //! - `sessions`, `session_edits`: sessions that are refused, and what edits cost.
 //! - `distances`: the search for a least logical error. `distance_parts`: all of its parts. `counts`: how many there are.
@@ -42,8 +42,6 @@ mod distances;
 #[cfg(test)]
 mod gaps;
 #[cfg(test)]
-mod kept_rounds;
-#[cfg(test)]
 mod letters;
 pub mod made_items;
 #[cfg(test)]
@@ -64,5 +62,7 @@ mod sessions;
 mod states;
 #[cfg(test)]
 mod step_items;
+#[cfg(test)]
+mod stored_rounds;
 #[cfg(test)]
 mod texts;

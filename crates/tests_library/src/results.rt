@@ -19,10 +19,10 @@ fn is_right_in(
 ) -> Result<bool, Refusal> {
     let mut out = MemoryOutput::new(alloc, room)?;
     let answer = write_entries(&mut out, kinds, places);
-    let kept = out.bytes() == bytes.split_at(room.min(bytes.len())).0;
+    let preserved = out.bytes() == bytes.split_at(room.min(bytes.len())).0;
     match answer {
-        Ok(()) => Ok(kept && room >= bytes.len()),
-        Err(refusal) => Ok(kept && room < bytes.len() && refusal == Refusal::WriteFault),
+        Ok(()) => Ok(preserved && room >= bytes.len()),
+        Err(refusal) => Ok(preserved && room < bytes.len() && refusal == Refusal::WriteFault),
     }
 }
 

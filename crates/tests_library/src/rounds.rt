@@ -2,7 +2,7 @@
 use stab_circuit::read_circuit;
 use stab_items::Repeat;
 use stab_pauli::MemoryInput;
-use stab_rounds::find_rounds;
+use stab_run::find_rounds;
 use stab_sampler::Reference;
 use std::alloc::Global;
 use std::test::Fail;
@@ -53,7 +53,7 @@ fn blocks_with_rounds_stand_in_the_steps(rt: HostRuntime) -> Result<(), Fail> {
 
 #[test]
 fn a_pivot_that_rounds_have_again_counts_once(rt: HostRuntime) -> Result<(), Fail> {
-    // More outcomes are random than pivots may be kept.
+    // More outcomes are random than pivots may be stored.
     let text = "REPEAT 200000 {\nH 0\nM 0\n}\n";
     let circuit = read_circuit(rt.alloc(), &mut MemoryInput::new(text.as_bytes()))?;
     let reference = Reference::of(rt.alloc(), &circuit, 1)?;

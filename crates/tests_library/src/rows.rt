@@ -1,4 +1,4 @@
-//! Rows of signed Pauli strings: made, changed, kept in little memory and compared.
+//! Rows of signed Pauli strings: made, changed, stored in little memory and compared.
 use crate::texts::{both, prints, read, repeated};
 use stab_pauli::{CompactRows, Letter, Pauli, PauliRows, Refusal};
 use std::alloc::Global;
@@ -281,7 +281,7 @@ fn is_third_alone(rows: &PauliRows) -> bool {
 }
 
 // Whether that holds of rows of n letters, the third of which is set to -YY and so on.
-fn are_others_kept(alloc: Global, n: usize) -> Result<bool, Refusal> {
+fn are_others_stored(alloc: Global, n: usize) -> Result<bool, Refusal> {
     let mut rows = PauliRows::new(alloc, 4, n.min(1024))?;
     let mut other = repeated(alloc, n, Letter::Y)?;
     other.negate();
@@ -292,8 +292,8 @@ fn are_others_kept(alloc: Global, n: usize) -> Result<bool, Refusal> {
 #[test]
 fn a_row_after_many_keeps_the_others(rt: HostRuntime) -> Result<(), Fail> {
     for n in [1, 255, 256, 257, 1024] {
-        let kept = are_others_kept(rt.alloc(), n)?;
-        assert!(rt; kept, "{n}");
+        let preserved = are_others_stored(rt.alloc(), n)?;
+        assert!(rt; preserved, "{n}");
     }
     Ok(())
 }

@@ -29,7 +29,7 @@ fn read(alloc: Global, text: &str) -> Result<Circuit, Fault> {
     read_circuit(alloc, &mut MemoryInput::new(text.as_bytes()))
 }
 
-/// Whether a shot has these records, flags, detectors and observables.
+/// Whether a shot has these records, randomness, detectors and observables.
 fn has(shot: &Shot, lists: [&[bool]; 4]) -> bool {
     let [records, free, detectors, observables] = lists;
     shot.records.as_slice() == records

@@ -82,7 +82,7 @@ fn put_in<C: Coins>(
     put_where(alloc, &mut session, place, text)
 }
 
-/// The steps that an edit carries out, those that a frame goes over, and the checkpoints that are kept, or none;
+/// The steps that an edit carries out, those that a frame goes over, and the checkpoints that are stored, or none;
 /// and how many coins the session asked for in all.
 fn cost(
     alloc: Global,
@@ -111,9 +111,9 @@ fn costs(
     (steps, copies, (opening, edit)): ([usize; 2], usize, (u64, u64)),
 ) -> Result<bool, Fault> {
     let (_, asked) = cost(alloc, circuit, None, text)?;
-    let ([applied, by_frame, kept], asks) = cost(alloc, circuit, Some(place), text)?;
+    let ([applied, by_frame, preserved], asks) = cost(alloc, circuit, Some(place), text)?;
     let asked_for = asked == opening && asks == opening.saturating_add(edit);
-    Ok([applied, by_frame] == steps && kept <= copies && asked_for)
+    Ok([applied, by_frame] == steps && preserved <= copies && asked_for)
 }
 
 /// The path of a position in the outermost list, or in a block of it.
@@ -160,7 +160,7 @@ const SETTLES_FAR: &str = "M 0\nREPEAT 39 {\nMX 0\n}\nDETECTOR rec[-40]";
 const STILL: &str = "REPEAT 100 {\nX 0\n}";
 
 // A measurement or reset that is put in gives all later records or coins other numbers. If no coin decides after a
-// checkpoint and nothing looks back, the old run is kept nevertheless, from the first checkpoint on, before step 10
+// checkpoint and nothing looks back, the old run stays nevertheless, from the first checkpoint on, before step 10
 // of the new ones. If a detector looks back to 15 records, of which one run has eight there and the other nine, the
 // other old checkpoints in the block are passed: the state before step 28, after 27 records, is as it was before step
 // 19, after 18; the next nine steps are repeated, and the last five carried out. If a detector looks back to all, no
@@ -176,7 +176,7 @@ const TWO_BLOCKS: &str = "REPEAT 10 {\nX 0\nX 0\n}\nREPEAT 1000 {\nX 0\n}";
 const FREE: &str = "REPEAT 1000 {\nMX 0\nM 0\n}";
 
 // Circuits on one qubit, with checkpoints at most twelve steps from each other, and what is put in where. Then how
-// many steps the edit carries out, how many others it goes past, and the most checkpoints that are kept, two for each
+// many steps the edit carries out, how many others it goes past, and the most checkpoints that are stored, two for each
 // twelve steps and two more; how many coins the opening asks for, and how many the edit.
 //
 // An I changes nothing: from the checkpoint before it on its frame, which has no letter, goes past the steps up to

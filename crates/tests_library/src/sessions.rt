@@ -9,7 +9,7 @@ fn read(alloc: Global, text: &str) -> Result<Circuit, Fault> {
     read_circuit(alloc, &mut MemoryInput::new(text.as_bytes()))
 }
 
-/// Whether an opening on no qubits is refused, and a session has these records and flags that is opened on one qubit
+/// Whether an opening on no qubits is refused, and a session has these records and this randomness that is opened on one qubit
 /// with the circuit and the coins that came back.
 fn opens_again(
     alloc: Global,

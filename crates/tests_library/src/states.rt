@@ -4,7 +4,7 @@
 //! `tools/fuzz.py --states` tries what gates, measurements and resets make of states, and runs the
 //! program; here are the calls that no command makes, or whose answers none shows.
 mod calls;
-mod kept;
+mod stored;
 
 use crate::texts::{both, prints, single};
 use calls::Call::{self, Copy, Measure, One, Reset, Two, Wear};

@@ -73,14 +73,14 @@ fn show_tableau(alloc: Global, out: &mut MemoryOutput, tableau: &mut Tableau) ->
     show_signs(alloc, out, tableau)
 }
 
-/// Writes the state that is kept compactly.
+/// Writes the state that is stored compactly.
 fn show_compact(
     alloc: Global,
     out: &mut MemoryOutput,
     compact: &CompactTableau,
 ) -> Result<(), Stop> {
-    let mut kept = compact.tableau(alloc, None)?;
-    show_tableau(alloc, out, &mut kept)
+    let mut preserved = compact.tableau(alloc, None)?;
+    show_tableau(alloc, out, &mut preserved)
 }
 
 impl Trial for TableauCall {

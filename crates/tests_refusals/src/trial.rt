@@ -25,7 +25,7 @@ pub enum Ending {
     /// It gave what it gives.
     Gave,
     /// It was refused memory and left all as before; made again, it gave what it gives.
-    Kept,
+    Stored,
     /// It did anything else.
     Wrong,
 }
@@ -40,7 +40,7 @@ impl Ending {
     fn text(self) -> &'static str {
         match self {
             Ending::Gave => "gave",
-            Ending::Kept => "refused, as before, gave",
+            Ending::Stored => "refused, as before, gave",
             Ending::Wrong => "WRONG",
         }
     }
@@ -76,9 +76,9 @@ fn call_again<T: Trial>(alloc: Global, trial: &mut T, before: &[u8]) -> Result<E
     let Err(stop) = call_refused(alloc, trial) else {
         return Ok(Ending::Gave);
     };
-    let kept = shows(alloc, trial, before)?;
+    let preserved = shows(alloc, trial, before)?;
     trial.call(alloc)?;
-    Ok(Ending::Kept.if_right(kept && stop.is_memory()))
+    Ok(Ending::Stored.if_right(preserved && stop.is_memory()))
 }
 
 /// Tries a call, and compares what it shows in the end with these bytes.

@@ -2,8 +2,7 @@
 ghost use Rattle.std.specs.Prelude.{◌≡◌, ◌≤◌, ℕ, Option, Some, None, IfOk, IfErr, IfSome, IfNone, option_map, codes, string_bytes};
 ghost use Rattle.clap.specs.Words.{IsUnsignedIn, first_of, found_of, has_subcommand, one_of, rows_of, subcommand_rows_of};
 ghost use Rattle.stab_gates.specs.Limits.{most_qubits};
-ghost use Rattle.stab_circuit.specs.Limits.{most_stride};
-ghost use Rattle.stab_jobs.specs.Limits.{last_shot, most_shots, shots_of_seed};
+ghost use Rattle.stab_jobs.specs.Limits.{last_shot, most_shots, shots_of_seed, stride_at_most};
 ghost use Rattle.stab_args.specs.Asked.{AreLetters, AreAskedShots, IsCommand, IsFirstShot, IsJob, IsLayout, IsNamed, IsSet, IsSource, IsWritten, IsWrittenIfGiven, RefusesCoins, RefusesCommand, RefusesOptions, RefusesShots, first_beside_coins, text_or_none};
 ghost use Rattle.stab_args.specs.Options.{last_observable, most_errors, most_seed};
 ghost use Rattle.stab_args.specs.declared.words.Usage.{Usage};
@@ -123,7 +122,7 @@ fn qubits(options: &ArgMatches) -> Option<QubitCount>
 
 /// The number of `--stride`. The command line reader takes no other number.
 fn stride(options: &ArgMatches) -> Stride
-    ensures written { IsWritten 1 most_stride (one_of (codes "stride") (rows_of (found_of options.now))) result }
+    ensures written { IsWritten 1 stride_at_most (one_of (codes "stride") (rows_of (found_of options.now))) result }
 {
     match number(options, "stride") {
         Some(number) if number >= 1 && number <= Stride::MOST as u64 => {

@@ -46,13 +46,13 @@ abbrev pub innermost_open : List OneItem → List StoredBlock → List OneItem
 innermost_open xs [] = xs
 innermost_open xs (f ∷ fs) = []
 
--- what is kept by items of the outermost list, by open blocks, the outermost first, and by the items after
-abbrev pub kept_progress : List OneItem → List StoredBlock → List OneItem → Progress
-kept_progress xs fs ys = record { open_blocks = reverse (open_blocks_of xs fs); now = listed (innermost_open xs fs ++ ys) }
+-- what is stored by items of the outermost list, by open blocks, the outermost first, and by the items after
+abbrev pub stored_progress : List OneItem → List StoredBlock → List OneItem → Progress
+stored_progress xs fs ys = record { open_blocks = reverse (open_blocks_of xs fs); now = listed (innermost_open xs fs ++ ys) }
 
 -- what a reader keeps, without pointers
 abbrev pub progress_of : CircuitReader → Progress
-progress_of r = kept_progress r.outer.items r.open_blocks.items r.items.items
+progress_of r = stored_progress r.outer.items r.open_blocks.items r.items.items
 
 -- blocks are nested at most 16 deep in what is before open blocks, the innermost of them first, with those around it
 abbrev pub AreShallow : List OpenBlock → Type 0

@@ -4,8 +4,8 @@ use Rattle.std.specs.Prelude.{◌≡◌, ℕ, ◌+◌, Bool, List, Some, None}
 use Rattle.std.specs.List.{AllZip}
 use Rattle.stab_gates.specs.Letters.{◌⊕◌}
 use Rattle.stab_regions.specs.Rows.{bits_at}
-use Rattle.stab_search.specs.Tables.{row, odd}
-use Rattle.stab_search.specs.Ascending.{IsAscending}
+use Rattle.stab_parities.specs.OddNumbers.{row, odd}
+use Rattle.stab_parities.specs.Ascending.{IsAscending}
 use Rattle.stab_error_model.specs.declared.placed.PlacedLetter.{PlacedLetter}
 use Rattle.stab_error_model.specs.declared.placed.Error.{Error}
 use Rattle.stab_error_model.specs.declared.placed.Error.TheVariants as error

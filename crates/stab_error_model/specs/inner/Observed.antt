@@ -9,14 +9,14 @@ use Rattle.stab_error_model.specs.Unseen.{IsAskedFor}
 abbrev pub is_searched_number : (detectors observable : ℕ) → ℕ → Bool
 is_searched_number detectors observable number = nat_lt number detectors || ((number - detectors) == observable)
 
--- the numbers of a row that are kept so
-abbrev pub kept_row : (detectors observable : ℕ) → List ℕ → List ℕ
-kept_row detectors observable = filter (is_searched_number detectors observable)
+-- the numbers of a row that are retained so
+abbrev pub retained_row : (detectors observable : ℕ) → List ℕ → List ℕ
+retained_row detectors observable = filter (is_searched_number detectors observable)
 
 -- the table of rows in which this observable alone counts, or the table as it is if any does
 abbrev pub with_observable : Option ℕ → ErrorTable → ErrorTable
 with_observable None t = t
-with_observable (Some observable) t = record { detectors = t.detectors; rows = map (kept_row t.detectors observable) t.rows }
+with_observable (Some observable) t = record { detectors = t.detectors; rows = map (retained_row t.detectors observable) t.rows }
 
 -- a logical error of a table that flips an observable that is asked for
 pub record IsLogicalOf (observable : Option ℕ) (t : ErrorTable) (errors : List ℕ) : Type 0 where

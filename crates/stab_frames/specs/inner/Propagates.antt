@@ -40,7 +40,7 @@ pub record StepsWith (n : ℕ) (pivots : RunPivots) (x : Step) (old new : Propag
   pub flips : new.flips ≡ joined old.flips (flips_given n pivots x old.coin (frame_at 0 old))
   pub coin : new.coin ≡ old.coin + coins_of x
 
--- if an outcome is flipped otherwise than the frame has it, its string was kept, or it was fixed
+-- if an outcome is flipped otherwise than the frame has it, its string was stored, or it was fixed
 abbrev pub IsDeterminedBy : List (List Letter) → List Bool → ℕ → (change anticommuting : Bool) → Type 0
 IsDeterminedBy strings free coin change anticommuting = change ⊕ anticommuting ≡ true → pivot_at strings free coin ≡ None → slice_index_or free coin false ≡ false
 
@@ -55,14 +55,14 @@ AreDetermined n strings free changes (x ∷ xs) coin f =
     IsStepDetermined n strings free changes x coin f.letters
     × AreDetermined n strings free changes xs (coin + coins_of x) (frame_after n (pivots_of (pivot_at strings free) changes) x coin f)
 
--- past a coin, whichever coins differ as is drawn, and what it had to know was kept
+-- past a coin, whichever coins differ as is drawn, and what it had to know was stored
 pub record IsPropagated (strings : List (List Letter)) (free : List Bool) (draw : ℕ → Bool) (anticommuting flip : Bool) (old new : PropagationState) : Type 0 where
   pub over : (changes : ℕ → Bool) → IsDrawn free draw changes old.coin → IsPropagatedWith (pivots_of (pivot_at strings free) changes) anticommuting flip old new
   pub determined : (changes : ℕ → Bool) → IsDrawn free draw changes old.coin → IsDeterminedBy strings free old.coin (changes old.coin) anticommuting
   pub coin : new.coin ≡ old.coin + 1
   pub placed : IsPlaced free new
 
--- a frame of n letters was propagated over steps, whichever coins differ as is drawn, and what it had to know of their measurements was kept
+-- a frame of n letters was propagated over steps, whichever coins differ as is drawn, and what it had to know of their measurements was stored
 pub record GoesOver (n : ℕ) (strings : List (List Letter)) (free : List Bool) (draw : ℕ → Bool) (xs : List Step) (old new : PropagationState) : Type 0 where
   pub over : (changes : ℕ → Bool) → AreDrawn free draw changes xs old.coin → PropagatesWith n (pivots_of (pivot_at strings free) changes) xs old new
   pub determined : (changes : ℕ → Bool) → AreDrawn free draw changes xs old.coin → (base : ℕ) → AreDetermined n strings free changes xs old.coin (frame_at base old)
@@ -70,12 +70,12 @@ pub record GoesOver (n : ℕ) (strings : List (List Letter)) (free : List Bool) 
   pub placed : IsPlaced free new
   pub size : length new.letters ≡ n
 
--- whatever strings were kept, whichever outcomes were random, and whatever is drawn
+-- whatever strings were stored, whichever outcomes were random, and whatever is drawn
 abbrev pub GoesWithoutCoins : ℕ → List Step → PropagationState → PropagationState → Type 0
 GoesWithoutCoins n xs old new =
     (strings : List (List Letter)) (free : List Bool) (draw : ℕ → Bool) → IsPlaced free old → GoesOver n strings free draw xs old new
 
--- the string of a random outcome before a coin was not kept
+-- the string of a random outcome before a coin was not stored
 abbrev pub IsMissing : List (List Letter) → List Bool → ℕ → Type 0
 IsMissing strings free coin = length strings < ones (take coin free)
 

@@ -4,7 +4,7 @@ use Rattle.std.specs.Prelude.{◌≤◌, ℕ, List, take}
 use Rattle.stab_instructions.specs.declared.coordinates.BracketText.{BracketText}
 use Rattle.stab_instructions.specs.declared.coordinates.BracketText.TheVariants as written
 
--- the bytes that are kept
+-- the bytes that are stored
 abbrev pub bracket_bytes : BracketText → List ℕ
 bracket_bytes (written.Short len bytes) = take len bytes
 bracket_bytes (written.Long s) = s.value

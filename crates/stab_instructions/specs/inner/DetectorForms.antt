@@ -6,12 +6,12 @@ use Rattle.stab_instructions.specs.declared.detector.Form.TheVariants as form
 use Rattle.stab_instructions.specs.Lookbacks.{IsLookback}
 use Rattle.stab_instructions.specs.Words.{arguments_of}
 
--- the coordinates that are kept
+-- the coordinates that are stored
 abbrev pub form_coordinates : Form → List (List ℕ)
 form_coordinates (form.Short bytes numbers text records) = arguments_of (take bytes text)
 form_coordinates (form.Long located) = located.0
 
--- the records that are kept
+-- the records that are stored
 abbrev pub form_records : Form → List ℕ
 form_records (form.Short bytes numbers text records) = take numbers records
 form_records (form.Long located) = located.1

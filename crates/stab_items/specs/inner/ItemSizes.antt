@@ -7,7 +7,7 @@ use Rattle.stab_items.specs.declared.item.Node.{Node}
 use Rattle.stab_items.specs.declared.item.Node.TheVariants as node
 use Rattle.stab_items.specs.declared.item.Item.TheDeep.{deep-Node}
 use Rattle.stab_items.specs.Items.{OneItem, operation, repeat, listed, depth, depth_of}
-use Rattle.stab_items.specs.inner.Kept.{shown}
+use Rattle.stab_items.specs.inner.StoredSummaries.{shown}
 
 -- no item of a list is deeper than the list
 pub most_le-depth : (xs : List OneItem) → most (λ x. depth_of x + 1) xs ≤ depth (listed xs) + 1

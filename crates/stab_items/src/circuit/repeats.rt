@@ -14,7 +14,7 @@ use stab_io::Refusal;
 use std::alloc::Global;
 
 /// Rounds of the same steps, one after the other, by the steps of the unrolled circuit: a block of the
-/// outermost list, a block in it that has all of its steps, or rounds that are written out (`stab_rounds`).
+/// outermost list, a block in it that has all of its steps, or rounds that are written out (`stab_run`).
 #[derive(Clone, Copy, Debug, PartialEq, Eq)]
 pub struct Repeat {
     /// The number of its first step, counted from 0.
@@ -32,9 +32,9 @@ fn first_block(items: &[Item]) -> Option<(u64, Summary)>
     ensures found { result ≡ option_map (λ b. (b.0, summary_of b.1)) (first_with_steps (listed items.now)) }
 {
     for item in items {
-        if let Part::Block { count, kept, .. } = item.part() {
-            if kept.steps > 0 {
-                return Some((count.number(), kept));
+        if let Part::Block { count, stored, .. } = item.part() {
+            if stored.steps > 0 {
+                return Some((count.number(), stored));
             }
         }
     }
@@ -43,8 +43,8 @@ fn first_block(items: &[Item]) -> Option<(u64, Summary)>
 
 /// This many rounds of these items, which have this summary and come after this many steps; or, if all their steps are those of
 /// one block among them, as many of its rounds.
-fn repeat_of(first: usize, rounds: usize, kept: Summary, items: &[Item]) -> Repeat
-    requires kept { kept ≡ summary_of (listed items.now) }
+fn repeat_of(first: usize, rounds: usize, stored: Summary, items: &[Item]) -> Repeat
+    requires stored { stored ≡ summary_of (listed items.now) }
     requires some { 0 < length (unroll (listed items.now)) }
     requires few { rounds * length (unroll (listed items.now)) ≤ most_steps }
     requires many { 1 < rounds }
@@ -52,14 +52,14 @@ fn repeat_of(first: usize, rounds: usize, kept: Summary, items: &[Item]) -> Repe
 {
     let whole = Repeat {
         first,
-        length: kept.steps as usize,
+        length: stored.steps as usize,
         rounds,
-        window: kept.window,
+        window: stored.window,
     };
     let Some((count, inner)) = first_block(items) else {
         return whole;
     };
-    if count.saturating_mul(u64::from(inner.steps)) != u64::from(kept.steps) {
+    if count.saturating_mul(u64::from(inner.steps)) != u64::from(stored.steps) {
         return whole;
     }
     Repeat {
@@ -79,7 +79,7 @@ fn add_repeat(repeats: &mut Vec<Repeat>, first: usize, item: &Item) -> Result<()
 {
     let Part::Block {
         count,
-        kept,
+        stored,
         body,
         ..
     } = item.part()
@@ -87,10 +87,10 @@ fn add_repeat(repeats: &mut Vec<Repeat>, first: usize, item: &Item) -> Result<()
         return Ok(());
     };
     let rounds = count.number();
-    if kept.steps == 0 || rounds < 2 {
+    if stored.steps == 0 || rounds < 2 {
         return Ok(());
     }
-    repeats.push(repeat_of(first, rounds as usize, kept, body))?;
+    repeats.push(repeat_of(first, rounds as usize, stored, body))?;
     Ok(())
 }
 

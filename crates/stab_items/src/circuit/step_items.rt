@@ -1,13 +1,16 @@
-ghost use Rattle.std.specs.Prelude.{◌≡◌, ◌≤◌, ◌<◌, length, drop, slice_index_or};
-ghost use Rattle.stab_items.specs.Items.{before, done, listed};
+ghost use Rattle.std.specs.Prelude.{◌≡◌, ◌+◌, ◌≤◌, ◌<◌, length, take, drop, replicate, slice_index_or};
+ghost use Rattle.stab_items.specs.Items.{before, depth, done, listed};
 ghost use Rattle.stab_items.specs.Steps.{unroll, most_steps};
+ghost use Rattle.stab_items.specs.StepPaths.{paths_from, item_steps_left};
 ghost use Rattle.stab_items.specs.inner.Parts.{part_of, IsPart};
 ghost use Rattle.stab_items.specs.inner.StepItems.{IsFoundItem};
 
 use super::Circuit;
+use super::stretches::StepPlace;
 use crate::instruction_steps::step_count;
 use crate::item::{Item, Part};
 use crate::path::Path;
+use std::marker::Model;
 
 /// The item that a step is of, and how many steps from there on are this item's in the same round
 /// of the blocks around it.
@@ -32,7 +35,7 @@ pub(super) fn item_steps(item: &Item) -> u32
     match item.part() {
         Part::Tick => 0,
         Part::Operation { kind, .. } => step_count(kind) as u32,
-        Part::Block { count, kept, .. } => (count.number() * u64::from(kept.steps)) as u32,
+        Part::Block { count, stored, .. } => (count.number() * u64::from(stored.steps)) as u32,
     }
 }
 
@@ -40,7 +43,7 @@ pub(super) fn item_steps(item: &Item) -> u32
 fn part_at(items: &[Item], place: usize) -> Part<'_>
     requires in_range { place < length items.now }
     ensures value { part_of result ≡ slice_index_or items.now place (part_of result) }
-    ensures kept { IsPart result }
+    ensures stored { IsPart result }
 {
     items[place].part()
 }
@@ -50,6 +53,7 @@ fn find_item(items: &[Item], place: usize, step: u32) -> FoundItem
     requires few { length (unroll (listed items.now)) ≤ most_steps }
     requires in_range { step < length (unroll (listed (drop place items.now))) }
     ensures found { IsFoundItem items.now place step result }
+    ensures steps { length (unroll (listed (take result.place items.now))) + result.within ≡ length (unroll (listed (take place items.now))) + step }
 {
     let mut found = FoundItem {
         place,
@@ -65,6 +69,117 @@ fn find_item(items: &[Item], place: usize, step: u32) -> FoundItem
     }
 }
 
+/// The item of a step of an item in a list.
+fn item_within(items: &[Item], first: FoundItem) -> StepItem
+    requires few { length (unroll (listed items.now)) ≤ most_steps }
+    requires shallow { depth (listed items.now) ≤ 16 }
+    requires in_range { first.place < length items.now }
+    requires within { first.within + length (unroll (listed (drop (first.place + 1) items.now))) < length (unroll (listed (drop first.place items.now))) }
+    ensures some { 0 < result.steps }
+    ensures steps { result.steps ≡ item_steps_left (listed (drop first.place items.now)) first.within }
+    ensures path { take result.steps (drop first.within (paths_from first.place (listed (drop first.place items.now)))) ≡ replicate result.steps result.path }
+{
+    let mut items = items;
+    let mut found = first;
+    let mut places = [0; 17];
+    let mut depth = 0;
+    'levels: loop {
+        places[depth] = found.place;
+        match part_at(items, found.place) {
+            // It has no step.
+            Part::Tick => unreachable!(),
+            Part::Operation { kind, .. } => {
+                return StepItem {
+                    path: Path::new(&places[..depth + 1]),
+                    steps: step_count(kind) - found.within as usize,
+                };
+            }
+            Part::Block { stored, body, .. } => {
+                items = body;
+                depth += 1;
+                found = find_item(body, 0, found.within % stored.steps);
+            }
+        }
+    }
+}
+
+/// Finds the items of steps of a circuit, each from the item of the last one on if it isn't before it. Contracts see the circuit.
+#[derive(Drop)]
+pub struct StepItems<'a> {
+    circuit: &'a Circuit,
+    /// The item of the outermost list that was found last, and how many steps come before it.
+    place: usize,
+    before: u32,
+}
+
+impl<'a> Model for StepItems<'a> {
+    ghost use Rattle.std.specs.Prelude.{◌≡◌, ◌≤◌, List, length, take};
+    ghost use Rattle.stab_items.specs.Items.{OneItem, listed};
+    ghost use Rattle.stab_items.specs.Steps.{unroll};
+
+    ghost Value = { List OneItem };
+
+    ghost use Rattle.stab_items.specs.inner.StoredItems.{entries_code};
+
+    ghost coded = { entries_code };
+
+    ghost view = { λ s. s.circuit.now };
+
+    ghost invariant = { λ s. (s.place ≤ length s.circuit.now) × (s.before ≡ length (unroll (listed (take s.place s.circuit.now)))) };
+}
+
+impl<'a> StepItems<'a> {
+    ghost use Rattle.std.specs.Prelude.{◌≡◌, ◌≤◌, ◌<◌, ◌+◌, None, length, take, drop, replicate};
+    ghost use Rattle.stab_items.specs.Items.{listed};
+    ghost use Rattle.stab_items.specs.Steps.{unroll, check_of, most_steps};
+    ghost use Rattle.stab_items.specs.Views.{circuit_items};
+    ghost use Rattle.stab_items.specs.StepPaths.{paths_of, item_steps_left};
+
+    /// Those of a circuit, of which none was found.
+    pub fn new(circuit: &'a Circuit) -> StepItems<'a>
+        ensures value { result ≡ circuit.entry.now }
+    {
+        StepItems {
+            circuit,
+            place: 0,
+            before: 0,
+        }
+    }
+
+    /// A position that is known before a step, and how many steps are between.
+    fn place_before(&self, step: u32) -> StepPlace
+        requires few { step ≤ most_steps }
+        ensures within { result.place ≤ length self.now }
+        ensures steps { length (unroll (listed (take result.place self.now))) + result.steps ≡ step }
+    {
+        if step < self.before {
+            return self.circuit.place_before(step);
+        }
+        StepPlace {
+            place: self.place,
+            steps: step - self.before,
+        }
+    }
+
+    /// The item of a step, as `Circuit::item_of_step` gives it.
+    #[tactic(auto, using(crate::proofs::SummaryLemmas::few_steps, crate::proofs::StretchLemmas::steps_from_place))]
+    pub fn item_of_step(&mut self, step: usize) -> StepItem
+        requires checked { check_of (circuit_items self.old) ≡ None }
+        requires in_range { step < length (unroll (circuit_items self.old)) }
+        ensures circuit { self.new ≡ self.old }
+        ensures some { 0 < result.steps }
+        ensures steps { result.steps ≡ item_steps_left (circuit_items self.old) step }
+        ensures path { take result.steps (drop step (paths_of (circuit_items self.old))) ≡ replicate result.steps result.path }
+    {
+        let items = self.circuit.items();
+        let begin = self.place_before(step as u32);
+        let found = find_item(items, begin.place, begin.steps);
+        self.place = found.place;
+        self.before = step as u32 - found.within;
+        item_within(items, found)
+    }
+}
+
 impl Circuit {
     ghost use Rattle.std.specs.Prelude.{◌≡◌, ◌<◌, None, length, take, drop, replicate};
     ghost use Rattle.stab_items.specs.Steps.{unroll, check_of};
@@ -76,6 +191,7 @@ impl Circuit {
     ///
     /// Asks that no lookback of the circuit goes too far and that it has no more steps than a
     /// circuit may have.
+    #[tactic(auto, using(crate::proofs::SummaryLemmas::few_steps))]
     pub fn item_of_step(&self, step: usize) -> StepItem
         requires checked { check_of (circuit_items self.now) ≡ None }
         requires in_range { step < length (unroll (circuit_items self.now)) }
@@ -83,28 +199,12 @@ impl Circuit {
         ensures steps { result.steps ≡ item_steps_left (circuit_items self.now) step }
         ensures path { take result.steps (drop step (paths_of (circuit_items self.now))) ≡ replicate result.steps result.path }
     {
-        let mut items = self.items();
-        let mut places = [0; 17];
-        let mut depth = 0;
         let begin = self.place_before(step as u32);
-        let mut found = find_item(items, begin.place, begin.steps);
-        'levels: loop {
-            places[depth] = found.place;
-            match part_at(items, found.place) {
-                // It has no step.
-                Part::Tick => unreachable!(),
-                Part::Operation { kind, .. } => {
-                    return StepItem {
-                        path: Path::new(&places[..depth + 1]),
-                        steps: step_count(kind) - found.within as usize,
-                    };
-                }
-                Part::Block { kept, body, .. } => {
-                    items = body;
-                    depth += 1;
-                    found = find_item(body, 0, found.within % kept.steps);
-                }
-            }
-        }
+        let mut items = StepItems {
+            circuit: self,
+            place: begin.place,
+            before: step as u32 - begin.steps,
+        };
+        items.item_of_step(step)
     }
 }

@@ -107,9 +107,20 @@ pub(crate) fn summary_between(
     all.then(items_summary(items_from(front, first.max(place))))
 }
 
+/// The summary of all items of a list, by its stretches if memory for them was there.
+pub(super) fn whole_summary(stretches: &Result<Vec<Stretch>, AllocError>, items: &[Item]) -> Summary
+    requires are { IfOk stretches.now (λ v. AreStretches v.items items.now) }
+    ensures sum { IsSumOf (listed items.now) result }
+{
+    match stretches {
+        Ok(stretches) => summary_between(stretches.as_slice(), items, 0, items.len()),
+        Err(_) => items_summary(items),
+    }
+}
+
 /// Renews the stretch in which a list that had this many items was edited at a place, if there is one;
 /// after the last stretch there is none. It takes no memory: the stretch has what was put in too, without a
-/// limit, and is kept even if its last item was taken out.
+/// limit, and stays even if its last item was taken out.
 pub(super) fn renew_stretch(stretches: &mut Vec<Stretch>, place: usize, len: usize, items: &[Item])
     requires were { WereStretches stretches.old.items place len items.now }
     ensures are { AreStretches stretches.new.items items.now }

@@ -37,7 +37,7 @@ impl<'a> Walk<'a> {
         requires walks { IsWalk self.old }
         requires no_kind { self.old.kind ≡ None }
         requires room { depth (listed body.now) + 1 + length self.old.around.items ≤ 16 }
-        requires kept { steps ≡ min (length (unroll (listed body.now))) steps_cap }
+        requires stored { steps ≡ min (length (unroll (listed body.now))) steps_cap }
         requires few { count ≤ most_steps }
         ensures walks { IsWalk self.new }
         ensures left { drop result (walk_left self.new) ≡ drop count (rounds_of rounds (unroll (listed body.now)) ++ ahead self.old) }
@@ -68,10 +68,10 @@ impl<'a> Walk<'a> {
             Part::Operation { kind, .. } => self.pass_steps(kind, count),
             Part::Block {
                 count: rounds,
-                kept,
+                stored,
                 body,
                 ..
-            } => self.pass_rounds(rounds.number(), kept.steps, body, count),
+            } => self.pass_rounds(rounds.number(), stored.steps, body, count),
         };
         Some(rest)
     }

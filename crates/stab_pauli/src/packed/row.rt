@@ -100,7 +100,7 @@ pub(crate) fn is_negative(blocks: usize, row: &[u64], power_before: Phase) -> bo
     power(blocks, row).inverse().times(power_before).sign()
 }
 
-/// The power of i before the bits of a string when one of its letters has become another and its sign is kept.
+/// The power of i before the bits of a string when one of its letters has become another and its sign stays.
 #[inline(always)]
 pub(crate) fn power_with(power_before: Phase, old: Letter, new: Letter) -> Phase
     ensures value { result ≡ phase_add (phase_inverse (letter_power old)) (phase_add (letter_power new) power_before) }

@@ -9,7 +9,7 @@ use std::alloc::{AllocError, Global};
 use std::marker::Model;
 use std::rc::Rc;
 
-/// Signed Pauli strings of one length that are kept in little memory, to go back to: words that are 0 take none.
+/// Signed Pauli strings of one length that are stored in little memory, to go back to: words that are 0 take none.
 ///
 /// Contracts see of them what they see of `PauliRows`.
 pub struct CompactRows {
@@ -42,15 +42,15 @@ impl Model for CompactRows {
 
     ghost Value = { Rows };
 
-    ghost view = { λ p. table p.qubits p.blocks (spread p.words.value.gaps.items p.words.value.kept.items p.words.value.following) p.powers.items };
+    ghost view = { λ p. table p.qubits p.blocks (spread p.words.value.gaps.items p.words.value.stored.items p.words.value.following) p.powers.items };
 
-    ghost invariant = { λ p. IsCompact p.qubits p.blocks p.words.value.gaps.items p.words.value.kept.items p.words.value.following p.size p.powers.items };
+    ghost invariant = { λ p. IsCompact p.qubits p.blocks p.words.value.gaps.items p.words.value.stored.items p.words.value.following p.size p.powers.items };
 }
 
 /// Words, without those that are 0, to be shared. There are eight times as many as blocks.
 fn shared(alloc: Global, words: &[u64]) -> Result<Rc<SparseWords>, AllocError>
     requires all { length words.now ≡ 8 * (length words.now / 8) }
-    ensures value { IfOk result (λ s. IsSparse s.value.gaps.items s.value.kept.items s.value.following words.now) }
+    ensures value { IfOk result (λ s. IsSparse s.value.gaps.items s.value.stored.items s.value.following words.now) }
 {
     let sparse = SparseWords::of(alloc, words, words.len() / 8)?;
     Ok(Rc::new(alloc, sparse)?)
@@ -60,7 +60,7 @@ impl PauliRows {
     ghost use Rattle.std.specs.Prelude.{◌≡◌, IfOk, IfErr};
     ghost use Rattle.stab_io.specs.declared.refusal.Refusal.TheVariants.{OutOfMemory};
 
-    /// The same strings, kept in little memory.
+    /// The same strings, stored in little memory.
     ///
     /// Refusal `OutOfMemory` alone.
     pub fn compact(&self, alloc: Global) -> Result<CompactRows, Refusal>
@@ -108,14 +108,14 @@ impl CompactRows {
         })
     }
 
-    /// Keeps the letters in the memory of other strings that are kept, if these have the same ones. What contracts see stays.
+    /// Keeps the letters in the memory of other strings that are stored, if these have the same ones. What contracts see stays.
     pub fn share(&mut self, other: &CompactRows)
         ensures unchanged { self.new ≡ self.old }
     {
         if Rc::ptr_eq(&self.words, &other.words) {
             return;
         }
-        if !self.words.as_ref().is_kept_as(other.words.as_ref()) {
+        if !self.words.as_ref().is_stored_as(other.words.as_ref()) {
             return;
         }
         if let Ok(words) = other.words.clone() {
@@ -168,7 +168,7 @@ impl CompactRows {
         let words = rows.words.as_slice();
         let sparse = self.words.as_ref();
         are_short(words);
-        are_short(sparse.kept.as_slice());
+        are_short(sparse.stored.as_slice());
         sparse.are(words, words.len() / 8)
     }
 
@@ -185,7 +185,7 @@ impl CompactRows {
         let words = rows.words.as_slice();
         let sparse = self.words.as_ref();
         are_short(words);
-        are_short(sparse.kept.as_slice());
+        are_short(sparse.stored.as_slice());
         sparse.are(words, words.len() / 8)
     }
 

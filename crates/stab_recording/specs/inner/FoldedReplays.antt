@@ -12,7 +12,7 @@ use Rattle.stab_run.specs.ProgramStates.{StepFits, output_of}
 use Rattle.stab_run.specs.Cuts.{lengths_of}
 use Rattle.stab_run.specs.Ends.{AgreeBack, with_coin}
 use Rattle.stab_frames.specs.Flips.{flipped_output}
-use Rattle.stab_frames.specs.Pivots.{PivotsState, pivot_at, kept_again}
+use Rattle.stab_frames.specs.Pivots.{PivotsState, pivot_at, stored_again}
 use Rattle.stab_frames.specs.Propagations.{PropagationState, frame_at, IsPlaced}
 use Rattle.stab_frames.specs.RepeatedStepLaws.{DiffersBack}
 use Rattle.stab_frames.specs.OtherCoins.{coins_from, PropagatesToOthers}
@@ -135,9 +135,9 @@ pub record MayGoOver (n : ℕ) (ys : List Step) (r : Replay) (w : PropagationSta
   pub left : r.cursor.left ≡ drop r.step ys
   pub last : g.to.free ≡ w.coin + all_coins_of (take g.steps r.cursor.left)
 
--- the strings from one number up to another were put after the others again, unless no further ones are kept
+-- the strings from one number up to another were put after the others again, unless no further ones are stored
 abbrev pub HasStringsAgain : (from to : ℕ) → PivotsState → PivotsState → Type 0
-HasStringsAgain from to old new = ((length old.strings ≡ old.most) × (new ≡ old)) ⊎ ((length old.strings ≢ old.most) × (new ≡ kept_again from to old))
+HasStringsAgain from to old new = ((length old.strings ≡ old.most) × (new ≡ old)) ⊎ ((length old.strings ≢ old.most) × (new ≡ stored_again from to old))
 
 -- it gave that again, flipped by a frame, took its own coins, each of which counts as a step carried out, and saved a checkpoint that the frame
 -- changed
@@ -150,7 +150,7 @@ pub record HasPropagated (coins : ℕ → Bool) (g : Segment) (old new : Replay)
       (drop g.from.free (take g.to.free old.outputs.outcomes.items)) (coins_from (length old.outputs.free.items - g.from.free) coins) (take g.steps old.cursor.left) w v
   pub left : new.cursor.left ≡ drop g.steps old.cursor.left
   pub output : output_of new.outputs ≡ joined (output_of old.outputs) (flipped_output (between g.from g.to (output_of old.outputs)) (flips_since w v))
-  pub kept : w.number + ones (drop g.from.free (take g.to.free old.outputs.free.items)) ≤ length old.pivots.strings.strings
+  pub preserved : w.number + ones (drop g.from.free (take g.to.free old.outputs.free.items)) ≤ length old.pivots.strings.strings
   pub strings : HasStringsAgain w.number v.number old.pivots.strings new.pivots.strings
   pub state : TableauState
   pub qubits : state.qubits ≡ d.tableau.qubits

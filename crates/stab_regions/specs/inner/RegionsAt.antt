@@ -4,7 +4,7 @@ use Rattle.stab_items.specs.Steps.{Step, detector, observable, is_detector}
 use Rattle.stab_regions.specs.declared.walk.RegionWalk.{RegionWalk}
 use Rattle.stab_regions.specs.Regions.{region_of, asks_observable}
 use Rattle.stab_regions.specs.Tables.{named_by_detector}
-use Rattle.stab_regions.specs.Parities.{detectors_before, parity_region, parity_kept, parity_deterministic}
+use Rattle.stab_regions.specs.Parities.{detectors_before, parity_region, parity_preserved, parity_deterministic}
 use Rattle.stab_regions.specs.inner.RowMoves.{ShowsNumber}
 
 -- there are as many rows of one kind as of the other, no records are numbered, and each parity has a mark, and an u32 as its number
@@ -16,7 +16,7 @@ pub record AreRowsSized (r : RegionWalk) : Type 0 where
   pub few : length r.random.items < 2 ^ 32
 
 -- the regions, before the last steps, of D detectors and this many observables: each parity's is shown and marked if it is not
--- kept, and no other number is in any row
+-- stored, and no other number is in any row
 pub record IsRegionsAt (n D count : ℕ) (back : List Step) (r : RegionWalk) : Type 0 where
   pub sized : AreRowsSized r
   pub qubits : length r.rows.by_x.items ≡ n
@@ -25,7 +25,7 @@ pub record IsRegionsAt (n D count : ℕ) (back : List Step) (r : RegionWalk) : T
   pub marks : length r.random.items ≡ D + count
   pub regions : (i : ℕ) → i < D + count → ShowsNumber r.rows i (parity_region n D i back)
   pub others : (i : ℕ) → D + count ≤ i → ShowsNumber r.rows i (region_of n [])
-  pub random : (i : ℕ) → i < D + count → slice_index_or r.random.items i false ≡ not (parity_kept n D i back)
+  pub random : (i : ℕ) → i < D + count → slice_index_or r.random.items i false ≡ not (parity_preserved n D i back)
 
 -- a step's own parity is there: a detector in front of the point, or the observable
 abbrev pub HasParity : RegionWalk → Step → Type 0

@@ -1,7 +1,7 @@
 -- Rows of sites: those of X and then Z on a qubit, in front of a step and after it.
 use Rattle.std.specs.Prelude.{ℕ, List, [], ◌∷◌, ◌++◌}
-use Rattle.stab_search.specs.Ascending.{IsAscending}
-use Rattle.stab_search.specs.Tables.{row}
+use Rattle.stab_parities.specs.Ascending.{IsAscending}
+use Rattle.stab_parities.specs.OddNumbers.{row}
 use Rattle.stab_regions.specs.declared.sites.Sides.{Sides}
 use Rattle.stab_regions.specs.inner.Sites.{where_asked}
 

@@ -14,13 +14,13 @@ Rises begin (e ∷ ends) total = (begin ≤ e) × Rises e ends total
 
 -- a number whose bit is set, and those of a list
 abbrev pub is_stored : List Bool → ℕ → Bool
-is_stored kept number = slice_index_or kept number false
+is_stored retained number = slice_index_or retained number false
 
-abbrev pub kept_of : List Bool → List ℕ → List ℕ
-kept_of kept = filter (is_stored kept)
+abbrev pub retained_of : List Bool → List ℕ → List ℕ
+retained_of retained = filter (is_stored retained)
 
 -- where rows end once only such numbers are left, with this many left of those before the position
-abbrev pub ends_kept : List Bool → (count begin : ℕ) → (ends : List ℕ) → (rest : List ℕ) → List ℕ
-ends_kept kept count begin [] rest = []
-ends_kept kept count begin (e ∷ ends) rest =
-    (count + length (kept_of kept (take (e - begin) rest))) ∷ ends_kept kept (count + length (kept_of kept (take (e - begin) rest))) e ends (drop (e - begin) rest)
+abbrev pub ends_retained : List Bool → (count begin : ℕ) → (ends : List ℕ) → (rest : List ℕ) → List ℕ
+ends_retained retained count begin [] rest = []
+ends_retained retained count begin (e ∷ ends) rest =
+    (count + length (retained_of retained (take (e - begin) rest))) ∷ ends_retained retained (count + length (retained_of retained (take (e - begin) rest))) e ends (drop (e - begin) rest)

@@ -1,7 +1,8 @@
 -- Certificates: an observable and detectors of which each row names an even number, so that errors that flip no detector do not flip it.
 use Rattle.std.specs.Prelude.{◌≡◌, ℕ, ◌<◌, ◌≤◌, Bool, true, false, List, [], ◌∷◌, length, slice_index_or, All}
 use Rattle.stab_gates.specs.Letters.{◌⊕◌}
-use Rattle.stab_search.specs.Tables.{ErrorTable, row, flipped_by_rows}
+use Rattle.stab_search.specs.Tables.{ErrorTable, flipped_by_rows}
+use Rattle.stab_parities.specs.OddNumbers.{row}
 
 -- whether an odd number of a list are members
 abbrev pub odd_members : List Bool → List ℕ → Bool

@@ -1,7 +1,8 @@
 -- Classes of detectors: if the part of each error in each class is an error, errors of one class each are enough. Detectors of class 0 are ignored.
 use Rattle.std.specs.Prelude.{◌≡◌, ◌≢◌, ◌⊎◌, ℕ, ◌<◌, ◌≤◌, true, List, [], ◌∷◌, length, map, slice_index}
-use Rattle.stab_search.specs.Ascending.{IsAscending}
-use Rattle.stab_search.specs.Tables.{ErrorTable, odd, row, flipped_by_rows}
+use Rattle.stab_parities.specs.Ascending.{IsAscending}
+use Rattle.stab_search.specs.Tables.{ErrorTable, flipped_by_rows}
+use Rattle.stab_parities.specs.OddNumbers.{odd, row}
 use Rattle.stab_search.specs.LogicalErrors.{IsLogicalError}
 use Rattle.stab_search.specs.inner.Errors.{AreRowsOf}
 use Rattle.stab_search.specs.inner.Lists.{ForEach}

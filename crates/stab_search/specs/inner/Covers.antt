@@ -1,7 +1,7 @@
 -- Covers: how many of the flipped detectors each error flips.
 use Rattle.std.specs.Prelude.{◌≡◌, ℕ, ◌+◌, ◌<◌, ◌≤◌, true, false, List, [], ◌∷◌, length, slice_index, if◌then◌else◌}
 use Rattle.std.specs.Global.{Vec}
-use Rattle.stab_search.specs.Tables.{odd, row}
+use Rattle.stab_parities.specs.OddNumbers.{odd, row}
 use Rattle.stab_search.specs.inner.Indexes.{rows_listed}
 use Rattle.stab_search.specs.inner.Lists.{has}
 

@@ -2,8 +2,9 @@
 use Rattle.std.specs.Prelude.{◌≡◌, ℕ, ◌<◌, ◌≤◌, true, false, List, [], ◌∷◌, length, slice_index}
 use Rattle.std.specs.Global.{Vec}
 use Rattle.stab_gates.specs.Letters.{◌⊕◌}
-use Rattle.stab_search.specs.Ascending.{IsAscending}
-use Rattle.stab_search.specs.Tables.{ErrorTable, odd, flipped_by_rows}
+use Rattle.stab_parities.specs.Ascending.{IsAscending}
+use Rattle.stab_search.specs.Tables.{ErrorTable, flipped_by_rows}
+use Rattle.stab_parities.specs.OddNumbers.{odd}
 use Rattle.stab_search.specs.inner.Indexes.{rows_listed}
 use Rattle.stab_search.specs.inner.Lists.{ForEach, has}
 

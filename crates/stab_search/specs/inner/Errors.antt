@@ -1,7 +1,9 @@
 -- Errors ready for a search: their table, and numbers of detectors, of which the keys of rows are made.
 use Rattle.std.specs.Prelude.{◌≡◌, ℕ, ◌<◌, ◌≤◌, List, [], ◌∷◌, length, slice_index, bit_xor}
 use Rattle.std.specs.Global.{Vec}
-use Rattle.stab_search.specs.Tables.{ErrorTable, row}
+use Rattle.stab_parities.specs.Ascending.{IsAscending}
+use Rattle.stab_search.specs.Tables.{ErrorTable}
+use Rattle.stab_parities.specs.OddNumbers.{row}
 use Rattle.stab_search.specs.inner.Indexes.{ListsDetectors, ListsKeys}
 use Rattle.stab_search.specs.inner.Pairs.{ArePairs}
 use Rattle.stab_search.specs.inner.Steps.{BeginsBefore}
@@ -17,6 +19,11 @@ pub record Keyed : Type 0 where
 abbrev pub key_of : List ℕ → List ℕ → ℕ
 key_of numbers [] = 0
 key_of numbers (d ∷ ds) = bit_xor (slice_index numbers d) (key_of numbers ds)
+
+-- what errors flip together, in ascending order, with its key
+pub record IsKeyed (numbers flipped : List ℕ) (key : ℕ) : Type 0 where
+  pub ascending : IsAscending flipped
+  pub value : key ≡ key_of numbers flipped
 
 -- the keys of rows
 abbrev pub AreKeys : List ℕ → List (List ℕ) → List ℕ → Type 0

@@ -2,7 +2,8 @@
 use Rattle.std.specs.Prelude.{◌≡◌, ℕ, ◌<◌, ◌≤◌, ◌==◌, Bool, true, false, List, length, slice_index_or, All}
 use Rattle.stab_gates.specs.Letters.{◌⊕◌}
 use Rattle.stab_search.specs.declared.edges.Edge.{Edge}
-use Rattle.stab_search.specs.Tables.{ErrorTable, odd, row, flipped_by_rows}
+use Rattle.stab_search.specs.Tables.{ErrorTable, flipped_by_rows}
+use Rattle.stab_parities.specs.OddNumbers.{odd, row}
 use Rattle.stab_search.specs.LogicalErrors.{IsLogicalError}
 
 -- an edge flips the detectors of its row: its two nodes, one of which or both may be the boundary

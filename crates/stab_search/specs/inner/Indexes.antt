@@ -1,7 +1,7 @@
 -- Indexes: rows listed by positions, such as the detectors that they flip.
 use Rattle.std.specs.Prelude.{◌≡◌, ℕ, zero, suc, ◌<◌, true, List, [], ◌∷◌, length, slice_index, bit_and}
 use Rattle.std.specs.Global.{Vec}
-use Rattle.stab_search.specs.Tables.{odd, row}
+use Rattle.stab_parities.specs.OddNumbers.{odd, row}
 use Rattle.stab_search.specs.inner.Lists.{ForEach, has}
 
 -- the rows listed at a position; none past the end

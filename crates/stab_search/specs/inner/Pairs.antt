@@ -2,7 +2,7 @@
 use Rattle.std.specs.Prelude.{◌≡◌, ◌≢◌, ◌⊎◌, ℕ, ◌<◌, ◌≤◌, true, List, length}
 use Rattle.std.specs.Global.{Vec}
 use Rattle.stab_gates.specs.Letters.{◌⊕◌}
-use Rattle.stab_search.specs.Tables.{odd, row}
+use Rattle.stab_parities.specs.OddNumbers.{odd, row}
 use Rattle.stab_search.specs.inner.Lists.{has}
 use Rattle.stab_search.specs.inner.Indexes.{rows_listed}
 

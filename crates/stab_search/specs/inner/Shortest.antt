@@ -1,6 +1,6 @@
 -- Logical errors of at most a number of errors, and the set of a list of errors.
 use Rattle.std.specs.Prelude.{◌≡◌, ℕ, ◌<◌, ◌≤◌, Bool, true, false, List, length}
-use Rattle.stab_search.specs.Ascending.{IsAscending}
+use Rattle.stab_parities.specs.Ascending.{IsAscending}
 use Rattle.stab_search.specs.Tables.{ErrorTable, flipped_by_rows}
 use Rattle.stab_search.specs.LogicalErrors.{IsLogicalError, HasNone, HasSome}
 use Rattle.stab_search.specs.inner.Lists.{ForEach}

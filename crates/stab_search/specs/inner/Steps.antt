@@ -1,6 +1,7 @@
 -- Steps: rows with other detectors for theirs, as of one round for those of the next, and the errors that a shortest logical error has one of.
 use Rattle.std.specs.Prelude.{◌≡◌, ℕ, ◌<◌, ◌≤◌, true, List, length, slice_index, slice_index_or}
-use Rattle.stab_search.specs.Tables.{ErrorTable, row}
+use Rattle.stab_search.specs.Tables.{ErrorTable}
+use Rattle.stab_parities.specs.OddNumbers.{row}
 use Rattle.stab_search.specs.LogicalErrors.{IsLogicalError}
 use Rattle.stab_search.specs.inner.Lists.{has}
 

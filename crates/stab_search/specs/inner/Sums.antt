@@ -3,7 +3,7 @@
 use Rattle.std.specs.Prelude.{◌≡◌, ℕ, zero, suc, ◌+◌, ◌<◌, ◌≤◌, ◌^◌, Bool, true, false, ◌&&◌, nat_lt, List, [], ◌∷◌, ◌++◌, length, map, slice_index_or, All}
 use Rattle.std.specs.List.{filter, flat_map, range_with_len}
 use Rattle.stab_gates.specs.Letters.{◌⊕◌}
-use Rattle.stab_search.specs.Tables.{odd}
+use Rattle.stab_parities.specs.OddNumbers.{odd}
 use Rattle.stab_search.specs.declared.literal.Literal.{Literal}
 use Rattle.stab_search.specs.declared.literal.Literal.TheVariants.{Is, IsNot}
 use Rattle.stab_search.specs.declared.sums.Sum.{Sum}
@@ -45,7 +45,7 @@ AreParities rows sums parities = (a : ℕ → Bool) → AreSums a sums → (i : 
 
 -- parities after an error that flips these numbers: its variable is added to theirs
 pub record Adds (variable : ℕ) (is : List ℕ) (sums : List Sum) (parities : List ℕ) (sums' : List Sum) (parities' : List ℕ) : Type 0 where
-  pub kept : (a : ℕ → Bool) → AreSums a sums' → AreSums a sums
+  pub preserved : (a : ℕ → Bool) → AreSums a sums' → AreSums a sums
   pub added : (a : ℕ → Bool) → AreSums a sums' → (i : ℕ) → variable_value a (parity_variable parities' i) ≡ variable_value a (parity_variable parities i) ⊕ (a variable && odd i is)
 
 -- sums from a first variable on, and parities, each of which is a variable that is there or 0

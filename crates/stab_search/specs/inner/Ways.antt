@@ -2,7 +2,8 @@
 use Rattle.std.specs.Prelude.{◌≡◌, ℕ, zero, suc, ◌+◌, ◌*◌, ◌^◌, ◌<◌, ◌≤◌, ◌⊎◌, true, ◌&&◌, List, [], ◌∷◌, ◌++◌, length, nat_lt, slice_index, slice_set, Option, Some, None, if◌then◌else◌}
 use Rattle.std.specs.List.{list_any}
 use Rattle.stab_search.specs.Counts.{HasNoneBelow}
-use Rattle.stab_search.specs.Tables.{ErrorTable, odd, row}
+use Rattle.stab_search.specs.Tables.{ErrorTable}
+use Rattle.stab_parities.specs.OddNumbers.{odd, row}
 use Rattle.stab_search.specs.inner.Errors.{HasRow}
 use Rattle.stab_search.specs.inner.Ends.{Completes}
 use Rattle.stab_search.specs.inner.Lists.{ForEach, has}

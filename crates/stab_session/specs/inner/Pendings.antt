@@ -11,7 +11,7 @@ use Rattle.stab_items.specs.declared.edit.Span.{Span}
 use Rattle.stab_items.specs.declared.edit.Edit.TheVariants.{Insert, Replace, Delete}
 use Rattle.stab_session.specs.declared.pending.Pending.{Pending}
 use Rattle.stab_session.specs.declared.pending.Pending.TheVariants.{Inserted, Replaced, Deleted}
-use Rattle.stab_rounds.specs.Spans.{IsSpan}
+use Rattle.stab_run.specs.Spans.{IsSpan}
 
 -- where the edit was made
 abbrev pub pending_path : Pending → Path

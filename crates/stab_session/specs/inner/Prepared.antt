@@ -1,4 +1,4 @@
--- Prepared runs: what a replay of an edited circuit begins with, what it leaves, and what is kept once that is put in place.
+-- Prepared runs: what a replay of an edited circuit begins with, what it leaves, and what is stored once that is put in place.
 -- Source: this project's own.
 use Rattle.std.specs.Prelude.{◌≡◌, ℕ, ◌<◌, ◌≤◌, false, List, [], All, IfSome, length, take, drop, reverse, replicate, slice_get}
 use Rattle.stab_gates.specs.declared.letter.Letter.TheVariants.{I}
@@ -18,7 +18,7 @@ use Rattle.stab_run.specs.Records.{ones}
 use Rattle.stab_run.specs.Points.{RunOutput, joined, with_additions}
 use Rattle.stab_run.specs.ProgramStates.{output_of}
 use Rattle.stab_run.specs.Cuts.{lengths_of, front_of, rest_of}
-use Rattle.stab_frames.specs.Pivots.{PivotsState, front_kept, cut_to}
+use Rattle.stab_frames.specs.Pivots.{PivotsState, front_stored, cut_to}
 use Rattle.stab_frames.specs.Limits.{most_strings}
 use Rattle.stab_recording.specs.PivotLists.{IsSpliced}
 use Rattle.stab_recording.specs.SavedCheckpoints.{all_saved}
@@ -31,14 +31,14 @@ pub record IsCheckpointCount (step : ℕ) (checkpoints : List Checkpoint) (m : �
   pub before : All (λ c. c.step < step) (take m checkpoints)
   pub following : IfSome (slice_get checkpoints m) (λ c. step ≤ c.step)
 
--- a replay of some steps begins at a checkpoint that is kept: it has done nothing yet
-pub record Begins (ys : List Step) (kept : Recording) (c : Checkpoint) (r : Replay) : Type 0 where
+-- a replay of some steps begins at a checkpoint that is stored: it has done nothing yet
+pub record Begins (ys : List Step) (preserved : Recording) (c : Checkpoint) (r : Replay) : Type 0 where
   pub tableau : r.tableau ≡ c.tableau
-  pub string : length r.string.letters ≡ kept.tableau.qubits
-  pub output : output_of r.outputs ≡ front_of c.lengths (output_of kept.outputs)
-  pub scratch : length r.pivots.string.letters ≡ kept.tableau.qubits
-  pub strings : r.pivots.strings ≡ front_kept (ones r.outputs.free.items) kept.strings
-  pub window : r.pivots.window ≡ kept.window
+  pub string : length r.string.letters ≡ preserved.tableau.qubits
+  pub output : output_of r.outputs ≡ front_of c.lengths (output_of preserved.outputs)
+  pub scratch : length r.pivots.string.letters ≡ preserved.tableau.qubits
+  pub strings : r.pivots.strings ≡ front_stored (ones r.outputs.free.items) preserved.strings
+  pub window : r.pivots.window ≡ preserved.window
   pub all : r.cursor.all ≡ ys
   pub left : r.cursor.left ≡ drop c.step ys
   pub distinct : All HasDistinctQubits ys
@@ -71,26 +71,26 @@ abbrev pub meeting_of : RunOutput → ℕ → Checkpoint → Meeting
 meeting_of o step c = record { old_step = c.step; new_step = step; old_lengths = c.lengths; new_lengths = lengths_of o }
 
 -- from an old checkpoint with a number on the recording comes after a replay: its checkpoints, what it gave, and its strings
-pub record IsOldRest (kept : Recording) (o : RunOutput) (has_pivots : PivotsState) (step number : ℕ) (new : RunOutput) (new_strings : PivotsState) (rest : Rest) (c : Checkpoint) : Type 0 where
+pub record IsOldRest (preserved : Recording) (o : RunOutput) (has_pivots : PivotsState) (step number : ℕ) (new : RunOutput) (new_strings : PivotsState) (rest : Rest) (c : Checkpoint) : Type 0 where
   pub old : OldRest
   pub is : rest ≡ Old old
   pub from : old.number ≡ number
   pub meeting : old.meeting ≡ meeting_of o step c
   pub states : old.conjugated.items ≡ []
-  pub letters : old.propagation.letters ≡ replicate kept.tableau.qubits I
-  pub output : new ≡ joined o (rest_of c.lengths (output_of kept.outputs))
-  pub strings : IsSpliced has_pivots kept.strings (ones (take c.lengths.free kept.outputs.free.items)) (ones new.free) new_strings
+  pub letters : old.propagation.letters ≡ replicate preserved.tableau.qubits I
+  pub output : new ≡ joined o (rest_of c.lengths (output_of preserved.outputs))
+  pub strings : IsSpliced has_pivots preserved.strings (ones (take c.lengths.free preserved.outputs.free.items)) (ones new.free) new_strings
 
 -- what comes after a replay that ended before a step with this tableau and output, and what the output is then
 abbrev pub IsRest : Recording → TableauState → RunOutput → PivotsState → ℕ → End → RunOutput → PivotsState → Rest → Type 0
-IsRest kept t o strings step Last new new_strings rest = (rest ≡ Nothing t) × (new ≡ o) × (new_strings ≡ strings)
-IsRest kept t o strings step (Joined number) new new_strings rest =
-    IfSome (slice_get kept.checkpoints.items number) (IsOldRest kept o strings step number new new_strings rest)
+IsRest preserved t o strings step Last new new_strings rest = (rest ≡ Nothing t) × (new ≡ o) × (new_strings ≡ strings)
+IsRest preserved t o strings step (Joined number) new new_strings rest =
+    IfSome (slice_get preserved.checkpoints.items number) (IsOldRest preserved o strings step number new new_strings rest)
 
 -- what a replay leaves is prepared: what comes after it, strings up to the limit, this many observables, summed, and its checkpoints, the last first
-pub record IsPrepared (kept : Recording) (r : Replay) (count : ℕ) (end : End) (p : Prepared) : Type 0 where
+pub record IsPrepared (preserved : Recording) (r : Replay) (count : ℕ) (end : End) (p : Prepared) : Type 0 where
   pub all : PivotsState
-  pub rest : IsRest kept r.tableau (output_of r.outputs) r.pivots.strings r.step end (output_of p.outputs) all p.rest
+  pub rest : IsRest preserved r.tableau (output_of r.outputs) r.pivots.strings r.step end (output_of p.outputs) all p.rest
   pub strings : p.strings ≡ cut_to (most_strings all.qubits) all
   pub window : p.window ≡ r.pivots.window
   pub observables : p.observables.items ≡ with_additions p.outputs.additions.items (replicate count false)

@@ -1,4 +1,4 @@
--- Propagated recordings: what a frame made of a recording, and what is kept once that is put in place.
+-- Propagated recordings: what a frame made of a recording, and what is stored once that is put in place.
 -- Source: this project's own.
 use Rattle.std.specs.Prelude.{◌≡◌, ℕ, ◌+◌, ◌-◌, ◌≤◌, Bool, false, List, [], Option, IfSome, map, MatchOption, All, length, take, drop, replicate, slice_get}
 use Rattle.stab_gates.specs.declared.letter.Letter.TheVariants.{I}
@@ -95,5 +95,5 @@ pub record IsPutInPlace (old : Recording) (before K : ℕ) (t : Conjugating) (ne
 
 -- the run was conjugated: it is that of the new steps, with this many observables, and this many steps were followed for it
 pub record HasConjugated (n : ℕ) (coins : ℕ → Bool) (K : ℕ) (ys : List Step) (observables : ℕ) (s : Span) (old : Recording) (f : Followed) (new : Recording) : Type 0 where
-  pub kept : IsRecording n coins K ys observables new
+  pub preserved : IsRecording n coins K ys observables new
   pub way : IsWay n coins K ys s old (f.applied + f.by_frame)

@@ -14,7 +14,7 @@ pub struct Report {
     pub by_frame: usize,
     /// Those of them that a frame was propagated over in vain: it couldn't give the run, which was then made in another way.
     pub tried: usize,
-    /// Checkpoints of the state that are kept afterwards.
+    /// Checkpoints of the state that are stored afterwards.
     pub checkpoints: usize,
 }
 

@@ -55,7 +55,7 @@ cleared_with n k leading p = if bit_at n p.letters k then product p leading else
 pub record AreCleared (leading k : ℕ) (old new : Rows) : Type 0 where
   pub qubits : new.qubits ≡ old.qubits
   pub count : length new.rows ≡ length old.rows
-  pub kept : row_at new leading ≡ row_at old leading
+  pub preserved : row_at new leading ≡ row_at old leading
   pub others : (c : ℕ) → c < length old.rows → c ≢ leading → row_at new c ≡ cleared_with old.qubits k (row_at old leading) (row_at old c)
 
 -- a step of an elimination from position k on

@@ -1,4 +1,4 @@
--- Supports: at which positions rows may have X or Y, kept for 64 rows together, by words of 64 positions.
+-- Supports: at which positions rows may have X or Y, stored for 64 rows together, by words of 64 positions.
 -- Source: this project's own.
 use Rattle.std.specs.Prelude.{◌≡◌, ◌≢◌, ℕ, ◌+◌, ◌*◌, ◌<◌, ◌≤◌, Bool, true, List, length, slice_index_or}
 use Rattle.stab_gates.specs.declared.letter.Letter.TheVariants.{I}

@@ -19,4 +19,4 @@ pub record AreRowsMeasured (n : ℕ) (rows : List InverseRows) (p : Signed) (coi
   pub random_is : free ≡ is_random_by (stabilises (record { qubits = n; rows = rows })) p
   pub members : (q : Signed) → length q.letters ≡ n
       → stabilises (record { qubits = n; rows = new }) q ≡ projected_by (stabilises (record { qubits = n; rows = rows })) p outcome q
-  pub kept : free ≡ false → new ≡ rows
+  pub preserved : free ≡ false → new ≡ rows

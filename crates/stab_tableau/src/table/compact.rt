@@ -5,7 +5,7 @@ use stab_pauli::{CompactRows, Letter};
 use std::alloc::Global;
 use std::marker::Model;
 
-/// The rows of a table that are kept in little memory, to go back to.
+/// The rows of a table that are stored in little memory, to go back to.
 ///
 /// Contracts see of them what they see of a table.
 #[derive(Drop)]
@@ -29,7 +29,7 @@ impl Table {
     ghost use Rattle.std.specs.Prelude.{◌≡◌, IfOk, IfErr};
     ghost use Rattle.stab_io.specs.declared.refusal.Refusal.TheVariants.{OutOfMemory};
 
-    /// The same rows, kept in little memory.
+    /// The same rows, stored in little memory.
     pub fn compact(&self, alloc: Global) -> Result<CompactTable, Refusal>
         ensures ok { IfOk result (λ t. t ≡ self.now) }
         ensures err { IfErr result (λ r. r ≡ OutOfMemory) }
@@ -64,7 +64,7 @@ impl CompactTable {
         Ok(CompactTable { rows })
     }
 
-    /// Keeps the letters in the memory of other rows that are kept, if these have the same ones.
+    /// Keeps the letters in the memory of other rows that are stored, if these have the same ones.
     pub fn share(&mut self, other: &CompactTable)
         ensures unchanged { self.new ≡ self.old }
     {

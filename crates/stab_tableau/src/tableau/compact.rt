@@ -6,7 +6,7 @@ use stab_pauli::{Letter, Pauli};
 use std::alloc::Global;
 use std::marker::Model;
 
-/// A state that is kept in little memory, to go back to.
+/// A state that is stored in little memory, to go back to.
 ///
 /// What contracts see of it is the value of the tableau that it was made of.
 pub struct CompactTableau {
@@ -37,7 +37,7 @@ impl Tableau {
     ghost use Rattle.std.specs.Prelude.{◌≡◌, IfOk, IfErr};
     ghost use Rattle.stab_io.specs.declared.refusal.Refusal.TheVariants.{OutOfMemory};
 
-    /// The same state, kept in little memory if most of its words are 0, as for codes.
+    /// The same state, stored in little memory if most of its words are 0, as for codes.
     ///
     /// Refusal `OutOfMemory` alone.
     pub fn compact(&self, alloc: Global) -> Result<CompactTableau, Refusal>
@@ -114,7 +114,7 @@ impl CompactTableau {
         self.table.write_into(&mut tableau.table);
     }
 
-    /// Applies a Pauli gate to a qubit of the kept state, in place: at most two signs are flipped. It takes no memory.
+    /// Applies a Pauli gate to a qubit of the stored state, in place: at most two signs are flipped. It takes no memory.
     ///
     /// A string stabilises the new state if and only if it stabilised the old one, with its sign flipped if it anticommutes with
     /// the letter.
@@ -126,22 +126,22 @@ impl CompactTableau {
         self.table.conjugate(letter, qubit);
     }
 
-    /// Whether the rows of a tableau differ from the kept ones only in their signs; if so, a string gets the letters by
+    /// Whether the rows of a tableau differ from the stored ones only in their signs; if so, a string gets the letters by
     /// which the two states differ, and its sign does not matter; otherwise it stays as it was. It takes no memory.
     ///
-    /// A string stabilises the tableau's state if and only if it stabilises the kept one, with its sign flipped if it
+    /// A string stabilises the tableau's state if and only if it stabilises the stored one, with its sign flipped if it
     /// anticommutes with these letters.
     pub fn frame_to(&self, tableau: &Tableau, frame: &mut Pauli) -> bool
         requires same_length { length frame.old.letters ≡ self.now.qubits }
         ensures length { length frame.new.letters ≡ length frame.old.letters }
         ensures same { (result ≡ true) ↔ SameLetters self.now.rows tableau.now.rows }
         ensures conjugated { result ≡ true → IsConjugated self.now.qubits frame.new.letters (stabilises self.now) (stabilises tableau.now) }
-        ensures kept { result ≡ false → frame.new ≡ frame.old }
+        ensures preserved { result ≡ false → frame.new ≡ frame.old }
     {
         if !self.table.same_letters(&tableau.table) {
             return false;
         }
-        group::write_kept_frame(&self.table, &tableau.table, frame);
+        group::write_stored_frame(&self.table, &tableau.table, frame);
         true
     }
 

@@ -24,7 +24,7 @@ impl Tableau {
         ensures unchanged { result.free ≡ false → self.new ≡ self.old }
         ensures length { length pivot.new.letters ≡ length pivot.old.letters }
         ensures pivot { result.free ≡ true → IsPivot self.old.qubits (stabilises self.old) pauli.now pivot.new.letters }
-        ensures kept { result.free ≡ false → pivot.new ≡ pivot.old }
+        ensures preserved { result.free ≡ false → pivot.new ≡ pivot.old }
     {
         rows::write_preimage(&self.table, pauli, &mut self.preimage);
         let observable = &Observable::String(pauli);
@@ -55,7 +55,7 @@ impl Tableau {
         ensures unchanged { result.free ≡ false → self.new ≡ self.old }
         ensures length { length pivot.new.letters ≡ length pivot.old.letters }
         ensures pivot { result.free ≡ true → IsPivot self.old.qubits (stabilises self.old) (single self.old.qubits qubit letter) pivot.new.letters }
-        ensures kept { result.free ≡ false → pivot.new ≡ pivot.old }
+        ensures preserved { result.free ≡ false → pivot.new ≡ pivot.old }
     {
         inverse_rows::copy_into(&self.table, qubit, letter, &mut self.preimage);
         let observable = &Observable::Single(letter, qubit);

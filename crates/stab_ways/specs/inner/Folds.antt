@@ -9,7 +9,7 @@ use Rattle.stab_ways.specs.Ways.{Part, Turn, part_rounds}
 use Rattle.stab_ways.specs.inner.Walks.{WalkState, walked}
 
 -- a checkpoint keeps these of a walk
-pub record IsWalkKept (c : Checkpoint) (w : WalkState) : Type 0 where
+pub record IsWalkStored (c : Checkpoint) (w : WalkState) : Type 0 where
   pub letters : c.letters.items ≡ w.frame.letters
   pub lengths : c.lengths ≡ lengths_of w.frame.flips
   pub each : length w.frame.flips.outcomes ≡ length w.frame.flips.free
@@ -22,12 +22,12 @@ pub record IsWalkKept (c : Checkpoint) (w : WalkState) : Type 0 where
 pub record CameFrom (n : ℕ) (string : List Letter) (parts : List Part) (c : Checkpoint) (done : ℕ) (w : WalkState) : Type 0 where
   pub earlier : c.done ≤ done
   pub state : WalkState
-  pub kept : IsWalkKept c state
+  pub preserved : IsWalkStored c state
   pub over : w ≡ walked n string (part_rounds (done - c.done) parts) state
 
 -- a checkpoint is as it was, or keeps a walk after this many rounds
-abbrev pub StaysOrIsKept : (old new : Checkpoint) → ℕ → WalkState → Type 0
-StaysOrIsKept old new done w = (new ≡ old) ⊎ ((new.done ≡ done) × IsWalkKept new w)
+abbrev pub StaysOrIsStored : (old new : Checkpoint) → ℕ → WalkState → Type 0
+StaysOrIsStored old new done w = (new ≡ old) ⊎ ((new.done ≡ done) × IsWalkStored new w)
 
 -- what has grown since a checkpoint
 pub record IsSince (c : Checkpoint) (w : WalkState) : Type 0 where

@@ -1,11 +1,11 @@
-use Rattle.stab_args.proofs.Names.{rules, ◌≡◌, ◌∙◌, ap, sym, subst, List, map, option_map, HasKind, Text, found_of, is_simple, is_simple_and_free, rows_of, subcommand_of, fault_of, texts, KeptNames, format_names, letter_names, stabsim, Err, Memory}
+use Rattle.stab_args.proofs.Names.{rules, ◌≡◌, ◌∙◌, ap, sym, subst, List, map, option_map, HasKind, Text, found_of, is_simple, is_simple_and_free, rows_of, subcommand_of, fault_of, texts, StoredNames, format_names, letter_names, stabsim, Err, Memory}
 use Rattle.stab_args.proofs.EndingLaws.{ends_with_command, ends_with_error, ends_without_memory, found_command, has_account, has_whole_account}
 use Rattle.stab_args.proofs.NameLaws.{own_name}
 use Rattle.stab_args.proofs.words.parse_words.Goals as goal
 
 pub job-requires : goal.job-requires
 job-requires c =
-    let names : KeptNames = record { formats = c.as_slice.result; letters = c.as_slice-2.result } in
+    let names : StoredNames = record { formats = c.as_slice.result; letters = c.as_slice-2.result } in
     let words : List Text = map (λ w. w.now) c.args.words.now in
     let is = c.in_ok-app.ensures.app.0 in
     let name = c.unwrap.result.0.now in
@@ -21,7 +21,7 @@ job-requires c =
 
 pub returns-in-Ok : goal.returns-in-Ok
 returns-in-Ok c =
-    let names : KeptNames = record { formats = c.as_slice.result; letters = c.as_slice-2.result } in
+    let names : StoredNames = record { formats = c.as_slice.result; letters = c.as_slice-2.result } in
     let words : List Text = map (λ w. w.now) c.args.words.now in
     let is = c.in_ok-app.ensures.app.0 in
     let formats : texts names.formats.now ≡ format_names = search rules in
@@ -46,7 +46,7 @@ returns-in-Ok c =
 
 pub returns-in-Err : goal.returns-in-Err
 returns-in-Err c =
-    let names : KeptNames = record { formats = c.as_slice.result; letters = c.as_slice-2.result } in
+    let names : StoredNames = record { formats = c.as_slice.result; letters = c.as_slice-2.result } in
     let words : List Text = map (λ w. w.now) c.args.words.now in
     let is = c.in_ok-app.ensures.app.0 in
     let formats : texts names.formats.now ≡ format_names = search rules in
@@ -64,7 +64,7 @@ returns-in-Err c =
 
 pub returns-in_err-app : goal.returns-in_err-app
 returns-in_err-app c =
-    let names : KeptNames = record { formats = c.as_slice.result; letters = c.as_slice-2.result } in
+    let names : StoredNames = record { formats = c.as_slice.result; letters = c.as_slice-2.result } in
     let words : List Text = map (λ w. w.now) c.args.words.now in
     let formats : texts names.formats.now ≡ format_names = search rules in
     let letters : texts names.letters.now ≡ letter_names = search rules in

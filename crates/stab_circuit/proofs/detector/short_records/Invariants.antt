@@ -7,7 +7,7 @@ invariant-loop-count l = record {
   long : length l.found ≡ 2;
   room : l.count ≤ 2;
   in_range : All IsLookback (take l.count l.found);
-  kept : following (take l.count l.found) (each lookback_of (words l.rest)) ≡ each lookback_of (words l.words_text);
+  preserved : following (take l.count l.found) (each lookback_of (words l.rest)) ≡ each lookback_of (words l.words_text);
 }
 
 abbrev pub decreases-loop-count : goal.decreases-loop-count

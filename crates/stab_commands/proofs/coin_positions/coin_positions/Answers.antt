@@ -87,8 +87,8 @@ steps-preserved c =
 
 pub returns-clause-numbers : goal.returns-clause-numbers
 returns-clause-numbers c =
-    (gathered-all c.args.free.now (unroll (circuit_items c.args.circuit.now)) c.steps.number c.steps.coin _ _ (c.steps.invariant.left ∙ c.in_default.ensures.none.0) c.requires.flags c.steps.invariant.gathered).0
+    (gathered-all c.args.free.now (unroll (circuit_items c.args.circuit.now)) c.steps.number c.steps.coin _ _ (c.steps.invariant.left ∙ c.in_default.ensures.none.0) c.requires.randomness c.steps.invariant.gathered).0
 
 pub returns-clause-steps : goal.returns-clause-steps
 returns-clause-steps c =
-    (gathered-all c.args.free.now (unroll (circuit_items c.args.circuit.now)) c.steps.number c.steps.coin _ _ (c.steps.invariant.left ∙ c.in_default.ensures.none.0) c.requires.flags c.steps.invariant.gathered).1
+    (gathered-all c.args.free.now (unroll (circuit_items c.args.circuit.now)) c.steps.number c.steps.coin _ _ (c.steps.invariant.left ∙ c.in_default.ensures.none.0) c.requires.randomness c.steps.invariant.gathered).1

@@ -1,4 +1,4 @@
-use Rattle.stab_commands.proofs.Names.{◌≡◌, ◌+◌, ◌≤◌, false, length, replicate, ap, sym, ◌∙◌, arith, subst, Took, circuit_items, texts_from, text_at}
+use Rattle.stab_commands.proofs.Names.{◌≡◌, ◌+◌, ◌≤◌, length, ap, sym, ◌∙◌, arith, subst, Took, circuit_items, texts_from, text_at}
 use Rattle.stab_commands.proofs.CoinRowLaws.{part_flips}
 use Rattle.stab_report.proofs.SendingLaws.{sent_batch, batches_break_off}
 use Rattle.stab_report.proofs.WritingLaws.{written}
@@ -9,14 +9,13 @@ loop-sent-preserved g c =
     let items = circuit_items c.args.circuit.now in
     let old = c.loop-sent.bits.items in
     let lanes = c.write_lanes in
-    let kept = c.in_ok-write_lanes.ensures.same ∙ c.as_mut_slice-zeros.ensures.value in
-    let has = written c.loop-sent.bits.len lanes.new.bits _ (c.loop-sent.bits.ok.0 ∙ sym (ap length kept)) ∙ kept in
+    let preserved = c.in_ok-write_lanes.ensures.same ∙ c.as_mut_slice-zeros.ensures.value in
+    let has = written c.loop-sent.bits.len lanes.new.bits _ (c.loop-sent.bits.ok.0 ∙ sym (ap length preserved)) ∙ preserved in
     let at_once = c.loop-sent.invariant.whole c.loop-sent-test.true in
     record {
       within = omega (arith, c.min-some.ensures, c.loop-sent-test.true);
       whole = λ less. omega (arith, c.min-some.ensures, c.loop-sent-test.true, at_once, less);
-      size = ap length has ∙ c.loop-sent.invariant.size;
-      zero = has ∙ c.loop-sent.invariant.zero ∙ ap (λ n. replicate n false) (sym (ap length has));
+      zero = has ∙ c.loop-sent.invariant.zero;
       took = λ have.
           sent_batch (text_at c.args.layout items) c.args.first c.loop-sent.sent c.min-some.result (c.loop-sent.invariant.took have)
           (c.in_ok-write_lanes.ensures.sends

@@ -5,8 +5,7 @@ abbrev pub invariant-loop-sent : goal.invariant-loop-sent
 invariant-loop-sent g l = record {
   within : l.sent ≤ l.lanes;
   whole : l.sent < l.lanes → l.sent % 64 ≡ 0;
-  size : length l.bits.items ≡ length l.words;
-  zero : l.bits.items ≡ replicate (length l.bits.items) false;
+  zero : l.bits.items ≡ replicate (length l.words) false;
   took : HaveFlips g.W.Word.at (circuit_items l.circuit) l.first l.lanes l.words
       → Took (g.O.Output.seen l.initial.out) (g.O.Output.seen l.out) (texts_from (text_at l.layout (circuit_items l.circuit)) l.first l.sent);
 }

@@ -1,5 +1,5 @@
 use Rattle.stab_items.proofs.Names.{◌≡◌, sym, subst, arith, Option, IfOk, OneItem}
-use Rattle.stab_items.proofs.CommitLemmas.{found_at, allowed_at, committed_at, taken_through, put_back, allowed_within, committed_within, taken_within, unchanged_within, kept_shallow}
+use Rattle.stab_items.proofs.CommitLemmas.{found_at, allowed_at, committed_at, taken_through, put_back, allowed_within, committed_within, taken_within, unchanged_within, preserved_shallow}
 use Rattle.stab_items.proofs.commit.+commit.Goals as goal
 
 pub commit-commit_within-requires : goal.commit-commit_within-requires
@@ -36,7 +36,7 @@ commit_within-commit-done-requires t c = (
 
 pub commit_within-set_body-requires : goal.commit_within-set_body-requires
 commit_within-set_body-requires t c = record {
-  shallow = kept_shallow c.commit-done.result c.args.edit c.args.blocks.now c.args.item.now c.in-Some.body.items c.commit-done.new.items.items
+  shallow = preserved_shallow c.commit-done.result c.args.edit c.args.blocks.now c.args.item.now c.in-Some.body.items c.commit-done.new.items.items
       c.in-Some.ensures.some c.requires.allowed c.commit-done.ensures.ok c.commit-done.ensures.unchanged c.in-Some.ensures.shallow;
 }
 

@@ -28,9 +28,9 @@ returns-clause-asks_random g c =
     omega (arith, c.propagate.ensures.asks, ones-split c.args.propagation.now.coin (all_coins_of (take c.args.most c.args.cursor.now.left)) c.args.free.now)
 
 -- no pivot is missing
-kept : (strings : List (List Letter)) (free : List Bool) (coin most by_frame : ℕ) (xs : List Step) → by_frame ≤ 0 + length (take most xs)
+preserved : (strings : List (List Letter)) (free : List Bool) (coin most by_frame : ℕ) (xs : List Step) → by_frame ≤ 0 + length (take most xs)
     → IsMissing strings free (coin + all_coins_of (take (by_frame - 0) xs)) → IsMissing strings free (coin + all_coins_of (take most xs))
-kept strings free coin most by_frame xs le =
+preserved strings free coin most by_frame xs le =
     missing-later strings free (coin + all_coins_of (take (by_frame - 0) xs)) (coin + all_coins_of (take most xs))
     (omega (arith, coins-less (by_frame - 0) most xs (omega (arith, le, length-take most xs))))
 
@@ -40,7 +40,7 @@ returns-clause-left g c =
     let done = c.in_ok-propagate.ensures {u = tt} in
     whole-left (length c.args.propagation.now.letters) 0 c.in_ok-propagate.field-0.steps c.args.most _ c.args.strings.now.strings c.args.free.now xs c.propagate.new.cursor.left c.propagate.new.propagation
     c.in_ok-propagate.field-0.stop done.passed.stop done.gone
-    (λ determined. kept c.args.strings.now.strings c.args.free.now c.args.propagation.now.coin c.args.most c.propagate.new.by_frame xs done.most (done.passed.missing determined)) c.requires.kept done.passed.left
+    (λ determined. preserved c.args.strings.now.strings c.args.free.now c.args.propagation.now.coin c.args.most c.propagate.new.by_frame xs done.most (done.passed.missing determined)) c.requires.preserved done.passed.left
 
 pub returns-clause-propagated : goal.returns-clause-propagated
 returns-clause-propagated g c =
@@ -51,8 +51,8 @@ returns-clause-propagated g c =
     let whole =
     propagation-whole n 0 c.in_ok-propagate.field-0.steps c.args.most _ c.args.strings.now.strings c.args.free.now xs c.propagate.new.propagation c.in_ok-propagate.field-0.stop
     done.passed.stop done.gone
-    (λ determined. kept c.args.strings.now.strings c.args.free.now c.args.propagation.now.coin c.args.most c.propagate.new.by_frame xs done.most (done.passed.missing determined))
-    c.requires.kept in
+    (λ determined. preserved c.args.strings.now.strings c.args.free.now c.args.propagation.now.coin c.args.most c.propagate.new.by_frame xs done.most (done.passed.missing determined))
+    c.requires.preserved in
     propagation-others n c.args.strings.now.strings c.args.free.now c.args.outcomes.now others (take c.args.most xs) c.args.propagation.now c.propagate.new.propagation
     (subst (λ ys. GoesOver n c.args.strings.now.strings c.args.free.now (differing (outcome_of c.args.outcomes.now c.args.propagation.now.coin) others) ys c.args.propagation.now c.propagate.new.propagation) whole
     (subst (λ k. GoesOver n c.args.strings.now.strings c.args.free.now (differing (outcome_of c.args.outcomes.now k) others) (take c.in_ok-propagate.field-0.steps xs)

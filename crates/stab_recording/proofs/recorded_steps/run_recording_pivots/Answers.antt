@@ -1,14 +1,9 @@
-use Rattle.stab_recording.proofs.Names.{◌-◌, arith, refl, ap, sym, ◌∙◌, length, take, length-append, steps_shown, all_coins_of, program_state, output_of, fits-steps, take-steps, drop-steps, take-none, drop-none, take-empty, drop-empty, coins-append, pivots-all, pivots-steps}
+use Rattle.stab_recording.proofs.Names.{◌-◌, arith, refl, ap, sym, subst, ◌∙◌, length, take, length-append, steps_shown, all_coins_of, program_state, output_of, fits-steps, take-steps, drop-steps, take-none, drop-none, take-empty, drop-empty, coins-append, pivots-all, pivots-steps, AreOnQubits}
 use Rattle.stab_recording.proofs.recorded_steps.run_recording_pivots.Goals as goal
 
-pub run_steps-requires-clause-same_length : goal.run_steps-requires-clause-same_length
-run_steps-requires-clause-same_length g c = c.loop-left.invariant.sized.string ∙ sym c.loop-left.invariant.qubits
-
-pub run_steps-requires-clause-pivots_length : goal.run_steps-requires-clause-pivots_length
-run_steps-requires-clause-pivots_length g c = c.loop-left.invariant.sized.scratch ∙ sym c.loop-left.invariant.qubits
-
-pub run_steps-requires-clause-strings_length : goal.run_steps-requires-clause-strings_length
-run_steps-requires-clause-strings_length g c = c.loop-left.invariant.sized.strings ∙ sym c.loop-left.invariant.qubits
+pub run_steps-requires-clause-sized : goal.run_steps-requires-clause-sized
+run_steps-requires-clause-sized g c =
+    subst (λ n. AreOnQubits n c.loop-left.string c.loop-left.pivots) (sym c.loop-left.invariant.qubits) c.loop-left.invariant.sized
 
 pub run_steps-requires-clause-fits : goal.run_steps-requires-clause-fits
 run_steps-requires-clause-fits g c =
@@ -40,21 +35,21 @@ loop-left-preserved g c =
     let asked = ap all_coins_of front ∙ coins-append shown then in
     record {
       fits = (fits-steps c.loop-left.tableau.qubits c.run_steps.new.tableau.qubits before shown following more done.qubits inv.fits).1;
-      few = omega (arith, parts, done.counted, inv.few);
-      counted = omega (arith, taken, done.counted, inv.counted);
+      few = omega (arith, parts, done.recorded.counted, inv.few);
+      counted = omega (arith, taken, done.recorded.counted, inv.counted);
       rest = sym (drop-steps left count before shown following more c.len-left.ensures.value c.in-Some.ensures.within.1) ∙ inv.rest;
       all = c.next_steps.ensures.all ∙ inv.all;
       qubits = done.qubits ∙ inv.qubits;
-      sized = record { string = done.string ∙ inv.sized.string; scratch = done.pivots_length ∙ inv.qubits; strings = done.strings_length ∙ inv.qubits };
+      sized = subst (λ n. AreOnQubits n c.run_steps.new.string c.run_steps.new.self) inv.qubits done.sized;
       same_coins = done.same_coins ∙ inv.same_coins;
       asks = omega (arith, asked, done.asks, inv.asks);
-      asks_random = omega (arith, done.asks_random, inv.asks_random);
-      kept = record { most = done.most ∙ inv.kept.most; raised = omega (arith, done.raised, inv.kept.raised) };
-      has_pivots = λ window new kept le rest. inv.has_pivots window new kept (omega (arith, done.raised, le))
+      asks_random = omega (arith, done.recorded.asks_random, inv.asks_random);
+      no_less = record { most = done.no_less.most ∙ inv.no_less.most; raised = omega (arith, done.no_less.raised, inv.no_less.raised) };
+      has_pivots = λ window new preserved le rest. inv.has_pivots window new preserved (omega (arith, done.no_less.raised, le))
           (pivots-steps c.args.tableau.now.qubits c.loop-left.tableau.qubits (g.C.Coins.sequence c.args.coins.now) (g.C.Coins.sequence c.loop-left.coins)
-          (take left before) shown then c.run_steps.new.self.window window c.loop-left.pivots.strings c.run_steps.new.self.strings kept
+          (take left before) shown then c.run_steps.new.self.window window c.loop-left.pivots.strings c.run_steps.new.self.strings preserved
           (program_state c.loop-left.tableau (output_of c.loop-left.outputs)) (program_state c.run_steps.new.tableau (output_of c.run_steps.new.outputs)) new
-          front inv.qubits inv.same_coins le done.has_pivots rest);
+          front inv.qubits inv.same_coins le done.recorded.pivots rest);
     }
 
 pub returns-clause-recorded : goal.returns-clause-recorded
@@ -63,9 +58,7 @@ returns-clause-recorded g c =
     let none = take-none c.loop-left.left c.loop-left.cursor.left c.loop-left-test.false in
     record {
       left = sym (drop-none c.loop-left.left c.loop-left.cursor.left c.loop-left-test.false) ∙ inv.rest;
-      counted = omega (arith, ap length none, inv.counted);
-      asks_random = inv.asks_random;
-      steps = pivots-all none inv.has_pivots;
+      done = record { counted = omega (arith, ap length none, inv.counted); asks_random = inv.asks_random; pivots = pivots-all none inv.has_pivots };
     }
 
 pub returns-clause-asks : goal.returns-clause-asks
@@ -78,9 +71,7 @@ returns-in_default-clause-recorded g c =
     let none = take-empty c.loop-left.left c.loop-left.cursor.left empty.0 in
     record {
       left = empty.1 ∙ sym (drop-empty c.loop-left.left c.loop-left.cursor.left empty.0) ∙ inv.rest;
-      counted = omega (arith, ap length none, inv.counted);
-      asks_random = inv.asks_random;
-      steps = pivots-all none inv.has_pivots;
+      done = record { counted = omega (arith, ap length none, inv.counted); asks_random = inv.asks_random; pivots = pivots-all none inv.has_pivots };
     }
 
 pub returns-in_default-clause-asks : goal.returns-in_default-clause-asks

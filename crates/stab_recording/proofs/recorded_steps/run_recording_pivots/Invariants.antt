@@ -1,5 +1,4 @@
-use Rattle.stab_recording.proofs.Names.{◌≡◌, ℕ, ◌+◌, ◌≤◌, All, length, take, drop, ones, all_coins_of, ProgramState, StepFits, program_state, output_of, PivotsState, PivotsSteps}
-use Rattle.stab_recording.specs.RecordedSteps.{AreOnQubits, KeepsRecorded}
+use Rattle.stab_recording.proofs.Names.{◌≡◌, ℕ, ◌+◌, ◌≤◌, All, length, take, drop, ones, all_coins_of, ProgramState, StepFits, program_state, output_of, PivotsState, PivotsSteps, AreOnQubits, RecordsNoLess}
 use Rattle.stab_recording.proofs.recorded_steps.run_recording_pivots.Given as goal
 
 abbrev pub invariant-loop-left : goal.invariant-loop-left
@@ -14,11 +13,11 @@ invariant-loop-left g l = record {
   same_coins : g.C.Coins.sequence l.coins ≡ g.C.Coins.sequence l.initial.coins;
   asks : g.C.Coins.asks l.coins + all_coins_of (take l.left l.cursor.left) ≤ g.C.Coins.asks l.initial.coins + all_coins_of (take l.most l.initial.cursor.left);
   asks_random : g.C.Coins.asks l.coins + ones l.initial.outputs.free.items ≤ g.C.Coins.asks l.initial.coins + ones l.outputs.free.items;
-  kept : KeepsRecorded l.initial.pivots l.pivots;
-  has_pivots : (window : ℕ) (new : ProgramState) (kept : PivotsState) → l.pivots.window ≤ window
-      → PivotsSteps l.initial.tableau.qubits (g.C.Coins.sequence l.initial.coins) (take l.left l.cursor.left) window l.pivots.strings kept
+  no_less : RecordsNoLess l.initial.pivots l.pivots;
+  has_pivots : (window : ℕ) (new : ProgramState) (stored : PivotsState) → l.pivots.window ≤ window
+      → PivotsSteps l.initial.tableau.qubits (g.C.Coins.sequence l.initial.coins) (take l.left l.cursor.left) window l.pivots.strings stored
       (program_state l.tableau (output_of l.outputs)) new
-      → PivotsSteps l.initial.tableau.qubits (g.C.Coins.sequence l.initial.coins) (take l.most l.initial.cursor.left) window l.initial.pivots.strings kept
+      → PivotsSteps l.initial.tableau.qubits (g.C.Coins.sequence l.initial.coins) (take l.most l.initial.cursor.left) window l.initial.pivots.strings stored
       (program_state l.initial.tableau (output_of l.initial.outputs)) new;
 }
 

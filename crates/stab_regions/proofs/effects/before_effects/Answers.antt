@@ -1,5 +1,5 @@
 use Rattle.stab_regions.proofs.Names.{◌∙◌, sym, subst, step_shown, StepFits}
-use Rattle.stab_regions.proofs.EffectMoveLemmas.{numbers-kept, effects-move}
+use Rattle.stab_regions.proofs.EffectMoveLemmas.{numbers-unchanged, effects-move}
 use Rattle.stab_regions.proofs.effects.before_effects.Goals as goal
 
 pub before-requires : goal.before-requires
@@ -10,7 +10,7 @@ before-requires c =
       rows = clears.rows ∙ c.requires.rows ∙ sym clears.qubits;
       fits = subst (λ n. StepFits n x) (sym clears.qubits) c.requires.fits;
       distinct = c.requires.distinct;
-      there = numbers-kept x c.args.effects.now c.clear_reset.new.effects clears c.requires.there;
+      there = numbers-unchanged x c.args.effects.now c.clear_reset.new.effects clears c.requires.there;
     }
 
 pub returns : goal.returns

@@ -6,8 +6,8 @@ abbrev pub invariant-qubits : goal.invariant-qubits
 invariant-qubits l = record {
   within : l.left ≤ length (step_qubits (step_shown l.step));
   end : l.sides.following ≡ true → l.end ≡ 2 * l.left;
-  kept : l.sides.following ≡ true → length l.kept ≡ 2 * length (step_qubits (step_shown l.step));
-  rows : (after_x after_z : List (List ℕ)) → (l.sides.following ≡ true → l.kept ≡ flat_map (rows_on after_x after_z) (step_qubits (step_shown l.step)))
+  retained : l.sides.following ≡ true → length l.retained ≡ 2 * length (step_qubits (step_shown l.step));
+  rows : (after_x after_z : List (List ℕ)) → (l.sides.following ≡ true → l.retained ≡ flat_map (rows_on after_x after_z) (step_qubits (step_shown l.step)))
       → reverse l.rows ≡ flat_map (rows_around l.sides l.by_x l.by_z after_x after_z) (drop l.left (step_qubits (step_shown l.step))) ++ reverse l.initial.rows;
   ascend : l.sides.front ≡ true → All (Ascend l.by_x l.by_z) (drop l.left (step_qubits (step_shown l.step)));
 }

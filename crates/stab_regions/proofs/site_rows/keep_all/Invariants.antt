@@ -4,6 +4,6 @@ use Rattle.stab_regions.proofs.site_rows.keep_all.Given as goal
 
 abbrev pub invariant-qubits : goal.invariant-qubits
 invariant-qubits l = record {
-  value : l.kept ≡ flat_map (rows_on l.by_x l.by_z) (take l.k (step_qubits (step_shown l.step)));
+  value : l.retained ≡ flat_map (rows_on l.by_x l.by_z) (take l.k (step_qubits (step_shown l.step)));
   ascend : All (Ascend l.by_x l.by_z) (take l.k (step_qubits (step_shown l.step)));
 }

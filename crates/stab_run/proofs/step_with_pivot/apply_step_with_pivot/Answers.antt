@@ -5,15 +5,19 @@ use Rattle.stab_run.proofs.step_with_pivot.apply_step_with_pivot.Goals as goal
 
 pub returns-in_ok-gather-in-Collapse-clause-run : goal.returns-in_ok-gather-in-Collapse-clause-run
 returns-in_ok-gather-in-Collapse-clause-run g c =
-    run-collapse c.args.tableau.now.qubits (g.C.Coins.sequence c.args.coins.now) (step_shown c.args.step)
-    c.in-Collapse.letter c.in-Collapse.qubit c.in-Collapse.recorded c.in-Collapse.inverted c.in-Collapse.reset (ap step_shown c.in-Collapse.is)
-    (program_state c.args.tableau.now (output_of c.args.outputs.now)) _ c.measure_with_pivot-measured.result.outcome (search rules)
-    (record {
-      measured = stabilises c.measure_with_pivot-measured.new.tableau;
-      projects = c.measure_with_pivot-measured.ensures.members;
-      flips = λ r lr. c.reset_if.ensures.members r (lr ∙ sym c.measure_with_pivot-measured.ensures.qubits);
-      output = search rules;
-    })
+    record {
+      run =
+          run-collapse c.args.tableau.now.qubits (g.C.Coins.sequence c.args.coins.now) (step_shown c.args.step)
+          c.in-Collapse.letter c.in-Collapse.qubit c.in-Collapse.recorded c.in-Collapse.inverted c.in-Collapse.reset (ap step_shown c.in-Collapse.is)
+          (program_state c.args.tableau.now (output_of c.args.outputs.now)) _ c.measure_with_pivot-measured.result.outcome (search rules)
+          (record {
+            measured = stabilises c.measure_with_pivot-measured.new.tableau;
+            projects = c.measure_with_pivot-measured.ensures.members;
+            flips = λ r lr. c.reset_if.ensures.members r (lr ∙ sym c.measure_with_pivot-measured.ensures.qubits);
+            output = search rules;
+          });
+      pivot = search rules;
+    }
 
 pub returns-in_ok-gather-in-Collapse-clause-asks_random : goal.returns-in_ok-gather-in-Collapse-clause-asks_random
 returns-in_ok-gather-in-Collapse-clause-asks_random g c =
@@ -21,11 +25,15 @@ returns-in_ok-gather-in-Collapse-clause-asks_random g c =
 
 pub returns-in_ok-gather-in-Product-clause-run : goal.returns-in_ok-gather-in-Product-clause-run
 returns-in_ok-gather-in-Product-clause-run g c =
-    run-product c.args.tableau.now.qubits (g.C.Coins.sequence c.args.coins.now) (step_shown c.args.step)
-    c.in-Product.factors.now c.in-Product.inverted (ap step_shown c.in-Product.is)
-    c.write_product.new.string (c.write_product.ensures.value ∙ ap (λ n. string_of n c.in-Product.factors.now) c.requires.same_length)
-    (program_state c.args.tableau.now (output_of c.args.outputs.now)) _ c.measure_string_with_pivot-measured.result.outcome (search rules)
-    c.measure_string_with_pivot-measured.ensures.members (search rules)
+    record {
+      run =
+          run-product c.args.tableau.now.qubits (g.C.Coins.sequence c.args.coins.now) (step_shown c.args.step)
+          c.in-Product.factors.now c.in-Product.inverted (ap step_shown c.in-Product.is)
+          c.write_product.new.string (c.write_product.ensures.value ∙ ap (λ n. string_of n c.in-Product.factors.now) c.requires.same_length)
+          (program_state c.args.tableau.now (output_of c.args.outputs.now)) _ c.measure_string_with_pivot-measured.result.outcome (search rules)
+          c.measure_string_with_pivot-measured.ensures.members (search rules);
+      pivot = search rules;
+    }
 
 pub returns-in_ok-gather-in-Product-clause-asks_random : goal.returns-in_ok-gather-in-Product-clause-asks_random
 returns-in_ok-gather-in-Product-clause-asks_random g c =

@@ -1,5 +1,4 @@
-use Rattle.stab_run.proofs.Names.{arith, ap, sym, subst, OnOk, ◌∙◌, steps_shown, all_coins_of, IsRun, program_state, output_of}
-use Rattle.stab_run.proofs.TargetLemmas.{coins-measured}
+use Rattle.stab_run.proofs.Names.{ap, sym, subst, OnOk, steps_shown, IsRun, CostsAtMost, program_state, output_of}
 use Rattle.stab_run.proofs.steps.apply_steps.Goals as goal
 
 pub returns-in-Gates-clause-run : goal.returns-in-Gates-clause-run
@@ -15,10 +14,10 @@ returns-in-Pairs-clause-run g c =
     (sym (ap steps_shown c.in-Pairs.is))
     (c.apply_pairs.ensures.run (g.C.Coins.sequence c.args.coins.now) (output_of c.args.outputs.now) (sym c.as_slice.ensures.value))
 
-pub returns-in-Measurements-clause-asks : goal.returns-in-Measurements-clause-asks
-returns-in-Measurements-clause-asks g c =
-    let coins = ap all_coins_of (ap steps_shown c.in-Measurements.is) ∙ coins-measured c.in-Measurements.measurement c.in-Measurements.targets.now in
-    omega (arith, c.measure_targets.ensures.asks, coins)
+pub returns-in-Measurements-clause-costs : goal.returns-in-Measurements-clause-costs
+returns-in-Measurements-clause-costs g c =
+    subst (λ xs. CostsAtMost xs c.args.applied.now c.measure_targets.new.applied (g.C.Coins.asks c.args.coins.now) (g.C.Coins.asks c.measure_targets.new.coins))
+    (sym (ap steps_shown c.in-Measurements.is)) c.measure_targets.ensures.costs
 
 pub returns-in-Measurements-clause-run : goal.returns-in-Measurements-clause-run
 returns-in-Measurements-clause-run g c =

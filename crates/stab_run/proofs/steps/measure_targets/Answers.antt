@@ -1,5 +1,5 @@
 use Rattle.stab_run.proofs.Names.{arith, ap, sym, subst, ◌∙◌, ◌∷◌, [], measured, coins_of, StepFits, IsRun, program_state, output_of}
-use Rattle.stab_run.proofs.TargetLemmas.{fits-target, run-target, run-targets}
+use Rattle.stab_run.proofs.TargetLemmas.{fits-target, run-target, run-targets, costs-measured}
 use Rattle.stab_run.proofs.steps.measure_targets.Goals as goal
 
 pub apply_step-requires-clause-same_length : goal.apply_step-requires-clause-same_length
@@ -40,3 +40,14 @@ returns-clause-run g c =
     run-targets c.args.tableau.now.qubits (g.C.Coins.sequence c.args.coins.now) (measured c.args.measurement) c.args.targets.now c.loop-target.target-index
     (program_state c.args.tableau.now (output_of c.args.outputs.now)) (program_state c.loop-target.tableau (output_of c.loop-target.outputs))
     c.loop-target-test.false c.loop-target.invariant.run
+
+pub returns-clause-costs : goal.returns-clause-costs
+returns-clause-costs g c =
+    let inv = c.loop-target.invariant in
+    costs-measured c.args.measurement c.args.targets.now _ _ _ _ (omega arith) (omega arith) (omega arith)
+
+pub returns-in_err-apply_step-clause-costs : goal.returns-in_err-apply_step-clause-costs
+returns-in_err-apply_step-clause-costs g c =
+    let inv = c.loop-target.invariant in
+    let one = ap coins_of c.measured_step-step.ensures.value in
+    costs-measured c.args.measurement c.args.targets.now _ _ _ _ (omega arith) (omega (arith, one)) (omega (arith, one))

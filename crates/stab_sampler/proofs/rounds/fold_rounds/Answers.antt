@@ -5,10 +5,10 @@ use Rattle.stab_sampler.proofs.rounds.fold_rounds.Goals as goal
 use Rattle.stab_frames.proofs.RandomLemmas.{pivot-none}
 
 pub returns-clause-go_on : goal.returns-clause-go_on
-returns-clause-go_on g c = λ coins steps is kept advanced.
+returns-clause-go_on g c = λ coins steps is preserved advanced.
     let recorded_pivots = c.args.recorded_pivots in
     let later = subst (λ o. IfSome o (λ m. m.done < c.args.done)) c.in-Some.is c.requires.later in
-    let checkpoint = subst (λ o. IfSome o (IsLaneCheckpoint g.W.Word.at g.W.Word.lanes recorded_pivots coins steps c.args.repeat)) c.in-Some.is kept in
+    let checkpoint = subst (λ o. IfSome o (IsLaneCheckpoint g.W.Word.at g.W.Word.lanes recorded_pivots coins steps c.args.repeat)) c.in-Some.is preserved in
     let r = c.args.repeat in
     let early = c.in-Some.checkpoint.done in
     let done = c.args.done in

@@ -28,7 +28,7 @@ returns-clause-checkpoint g c =
     let advanced = (c.in_ok-now.ensures {u = tt}).go_on coins steps c.requires.repeat c.requires.checkpoint
     (subst (λ k. ArePropagated g.W.Word.at g.W.Word.lanes c.args.recorded_pivots coins (take k steps) c.propagate_along.new.lanes) (following-more c.args.repeat c.args.done)
     (c.in_ok-propagate_along.ensures {u = tt}).advanced) in
-    (c.in_ok-keep_checkpoint.ensures {u = tt}).kept_after c.args.recorded_pivots coins steps advanced c.requires.checkpoint
+    (c.in_ok-keep_checkpoint.ensures {u = tt}).stored_after c.args.recorded_pivots coins steps advanced c.requires.checkpoint
 
 pub returns-clause-advanced : goal.returns-clause-advanced
 returns-clause-advanced g c =

@@ -1,6 +1,6 @@
-use Rattle.stab_sampler.proofs.Names.{◌≡◌, ◌+◌, ◌≤◌, arith, sym, ◌∙◌, ap, subst, All, length, take, drop, take-add, None, take_all, All-take, All-drop, unroll, check_within, circuit_items, ones, StepFits, coins-on, counted-steps, most_strings, PivotsState, pivot_at, pivots_of, IsSized, IsPartRecording, HasPivots, lane_difference, DiffersAlong, IsLane}
+use Rattle.stab_sampler.proofs.Names.{◌≡◌, ◌+◌, ◌≤◌, arith, sym, ◌∙◌, ap, subst, All, length, take, drop, take-add, None, take_all, All-take, All-drop, unroll, check_within, circuit_items, ones, StepFits, coins-on, counted-steps, most_strings, PivotsState, pivot_at, pivots_of, IsSized, IsPartRecording, HasPivots, lane_difference, DiffersAlong, IsLane, AreLanes}
 use Rattle.std.proofs.Common.{length-take}
-use Rattle.stab_sampler.proofs.RecordedLemmas.{kept-each}
+use Rattle.stab_sampler.proofs.RecordedLemmas.{preserved-each}
 use Rattle.stab_sampler.proofs.LaneRunLemmas.{lane-further}
 use Rattle.stab_sampler.proofs.run.propagate_by_parts.Goals as goal
 
@@ -35,15 +35,15 @@ propagate_part-requires g c =
     let lent = c.recorded_pivots.ensures in
     let strings = ap (λ (k : PivotsState). k.qubits) lent.strings ∙ sized.strings in
     let each =
-    kept-each (length r.pivots.strings.strings) (ones r.outputs.free.items) (most_strings n) recorded_pivots.number
+    preserved-each (length r.pivots.strings.strings) (ones r.outputs.free.items) (most_strings n) recorded_pivots.number
     (omega (arith, recorded_pivots.few, length-take count (drop from steps), c.min-count.ensures, c.requires.few)) in
     record {
       checked = subst (λ m. check_within m items ≡ None) (sym strings) c.requires.checked;
       in_range = omega (arith, total, inv.within);
       may = record {
         all = ap (λ (k : PivotsState). length k.strings) lent.strings ∙ each ∙ ap ones (sym lent.free);
-        counted = sym ((λ i. ones (take (inv.coin i) (lent.free i))) ∙ recorded_pivots.others);
-        frames = inv.frames ∙ sym strings;
+        counted = sym ((λ i. ones (take (inv.lanes.coin i) (lent.free i))) ∙ recorded_pivots.others);
+        frames = inv.lanes.qubits ∙ sym strings;
       };
     }
 
@@ -65,27 +65,29 @@ loop-from-preserved g c =
     let strings = ap (λ (k : PivotsState). k.qubits) lent.strings ∙ sized.strings in
     let fits = subst (λ m. All (StepFits m) steps) strings went.fits in
     let each =
-    kept-each (length r.pivots.strings.strings) (ones r.outputs.free.items) (most_strings n) recorded_pivots.number
+    preserved-each (length r.pivots.strings.strings) (ones r.outputs.free.items) (most_strings n) recorded_pivots.number
     (omega (arith, recorded_pivots.few, length-take count (drop from steps), c.min-count.ensures, c.requires.few)) in
     record {
       within = omega (arith, c.min-count.ensures, inv.within, c.loop-from-test.true);
       sized = sized;
       recorded = subst (λ m. IsPartRecording m (take (from + count) steps) r) q done.recorded;
-      coin = omega (arith, went.goes.coin, inv.coin, coins-on from count steps);
-      frames = went.goes.may.frames ∙ strings;
       same_coins = c.propagate_part.ensures.same_coins ∙ inv.same_coins;
-      lanes = λ j lt.
-          let coins = g.D.Draw.sequences c.args.draw.now j in
-          let a = lane_difference g.W.Word.at j c.loop-from.lanes in
-          let b = lane_difference g.W.Word.at j c.propagate_part.new.lanes in
-          let advanced =
-          subst (λ x. x)
-          (λ i. DiffersAlong (strings i) (pivots_of (pivot_at (ap (λ (k : PivotsState). k.strings) lent.strings i) (lent.free i)) (inv.same_coins i j)) (take count (drop from steps)) a b)
-          (went.goes.follow j lt) in
-          subst (λ zs. IsLane n coins zs b) (sym (take-add from count steps))
-          (lane-further n coins (take from steps) (take count (drop from steps)) (All-take (StepFits n) from steps fits)
-          (All-take (StepFits n) count (drop from steps) (All-drop (StepFits n) from steps fits))
-          (pivot_at r.pivots.strings.strings r.outputs.free.items) (recorded_pivots.right each) a b (inv.lanes j lt) advanced);
+      lanes = record {
+        qubits = went.goes.may.frames ∙ strings;
+        coin = omega (arith, went.goes.coin, inv.lanes.coin, coins-on from count steps);
+        each = λ j lt.
+            let coins = g.D.Draw.sequences c.args.draw.now j in
+            let a = lane_difference g.W.Word.at j c.loop-from.lanes in
+            let b = lane_difference g.W.Word.at j c.propagate_part.new.lanes in
+            let advanced =
+            subst (λ x. x)
+            (λ i. DiffersAlong (strings i) (pivots_of (pivot_at (ap (λ (k : PivotsState). k.strings) lent.strings i) (lent.free i)) (inv.same_coins i j)) (take count (drop from steps)) a b)
+            (went.goes.follow j lt) in
+            subst (λ zs. IsLane n coins zs b) (sym (take-add from count steps))
+            (lane-further n coins (take from steps) (take count (drop from steps)) (All-take (StepFits n) from steps fits)
+            (All-take (StepFits n) count (drop from steps) (All-drop (StepFits n) from steps fits))
+            (pivot_at r.pivots.strings.strings r.outputs.free.items) (recorded_pivots.right each) a b (inv.lanes.each j lt) advanced);
+      };
     }
 
 pub returns-clause-recorded : goal.returns-clause-recorded
@@ -97,10 +99,10 @@ returns-clause-recorded g c =
     subst (λ xs. IsPartRecording n xs c.loop-from.recording) (take_all c.loop-from.from (unroll items) past) c.loop-from.invariant.recorded
 
 pub returns-clause-lanes : goal.returns-clause-lanes
-returns-clause-lanes g c = λ l lt.
+returns-clause-lanes g c =
     let items = circuit_items c.args.circuit.now in
     let n = c.args.recording.now.tableau.qubits in
     let total = c.steps-steps.ensures.value ∙ counted-steps n items c.requires.checked in
     let past : length (unroll items) ≤ c.loop-from.from = omega (arith, total, c.loop-from-test.false) in
-    subst (λ xs. IsLane n (g.D.Draw.sequences c.args.draw.now l) xs (lane_difference g.W.Word.at l c.loop-from.lanes)) (take_all c.loop-from.from (unroll items) past)
-    (c.loop-from.invariant.lanes l lt)
+    subst (λ xs. AreLanes g.W.Word.at g.W.Word.lanes n (g.D.Draw.sequences c.args.draw.now) xs c.loop-from.lanes) (take_all c.loop-from.from (unroll items) past)
+    c.loop-from.invariant.lanes

@@ -7,7 +7,7 @@ pub returns-then-left-eq1-clause-meet : goal.returns-then-left-eq1-clause-meet
 returns-then-left-eq1-clause-meet c =
     meet-last c.args.errors.now.table c.args.errors.now.numbers c.args.errors.now.pairs c.args.first c.args.path.now c.args.flipped.now c.with_key.ensures.numbered
     c.args.left c.in_ok-last.last.items c.if-left-eq1.true
-    (λ e inside same. subst (λ (xs : List ℕ). has e xs ≡ true) (sym c.in_ok-last.ensures.items) (c.with_key.ensures.complete e inside (same ∙ sym c.requires.key)))
+    (λ e inside same. subst (λ (xs : List ℕ). has e xs ≡ true) (sym c.in_ok-last.ensures.items) (c.with_key.ensures.complete e inside (same ∙ sym c.requires.keyed.value)))
 
 pub returns-then-left-eq-PLAIN-clause-meet : goal.returns-then-left-eq-PLAIN-clause-meet
 returns-then-left-eq-PLAIN-clause-meet c =
@@ -50,6 +50,6 @@ returns-else-len-clause-meet c =
     c.detectors_of-detectors.ensures.flipped c.args.left least c.in_ok-by_cover.by_cover.items (omega arith) (subst (λ k. k * c.args.left < length ds) (sym same) (omega (arith, few, some)))
     (λ e d inside may many among flips.
     let covered = c.count.ensures.covers e inside (record { later = may.later; fresh = refl; unpaired = λ a none. absurd (false≢true none) }) in
-    let kept = c.leave_out.ensures.others e may.fresh may.unpaired in
+    let retained = c.leave_out.ensures.others e may.fresh may.unpaired in
     c.in_ok-by_cover.ensures.all e d (omega (arith, inside, c.requires.cover, c.count.ensures.length, c.leave_out.ensures.length))
-    (omega (arith, covered, kept, many)) among inside flips)
+    (omega (arith, covered, retained, many)) among inside flips)

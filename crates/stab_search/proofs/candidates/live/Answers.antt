@@ -12,7 +12,7 @@ loop-r-preserved c = record {
             (c.in_ok-take_covering.ensures.taken (subst (λ r. r < length c.args.cover.now) (sym same) inside)
             (subst (λ r. 1 ≤ slice_index c.args.cover.now r) (sym same) some))))
             (λ later. inl later)
-        | inr found ↦ inr (c.in_ok-take_covering.ensures.kept e found)
+        | inr found ↦ inr (c.in_ok-take_covering.ensures.preserved e found)
       ];
 }
 

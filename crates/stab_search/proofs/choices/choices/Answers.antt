@@ -5,7 +5,7 @@ use Rattle.stab_search.proofs.choices.choices.Goals as goal
 pub returns-then-left-eq1-clause-meet : goal.returns-then-left-eq1-clause-meet
 returns-then-left-eq1-clause-meet c =
     meet-keyed c.args.errors.now.table c.args.weights.now c.args.flipped.now c.args.errors.now.numbers c.args.left c.in_ok-last.last.items c.with_key.ensures.numbered c.if-left-eq1.true
-    (λ e inside some same. c.in_ok-last.ensures.all e (c.with_key.ensures.complete e inside (same ∙ sym c.requires.key)) (omega (arith, inside, c.requires.weights)) some)
+    (λ e inside some same. c.in_ok-last.ensures.all e (c.with_key.ensures.complete e inside (same ∙ sym c.requires.keyed.value)) (omega (arith, inside, c.requires.weights)) some)
 
 pub returns-then-left-eq2-clause-inside : goal.returns-then-left-eq2-clause-inside
 returns-then-left-eq2-clause-inside c = subst (λ n. ForEach (λ r. r < n) c.in_ok-by_rarest.by_rarest.items) c.requires.weights c.in_ok-by_rarest.ensures.inside

@@ -12,7 +12,7 @@ loop-r-preserved c = record {
             (c.in_ok-take_live.ensures.taken (subst (λ r. r < length c.args.weights.now) (sym same) inside)
             (subst (λ r. 0 < slice_index c.args.weights.now r) (sym same) some))))
             (λ later. inl later)
-        | inr found ↦ inr (c.in_ok-take_live.ensures.kept e found)
+        | inr found ↦ inr (c.in_ok-take_live.ensures.preserved e found)
       ];
 }
 

@@ -3,7 +3,7 @@ use Rattle.stab_search.proofs.ChoiceLemmas.{none-after}
 use Rattle.stab_search.proofs.FlipLemmas.{key-sum}
 use Rattle.stab_search.proofs.ListLemmas.{each-has, has-at}
 use Rattle.stab_search.proofs.ScanLemmas.{is-among, is-other}
-use Rattle.stab_search.proofs.TryLemmas.{part-more, part-whole, zero-here, zero-kept, others-kept, nothing-weighs, nothing-last, key-after, fewer-after, none-less, alike-after, length-set, without-detector, detector-none}
+use Rattle.stab_search.proofs.TryLemmas.{part-more, part-whole, zero-here, zero-preserved, others-preserved, nothing-weighs, nothing-last, key-after, fewer-after, none-less, alike-after, length-set, without-detector, detector-none}
 use Rattle.stab_search.proofs.WayLemmas.{ways-alike}
 use Rattle.stab_search.proofs.counting.+ways.Goals as goal
 
@@ -21,10 +21,10 @@ try_each-tries-preserved t c =
       part = part-more table c.args.weights.now c.tries.weights c.try_error.new.weights c.args.flipped.now g c.args.rest c.tries.sum c.in_ok-more.more c.plus-sum.result
           inside c.tries.invariant.weights c.in_ok-more.ensures.weights c.tries.invariant.part c.in_ok-more.ensures.count c.plus-sum.ensures.sum;
       zero = below_more _ _
-          (λ j lt. zero-kept c.tries.weights c.try_error.new.weights g (get_or tried j 0) there c.in_ok-more.ensures.weights (c.tries.invariant.zero j lt))
+          (λ j lt. zero-preserved c.tries.weights c.try_error.new.weights g (get_or tried j 0) there c.in_ok-more.ensures.weights (c.tries.invariant.zero j lt))
           (zero-here c.tries.weights c.try_error.new.weights g there c.in_ok-more.ensures.weights);
       others = λ e not.
-          others-kept c.tries.weights c.try_error.new.weights g e (is-other e tried k c.tries-test.true not) c.in_ok-more.ensures.weights ∙ c.tries.invariant.others e not;
+          others-preserved c.tries.weights c.try_error.new.weights g e (is-other e tried k c.tries-test.true not) c.in_ok-more.ensures.weights ∙ c.tries.invariant.others e not;
     }
 
 pub try_each-returns-clause-zero : goal.try_each-returns-clause-zero
@@ -44,7 +44,7 @@ try_error-returns-then-not-is_live_key-clause-count t c =
     nothing-last table numbers (set c.args.weights.now c.args.g 0) c.args.flipped.now x (get_or c.args.weights.now c.args.g 0) c.args.rest c.key.ensures.numbered
     (length-set c.args.weights.now c.args.g 0 ∙ c.requires.weights) c.if-rest-eq1.true
     (λ e lt same. c.is_live_key.ensures.not c.if-not-is_live_key.true e lt
-    (same ∙ key-after numbers c.args.flipped.now x ∙ (λ i. bit_xor (sym c.requires.key i) (sym c.key.ensures.value i))))
+    (same ∙ key-after numbers c.args.flipped.now x ∙ (λ i. bit_xor (sym c.requires.keyed.value i) (sym c.key.ensures.value i))))
 
 pub try_error-ways-requires : goal.try_error-ways-requires
 try_error-ways-requires t c =
@@ -55,15 +55,15 @@ try_error-ways-requires t c =
     λ d. ap (odd d) c.as_slice.ensures.value ∙ c.in_ok-merge_into.ensures.odd d ∙ ap (λ (xs : List ℕ). odd d s ⊕ odd d xs) c.row.ensures.value in (
       search rules,
       (
-        subst IsAscending (sym c.as_slice.ensures.value) c.in_ok-merge_into.ensures.ascending,
+        record {
+          ascending = subst IsAscending (sym c.as_slice.ensures.value) c.in_ok-merge_into.ensures.ascending;
+          value = (λ i. bit_xor (c.requires.keyed.value i) (c.key.ensures.value i)) ∙ sym (key-sum c.args.errors.now.numbers next s (row table.rows c.args.g) (λ d lt. merged d));
+        },
         (
-          (λ i. bit_xor (c.requires.key i) (c.key.ensures.value i)) ∙ sym (key-sum c.args.errors.now.numbers next s (row table.rows c.args.g) (λ d lt. merged d)),
+          c.requires.none,
           (
-            c.requires.none,
-            (
-              fewer-after table s next c.args.g c.args.rest merged c.requires.inside c.requires.fewer,
-              (length-set c.args.weights.now c.args.g 0 ∙ c.requires.weights, c.requires.cover),
-            ),
+            fewer-after table s next c.args.g c.args.rest merged c.requires.inside c.requires.fewer,
+            (length-set c.args.weights.now c.args.g 0 ∙ c.requires.weights, c.requires.cover),
           ),
         ),
       ),
@@ -84,7 +84,7 @@ try_error-returns-clause-count t c =
 pub ways-returns-then-not-flips_detector-clause-count : goal.ways-returns-then-not-flips_detector-clause-count
 ways-returns-then-not-flips_detector-clause-count t c =
     let none = c.flips_detector.ensures.not c.if-not-flips_detector.true in
-    without-detector c.args.errors.now.table c.args.weights.now c.args.flipped.now c.args.left c.ways_without_detector.result c.requires.weights c.requires.ascending
+    without-detector c.args.errors.now.table c.args.weights.now c.args.flipped.now c.args.left c.ways_without_detector.result c.requires.weights c.requires.keyed.ascending
     c.requires.none c.requires.fewer
     (subst (λ n. (c.args.flipped.now ≡ []) ⊎ ((0 < length c.args.flipped.now) × (n ≤ get_or c.args.flipped.now 0 0))) c.detectors.ensures.value none)
     c.ways_without_detector.ensures.one c.ways_without_detector.ensures.none c.ways_without_detector.ensures.nothing
@@ -92,7 +92,7 @@ ways-returns-then-not-flips_detector-clause-count t c =
 pub ways-returns-then-left-eq0-clause-count : goal.ways-returns-then-left-eq0-clause-count
 ways-returns-then-left-eq0-clause-count t c =
     let some = c.flips_detector.ensures.yes c.if-not-flips_detector.false in
-    detector-none c.args.errors.now.table c.args.weights.now c.args.flipped.now c.args.left c.if-left-eq0.true c.requires.ascending
+    detector-none c.args.errors.now.table c.args.weights.now c.args.flipped.now c.args.left c.if-left-eq0.true c.requires.keyed.ascending
     (some.0, omega (arith, some.1, c.detectors.ensures.value))
 
 pub ways-weights_at-requires : goal.ways-weights_at-requires
@@ -106,17 +106,14 @@ ways-try_each-requires t c =
     let back : c.args.left - 1 + 1 ≡ c.args.left = omega (arith, c.if-left-eq0.false) in (
       search rules,
       (
-        c.requires.ascending,
+        c.requires.keyed,
         (
-          c.requires.key,
+          none-less c.args.errors.now.table c.args.left (c.args.left - 1) (omega arith) c.requires.none,
           (
-            none-less c.args.errors.now.table c.args.left (c.args.left - 1) (omega arith) c.requires.none,
+            subst (HasNoFewer c.args.errors.now.table c.args.flipped.now) (sym back) c.requires.fewer,
             (
-              subst (HasNoFewer c.args.errors.now.table c.args.flipped.now) (sym back) c.requires.fewer,
-              (
-                subst (ForEach (λ e. e < length c.args.errors.now.table.rows)) (sym c.as_slice-tried.ensures.value) c.in_ok-next.ensures.inside,
-                (c.requires.weights, omega (arith, c.requires.cover, c.in_ok-next.ensures.cover)),
-              ),
+              subst (ForEach (λ e. e < length c.args.errors.now.table.rows)) (sym c.as_slice-tried.ensures.value) c.in_ok-next.ensures.inside,
+              (c.requires.weights, omega (arith, c.requires.cover, c.in_ok-next.ensures.cover)),
             ),
           ),
         ),
@@ -146,5 +143,5 @@ ways-returns-clause-count t c =
 pub ways-returns-clause-weights : goal.ways-returns-clause-weights
 ways-returns-clause-weights t c =
     c.put_back.ensures.back c.args.weights.now (sym c.in_ok-sum.ensures.weights)
-    (λ k lt. ap (λ (xs : List ℕ). get_or xs k 0) c.as_slice-before.ensures.value ∙ c.in_ok-kept.ensures.each k lt)
+    (λ k lt. ap (λ (xs : List ℕ). get_or xs k 0) c.as_slice-before.ensures.value ∙ c.in_ok-retained.ensures.each k lt)
     c.in_ok-sum.ensures.others

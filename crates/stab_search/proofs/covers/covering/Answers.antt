@@ -8,7 +8,7 @@ loop-d-preserved c = record {
   inside = c.in_ok-take.ensures.inside (length c.args.cover.now) (omega (arith, c.loop-d.invariant.length)) c.loop-d.invariant.inside;
   all = λ e d inside many among error flips.
       elim (c.loop-d.invariant.all e d inside many among error flips) [
-        | inl found ↦ inl (c.in_ok-take.ensures.kept e found)
+        | inl found ↦ inl (c.in_ok-take.ensures.preserved e found)
         | inr left ↦
             by-bit (has e c.flipping.result.now)
             (λ listed. inl (c.in_ok-take.ensures.taken e (omega (arith, inside, c.loop-d.invariant.length)) (omega (arith, many, left.1)) listed))

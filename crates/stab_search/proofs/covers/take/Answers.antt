@@ -5,10 +5,10 @@ use Rattle.stab_search.proofs.covers.take.Goals as goal
 pub loop-r-preserved : goal.loop-r-preserved
 loop-r-preserved c = record {
   inside = λ n within each. c.in_ok-take_covering.ensures.inside n (omega (arith, within, c.loop-r.invariant.length)) (c.loop-r.invariant.inside n within each);
-  kept = λ e there. c.in_ok-take_covering.ensures.kept e (c.loop-r.invariant.kept e there);
+  preserved = λ e there. c.in_ok-take_covering.ensures.preserved e (c.loop-r.invariant.preserved e there);
   taken = λ e inside many there.
       take-left e c.args.rows.now c.loop-r.r-index c.loop-r.found.items c.take_covering.new.found.items c.args.cover.now c.loop-r.cover c.set_zero.new.cover
-      c.loop-r-test.true (c.loop-r.invariant.taken e inside many there) (c.in_ok-take_covering.ensures.kept e)
+      c.loop-r-test.true (c.loop-r.invariant.taken e inside many there) (c.in_ok-take_covering.ensures.preserved e)
       (λ same still. subst (λ r. has r c.take_covering.new.found.items ≡ true) same
       (c.in_ok-take_covering.ensures.taken
       (subst (λ r. r < length c.loop-r.cover) (sym same) (omega (arith, inside, c.loop-r.invariant.length)))

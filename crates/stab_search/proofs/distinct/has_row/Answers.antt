@@ -1,6 +1,6 @@
 use Rattle.stab_search.proofs.Names.{◌∙◌, sym, get_or}
 use Rattle.stab_search.proofs.EqualLemmas.{pointwise-true}
-use Rattle.stab_search.proofs.IndexLemmas.{row-in}
+use Rattle.stab_parities.proofs.MergeLemmas.{row-in}
 use Rattle.stab_search.proofs.distinct.has_row.Goals as goal
 
 pub returns-then-eq : goal.returns-then-eq

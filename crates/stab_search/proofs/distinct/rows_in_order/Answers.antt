@@ -1,5 +1,5 @@
 use Rattle.stab_search.proofs.Names.{◌≡◌, sym, ◌∙◌, subst, below_more, row, HasRow}
-use Rattle.stab_search.proofs.IndexLemmas.{row-in}
+use Rattle.stab_parities.proofs.MergeLemmas.{row-in}
 use Rattle.stab_search.proofs.distinct.rows_in_order.Goals as goal
 
 pub all-preserved : goal.all-preserved

@@ -1,5 +1,6 @@
 use Rattle.stab_search.proofs.Names.{◌∙◌, length}
-use Rattle.stab_search.proofs.IndexLemmas.{complete-more, row-in}
+use Rattle.stab_search.proofs.IndexLemmas.{complete-more}
+use Rattle.stab_parities.proofs.MergeLemmas.{row-in}
 use Rattle.stab_search.proofs.index.rows_by_detector.Goals as goal
 
 pub all-preserved : goal.all-preserved

@@ -1,5 +1,5 @@
 use Rattle.stab_search.proofs.Names.{◌≡◌, ◌∙◌, sym, ap, ℕ, List, Bool, ◌<◌, length, take, get_or, odd, row, flipped_by_rows, ◌⊕◌, arith}
-use Rattle.stab_search.proofs.IndexLemmas.{row-in}
+use Rattle.stab_parities.proofs.MergeLemmas.{row-in}
 use Rattle.stab_search.proofs.ScanLemmas.{each-passed, flips-passed}
 use Rattle.stab_search.proofs.logical.flipped_by.Goals as goal
 

@@ -5,8 +5,8 @@ use Rattle.stab_search.proofs.SearchPartLemmas.{enough-search, own-search, insid
 use Rattle.stab_search.proofs.StepLemmas.{all-begin}
 use Rattle.stab_search.proofs.part_search.search_part.Goals as goal
 
-pub returns-in_err-kept-clause-reported : goal.returns-in_err-kept-clause-reported
-returns-in_err-kept-clause-reported g c =
+pub returns-in_err-retained-clause-reported : goal.returns-in_err-retained-clause-reported
+returns-in_err-retained-clause-reported g c =
     let t = c.args.table.now in
     let begun = all-begin t in
     record {
@@ -23,11 +23,11 @@ returns-in_err-kept-clause-reported g c =
 
 pub returns-in_err-found-clause-reported : goal.returns-in_err-found-clause-reported
 returns-in_err-found-clause-reported g c =
-    let e = c.in_ok-kept.kept.errors in
+    let e = c.in_ok-retained.retained.errors in
     let r = c.in_err-found.ensures.reported in
     record {
       searched = record { table = e.table; firsts = e.firsts };
-      is = enough-search c.args.table.now e.table c.in_ok-kept.kept.numbers.items e.firsts c.in_ok-kept.ensures.enough r.begun;
+      is = enough-search c.args.table.now e.table c.in_ok-retained.retained.numbers.items e.firsts c.in_ok-retained.ensures.enough r.begun;
       reports = record {
         begun = r.begun;
         last = r.last;
@@ -39,9 +39,9 @@ returns-in_err-found-clause-reported g c =
 
 pub in_table-requires : goal.in_table-requires
 in_table-requires g c =
-    let e = c.in_ok-kept.kept.errors in
-    let numbers = c.in_ok-kept.kept.numbers.items in
-    let enough = c.in_ok-kept.ensures.enough in
+    let e = c.in_ok-retained.retained.errors in
+    let numbers = c.in_ok-retained.retained.numbers.items in
+    let enough = c.in_ok-retained.ensures.enough in
     let f = c.in_ok-found.found in
     let r = c.in_ok-found.ensures.reported in
     record {
@@ -52,11 +52,11 @@ in_table-requires g c =
 
 pub returns-in_err-answer-clause-reported : goal.returns-in_err-answer-clause-reported
 returns-in_err-answer-clause-reported g c =
-    let e = c.in_ok-kept.kept.errors in
+    let e = c.in_ok-retained.retained.errors in
     let r = c.in_ok-found.ensures.reported in
     record {
       searched = record { table = e.table; firsts = e.firsts };
-      is = enough-search c.args.table.now e.table c.in_ok-kept.kept.numbers.items e.firsts c.in_ok-kept.ensures.enough r.begun;
+      is = enough-search c.args.table.now e.table c.in_ok-retained.retained.numbers.items e.firsts c.in_ok-retained.ensures.enough r.begun;
       reports = record {
         begun = r.begun;
         last = r.last;
@@ -68,9 +68,9 @@ returns-in_err-answer-clause-reported g c =
 
 pub returns-clause-answer : goal.returns-clause-answer
 returns-clause-answer g c =
-    let e = c.in_ok-kept.kept.errors in
-    let numbers = c.in_ok-kept.kept.numbers.items in
-    let enough = c.in_ok-kept.ensures.enough in
+    let e = c.in_ok-retained.retained.errors in
+    let numbers = c.in_ok-retained.retained.numbers.items in
+    let enough = c.in_ok-retained.ensures.enough in
     let f = c.in_ok-found.found in
     let r = c.in_ok-found.ensures.reported in
     part-answer c.args.part.now c.args.table.now (record { table = e.table; firsts = e.firsts }) numbers enough (enough-search c.args.table.now e.table numbers e.firsts enough r.begun) c.args.most f r.last r.none
@@ -79,9 +79,9 @@ returns-clause-answer g c =
 
 pub returns-clause-reported : goal.returns-clause-reported
 returns-clause-reported g c =
-    let e = c.in_ok-kept.kept.errors in
-    let numbers = c.in_ok-kept.kept.numbers.items in
-    let enough = c.in_ok-kept.ensures.enough in
+    let e = c.in_ok-retained.retained.errors in
+    let numbers = c.in_ok-retained.retained.numbers.items in
+    let enough = c.in_ok-retained.ensures.enough in
     let f = c.in_ok-found.found in
     let r = c.in_ok-found.ensures.reported in
     let is = enough-search c.args.table.now e.table numbers e.firsts enough r.begun in

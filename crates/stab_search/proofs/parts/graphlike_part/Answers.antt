@@ -1,5 +1,5 @@
 use Rattle.stab_search.proofs.Names.{◌≡◌, ◌⊎◌, ℕ, List, [], ◌∷◌, ◌++◌, length, ap, sym, subst, arith, ◌∙◌, length-append, ErrorTable, row, IsGraphlike}
-use Rattle.stab_search.proofs.PartLemmas.{kept-push, others-push}
+use Rattle.stab_search.proofs.PartLemmas.{preserved-push, others-push}
 use Rattle.stab_search.proofs.parts.graphlike_part.Goals as goal
 
 pub rows-preserved : goal.rows-preserved
@@ -8,9 +8,9 @@ rows-preserved c =
     let old = c.rows.part in
     let x = c.graphlike_or_empty.result.now in
     let same : c.push.new.self.rows ≡ old.rows ++ x ∷ [] = ap (λ (p : ErrorTable). p.rows) c.in_ok-push.ensures.ok in
-    let kept : IsGraphlike t.detectors (row t.rows c.rows.r) → x ≡ row t.rows c.rows.r =
+    let preserved : IsGraphlike t.detectors (row t.rows c.rows.r) → x ≡ row t.rows c.rows.r =
     λ graphlike.
-    c.graphlike_or_empty.ensures.kept
+    c.graphlike_or_empty.ensures.preserved
     (subst (λ d. IsGraphlike d c.row.result.now) (sym c.detectors-in-rows.ensures.value) (subst (IsGraphlike t.detectors) (sym c.row.ensures.value) graphlike))
     ∙ c.row.ensures.value in
     let other : IsGraphlike t.detectors (row t.rows c.rows.r) ⊎ (x ≡ []) =
@@ -21,8 +21,8 @@ rows-preserved c =
     record {
       detectors = ap (λ (p : ErrorTable). p.detectors) c.in_ok-push.ensures.ok ∙ c.rows.invariant.detectors;
       made = omega (arith, longer, count, c.rows.invariant.made);
-      kept = λ q lt. subst (λ (p : List (List ℕ)). IsGraphlike t.detectors (row t.rows q) → row p q ≡ row t.rows q) (sym same)
-          (kept-push t.detectors t.rows old.rows x c.rows.r c.rows.invariant.made c.rows.invariant.kept kept q lt);
+      preserved = λ q lt. subst (λ (p : List (List ℕ)). IsGraphlike t.detectors (row t.rows q) → row p q ≡ row t.rows q) (sym same)
+          (preserved-push t.detectors t.rows old.rows x c.rows.r c.rows.invariant.made c.rows.invariant.preserved preserved q lt);
       others = λ q lt. subst (λ (p : List (List ℕ)). IsGraphlike t.detectors (row t.rows q) ⊎ (row p q ≡ [])) (sym same)
           (others-push t.detectors t.rows old.rows x c.rows.r c.rows.invariant.made c.rows.invariant.others other q lt);
     }

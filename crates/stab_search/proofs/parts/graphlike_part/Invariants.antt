@@ -5,6 +5,6 @@ abbrev pub invariant-rows : goal.invariant-rows
 invariant-rows l = record {
   detectors : l.part.detectors ≡ l.table.detectors;
   made : length l.part.rows ≡ l.r;
-  kept : (q : ℕ) → q < l.r → IsGraphlike l.table.detectors (row l.table.rows q) → row l.part.rows q ≡ row l.table.rows q;
+  preserved : (q : ℕ) → q < l.r → IsGraphlike l.table.detectors (row l.table.rows q) → row l.part.rows q ≡ row l.table.rows q;
   others : (q : ℕ) → q < l.r → IsGraphlike l.table.detectors (row l.table.rows q) ⊎ (row l.part.rows q ≡ []);
 }

@@ -13,7 +13,7 @@ search-returns-then-flipped-detectors-clause-some t c =
     let some : length c.args.flipped.now ≢ 0 = eqb-false (length c.args.flipped.now) 0 (sym c.if-is_empty.ensures) in
     subst (CompletesSetWithin c.args.errors.now.table c.args.flipped.now c.args.left) (sym c.new.ensures.items)
     (record {
-      ends = completes-observed c.args.errors.now.table c.args.flipped.now c.requires.ascending (omega (arith, some))
+      ends = completes-observed c.args.errors.now.table c.args.flipped.now c.requires.keyed.ascending (omega (arith, some))
           (omega (arith, c.if-flipped-detectors.true, c.detectors.ensures.value));
       within = omega arith;
     })
@@ -21,7 +21,7 @@ search-returns-then-flipped-detectors-clause-some t c =
 pub search-returns-then-left-eq0-clause-none : goal.search-returns-then-left-eq0-clause-none
 search-returns-then-left-eq0-clause-none t c = λ none.
     let some : length c.args.flipped.now ≢ 0 = eqb-false (length c.args.flipped.now) 0 (sym c.if-is_empty.ensures) in
-    no_ends-over c.args.errors.now.table c.args.errors.now.pairs c.args.first c.args.path.now.items c.args.flipped.now c.args.left c.requires.ascending
+    no_ends-over c.args.errors.now.table c.args.errors.now.pairs c.args.first c.args.path.now.items c.args.flipped.now c.args.left c.requires.keyed.ascending
     (omega (arith, some)) (omega (arith, c.if-flipped-detectors.false, c.detectors.ensures.value)) c.if-left-eq0.true
 
 pub search-tries-init : goal.search-tries-init
@@ -61,7 +61,7 @@ try_error-returns-then-not-has_key-clause-none t c = λ none.
     (no_end-unkeyed c.args.errors.now.table c.args.errors.now.numbers c.args.errors.now.pairs c.args.first c.args.path.now.items c.args.flipped.now
     c.key.ensures.numbered c.args.g
     (λ r lt same. c.has_key.ensures.not c.if-not-has_key.true r lt
-    (same ∙ (λ i. bit_xor (sym c.requires.key i) (sym c.key.ensures.value i)))))
+    (same ∙ (λ i. bit_xor (sym c.requires.keyed.value i) (sym c.key.ensures.value i)))))
 
 pub try_error-returns-in-None-clause-none : goal.try_error-returns-in-None-clause-none
 try_error-returns-in-None-clause-none t c = λ none.
@@ -82,12 +82,13 @@ pub try_error-search-requires : goal.try_error-search-requires
 try_error-search-requires t c = (
   search rules,
   (
-    subst IsAscending (sym c.as_slice.ensures.value) c.in_ok-merge_into.ensures.ascending,
-    (
-      (λ i. bit_xor (c.requires.key i) (c.key.ensures.value i))
+    record {
+      ascending = subst IsAscending (sym c.as_slice.ensures.value) c.in_ok-merge_into.ensures.ascending;
+      value =
+          (λ i. bit_xor (c.requires.keyed.value i) (c.key.ensures.value i))
           ∙ sym (key-sum c.args.errors.now.numbers c.as_slice.result.now c.args.flipped.now (row c.args.errors.now.table.rows c.args.g)
-          (λ d lt. ap (odd d) c.as_slice.ensures.value ∙ c.in_ok-merge_into.ensures.odd d ∙ ap (λ (xs : List ℕ). odd d c.args.flipped.now ⊕ odd d xs) c.row.ensures.value)),
-      c.requires.cover,
-    ),
+          (λ d lt. ap (odd d) c.as_slice.ensures.value ∙ c.in_ok-merge_into.ensures.odd d ∙ ap (λ (xs : List ℕ). odd d c.args.flipped.now ⊕ odd d xs) c.row.ensures.value));
+    },
+    c.requires.cover,
   ),
 )

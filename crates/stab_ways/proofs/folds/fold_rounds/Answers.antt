@@ -51,7 +51,7 @@ again-preserved c =
     (c.again-test.ensures.again refl) new c.in_ok-pass_once_more.ensures.again in
     let went =
     came-once-more n string parts c.again.checkpoint c.pass_once_more.new.checkpoint c.again.now old new c.again.invariant.came again c.again.invariant.later
-    c.in_ok-pass_once_more.ensures.kept in
+    c.in_ok-pass_once_more.ensures.preserved in
     let room = c.again-test.ensures.room refl in
     record {
       walks = subst (λ k. IsWalkOn k c.pass_once_more.new.walk) c.again.invariant.walks.size c.in_ok-pass_once_more.ensures.walks;

@@ -16,7 +16,7 @@ over_item-over_rounds-requires t c =
           subst (All (StepFits (length c.args.string.now.letters)))
               (ap (λ x. unroll (before x done)) is ∙ append-nil (rounds c.in-Block.count (unroll body)) ∙ ap (λ k. rounds k (unroll body)) (sym c.number.ensures.value)) c.requires.fits,
           (
-            near-enough c.in-Block.kept body (subst IsPart c.in-Block.is c.part.ensures.kept).0,
+            near-enough c.in-Block.stored body (subst IsPart c.in-Block.is c.part.ensures.stored).0,
             omega (arith, c.requires.few, ap (λ x. length (unroll (before x done))) is, block-steps c.in-Block.count c.in-Block.tag.now body, ap (λ n. n * length (unroll body)) c.number.ensures.value),
           ),
         ),

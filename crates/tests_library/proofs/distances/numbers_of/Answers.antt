@@ -1,6 +1,6 @@
 use Rattle.std.proofs.Common.{ℕ, ◌+◌, ◌<◌, ◌≤◌, List, [], ◌∷◌, ◌++◌, subst, sym, ◌∙◌, ap, arith}
 use Rattle.std.specs.Global.{Vec}
-use Rattle.stab_search.specs.Ascending.{AscendsFrom, IsAscending}
+use Rattle.stab_parities.specs.Ascending.{AscendsFrom, IsAscending}
 use Rattle.stab_search.specs.inner.Lists.{ForEach}
 use Rattle.stab_search.proofs.ListLemmas.{each-map, each-push}
 use Rattle.tests_library.proofs.distances.numbers_of.Goals as goal

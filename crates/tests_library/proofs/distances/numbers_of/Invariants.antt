@@ -1,5 +1,5 @@
 use Rattle.std.proofs.Common.{◌<◌}
-use Rattle.stab_search.specs.Ascending.{IsAscending}
+use Rattle.stab_parities.specs.Ascending.{IsAscending}
 use Rattle.stab_search.specs.inner.Lists.{ForEach}
 use Rattle.tests_library.proofs.distances.numbers_of.Given as goal
 

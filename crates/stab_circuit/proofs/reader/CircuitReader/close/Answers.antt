@@ -1,5 +1,5 @@
 use Rattle.stab_circuit.proofs.Names.{◌≡◌, ap, ◌∙◌, ◌++◌, ◌∷◌, [], repeat, listed}
-use Rattle.stab_circuit.proofs.ReadLineLemmas.{closed_kept}
+use Rattle.stab_circuit.proofs.ReadLineLemmas.{closed_stored}
 use Rattle.stab_circuit.proofs.reader.CircuitReader.close.Goals as goal
 
 pub returns-in_ok-push-in-Some-clause-gives : goal.returns-in_ok-push-in-Some-clause-gives
@@ -10,4 +10,4 @@ returns-in_ok-push-in-Some-clause-gives c =
     c.in_ok-item-in-Some.ensures.ok ∙ ap (λ v. repeat f.count f.tag (listed v.items)) c.replace-body.ensures.value in
     let put : c.push.new.self.items ≡ f.before.items ++ repeat f.count f.tag (listed r.items.items) ∷ [] =
     c.in_ok-push-in-Some.ensures.items ∙ (λ i. (c.replace-body.ensures.after i).items ++ block i ∷ []) in
-    closed_kept r.outer.items r.open_blocks.items c.pop.new.self.items r.items.items c.push.new.self.items f c.in-Some.ensures.items put
+    closed_stored r.outer.items r.open_blocks.items c.pop.new.self.items r.items.items c.push.new.self.items f c.in-Some.ensures.items put

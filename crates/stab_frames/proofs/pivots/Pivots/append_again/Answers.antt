@@ -38,12 +38,12 @@ loop-number-preserved c =
 pub returns-clause-value : goal.returns-clause-value
 returns-clause-value c =
     let inv = c.loop-number.invariant in
-    let kept = c.args.self.now in
+    let preserved = c.args.self.now in
     let count = c.loop-number.number - c.args.from in
-    let others = drop c.args.from (take c.args.to kept.strings) in
-    let many = many-again kept.strings c.args.from c.args.to in
-    let most : c.loop-number.self.most ≡ kept.most + length others =
+    let others = drop c.args.from (take c.args.to preserved.strings) in
+    let many = many-again preserved.strings c.args.from c.args.to in
+    let most : c.loop-number.self.most ≡ preserved.most + length others =
     omega (arith, inv.most, inv.far, many, c.loop-number-test.false, c.min-end.ensures, c.len.ensures.value) in
-    let all = all-again kept.strings c.args.from c.args.to count (omega (arith, many, c.loop-number-test.false, c.min-end.ensures, c.len.ensures.value)) in
-    let strings : c.loop-number.self.strings ≡ kept.strings ++ others = inv.strings ∙ ap (λ l. kept.strings ++ l) all in
+    let all = all-again preserved.strings c.args.from c.args.to count (omega (arith, many, c.loop-number-test.false, c.min-end.ensures, c.len.ensures.value)) in
+    let strings : c.loop-number.self.strings ≡ preserved.strings ++ others = inv.strings ∙ ap (λ l. preserved.strings ++ l) all in
     λ i. record { qubits = inv.qubits i; most = most i; strings = strings i }

@@ -1,11 +1,11 @@
-use Rattle.stab_frames.proofs.Names.{◌≡◌, sym, ◌∙◌, ap, length, map, min, take, arith, length-map, length-take, All-take, PivotsState, front_kept}
+use Rattle.stab_frames.proofs.Names.{◌≡◌, sym, ◌∙◌, ap, length, map, min, take, arith, length-map, length-take, All-take, PivotsState, front_stored}
 use Rattle.stab_frames.proofs.RecordedLemmas.{all-alike, front-limit}
 use Rattle.stab_frames.proofs.pivots.Pivots.front.Goals as goal
 
 pub invariant_of-result : goal.invariant_of-result
 invariant_of-result c =
-    let kept = c.self.inside in
-    let items = kept.strings.items in
+    let preserved = c.self.inside in
+    let items = preserved.strings.items in
     let new = c.in_ok-strings.strings.items in
     let front = take c.min.result items in
     let same : map (λ p. p.value.letters) new ≡ map (λ p. p.value.letters) front =
@@ -23,11 +23,11 @@ invariant_of-result c =
       c.as_slice.ensures.len,
       ap length c.as_slice.ensures.value,
     ) in
-    let state : PivotsState = record { qubits = kept.qubits; most = kept.most; strings = map (λ p. p.value.letters) items } in
-    let most : c.front_limit-most.result ≡ (front_kept c.args.count state).most =
-    c.front_limit-most.ensures.value ∙ ap (λ (s : PivotsState). (front_kept c.args.count s).most) (sym c.self.view_is) in
+    let state : PivotsState = record { qubits = preserved.qubits; most = preserved.most; strings = map (λ p. p.value.letters) items } in
+    let most : c.front_limit-most.result ≡ (front_stored c.args.count state).most =
+    c.front_limit-most.ensures.value ∙ ap (λ (s : PivotsState). (front_stored c.args.count s).most) (sym c.self.view_is) in
     let limit = front-limit c.args.count state (length new) (omega (arith, size, long)) (omega (arith, c.self.invariant.1, long)) (omega (arith, c.self.invariant.1, long)) in (
-      all-alike (λ p. p.value.letters) kept.qubits new front same (All-take (λ p. length p.value.letters ≡ kept.qubits) c.min.result items c.self.invariant.0),
+      all-alike (λ p. p.value.letters) preserved.qubits new front same (All-take (λ p. length p.value.letters ≡ preserved.qubits) c.min.result items c.self.invariant.0),
       omega (arith, limit.0, most),
       omega (arith, limit.1, most),
     )

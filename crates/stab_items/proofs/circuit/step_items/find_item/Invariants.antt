@@ -1,10 +1,11 @@
-use Rattle.stab_items.proofs.Names.{◌≡◌, ◌<◌, ◌-◌, length, drop, listed, unroll, paths_from, item_steps_left}
+use Rattle.stab_items.proofs.Names.{◌≡◌, ◌<◌, ◌+◌, ◌-◌, length, take, drop, listed, unroll, paths_from, item_steps_left}
 use Rattle.stab_items.proofs.circuit.step_items.find_item.Given as goal
 
 abbrev pub invariant-items : goal.invariant-items
 invariant-items l = record {
   in_range : l.found.within < length (unroll (listed (drop l.found.place l.items)));
   same : drop l.found.within (paths_from l.found.place (listed (drop l.found.place l.items))) ≡ drop l.step (paths_from l.place (listed (drop l.place l.items)));
+  steps : length (unroll (listed (take l.found.place l.items))) + l.found.within ≡ length (unroll (listed (take l.place l.items))) + l.step;
   left : item_steps_left (listed (drop l.found.place l.items)) l.found.within ≡ item_steps_left (listed (drop l.place l.items)) l.step;
 }
 

@@ -8,7 +8,7 @@ overflow_add-end c =
     let s = c.index-stretch.result.now in
     let at = c.stretches.invariant in
     let there : c.stretches.number < length ss = omega (arith, c.stretches-test.true, c.len-number-end.ensures) in
-    let here : s ≡ get_or ss c.stretches.number s = c.index-stretch.ensures ∙ ap (λ l. get_or l c.stretches.number s) at.kept in
+    let here : s ≡ get_or ss c.stretches.number s = c.index-stretch.ensures ∙ ap (λ l. get_or l c.stretches.number s) at.preserved in
     omega (arith, c.ranges.len.fits, end_within ss c.stretches.number c.args.place c.args.len c.stretches.first s c.args.items.now c.requires.were there here at.first)
 
 pub overflow_sub-len : goal.overflow_sub-len
@@ -17,7 +17,7 @@ overflow_sub-len c =
     let s = c.index-stretch.result.now in
     let at = c.stretches.invariant in
     let there : c.stretches.number < length ss = omega (arith, c.stretches-test.true, c.len-number-end.ensures) in
-    let here : s ≡ get_or ss c.stretches.number s = c.index-stretch.ensures ∙ ap (λ l. get_or l c.stretches.number s) at.kept in
+    let here : s ≡ get_or ss c.stretches.number s = c.index-stretch.ensures ∙ ap (λ l. get_or l c.stretches.number s) at.preserved in
     end_within ss c.stretches.number c.args.place c.args.len c.stretches.first s c.args.items.now c.requires.were there here at.first
 
 pub returns-then-place-end : goal.returns-then-place-end
@@ -26,12 +26,12 @@ returns-then-place-end c =
     let s = c.index-stretch.result.now in
     let at = c.stretches.invariant in
     let there : c.stretches.number < length ss = omega (arith, c.stretches-test.true, c.len-number-end.ensures) in
-    let here : s ≡ get_or ss c.stretches.number s = c.index-stretch.ensures ∙ ap (λ l. get_or l c.stretches.number s) at.kept in
+    let here : s ≡ get_or ss c.stretches.number s = c.index-stretch.ensures ∙ ap (λ l. get_or l c.stretches.number s) at.preserved in
     let own = c.items_from.result.now in
     let new = c.stretch_of.result in
     let is = c.items_from.ensures.value ∙ ap (drop c.stretches.first) c.items_up_to-front.ensures.value in
     record {
-      are = subst (λ l. AreStretches (slice_set l c.stretches.number new) c.args.items.now) (sym at.kept)
+      are = subst (λ l. AreStretches (slice_set l c.stretches.number new) c.args.items.now) (sym at.preserved)
           (renewed_at ss c.stretches.number c.args.place c.args.len c.stretches.first s new c.args.items.now own c.requires.were there here at.first at.before c.if-place-end.true is c.stretch_of.ensures.items c.stretch_of.ensures.sum);
     }
 
@@ -41,11 +41,11 @@ stretches-preserved c =
     let s = c.index-stretch.result.now in
     let at = c.stretches.invariant in
     let there : c.stretches.number < length ss = omega (arith, c.stretches-test.true, c.len-number-end.ensures) in
-    let here : s ≡ get_or ss c.stretches.number s = c.index-stretch.ensures ∙ ap (λ l. get_or l c.stretches.number s) at.kept in
+    let here : s ≡ get_or ss c.stretches.number s = c.index-stretch.ensures ∙ ap (λ l. get_or l c.stretches.number s) at.preserved in
     record {
       first = omega (arith, at.first, items_next ss c.stretches.number s there here);
       before = c.if-place-end.false;
-      kept = at.kept;
+      preserved = at.preserved;
     }
 
 pub returns : goal.returns
@@ -53,6 +53,6 @@ returns c =
     let at = c.stretches.invariant in
     let ss = c.args.stretches.now.items in
     record {
-      are = subst (λ l. AreStretches l c.args.items.now) (sym at.kept)
+      are = subst (λ l. AreStretches l c.args.items.now) (sym at.preserved)
           (stays_after ss c.stretches.number c.args.place c.args.len c.stretches.first c.args.items.now c.requires.were (omega (arith, c.stretches-test.false, c.len-number-end.ensures)) at.first at.before);
     }

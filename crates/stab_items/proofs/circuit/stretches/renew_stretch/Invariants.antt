@@ -5,5 +5,5 @@ abbrev pub invariant-stretches : goal.invariant-stretches
 invariant-stretches l = record {
   first : l.first ≡ items_in (take l.number l.fn.stretches.items);
   before : l.first ≤ l.place;
-  kept : l.stretches.items ≡ l.fn.stretches.items;
+  preserved : l.stretches.items ≡ l.fn.stretches.items;
 }

@@ -134,7 +134,7 @@ following-smaller g c =
 pub following-preserved : goal.following-preserved
 following-preserved g c =
     let inv = c.following.invariant in
-    let kept = c.come_again.ensures in
+    let preserved = c.come_again.ensures in
     let again = c.in_ok-come_again.ensures {u = tt} in
     let at = goal.at.following-preserved g c in
     let reached = at.In_ok-reached in
@@ -142,8 +142,8 @@ following-preserved g c =
     let same = saved g at.In_ok-save in
     let same_coins = c.advance.ensures.same_coins ∙ inv.same_coins in
     record {
-      further = further-on _ _ _ _ _ _ (further-saved _ _ _ _ c.save.new.self (further g reached) same) kept.further;
-      same_coins = kept.same_coins ∙ same_coins;
+      further = further-on _ _ _ _ _ _ (further-saved _ _ _ _ c.save.new.self (further g reached) same) preserved.further;
+      same_coins = preserved.same_coins ∙ same_coins;
       costs = costs-on _ _ _ _ _ _ (costs-saved _ _ _ _ c.save.new.self (costs g reached c.advance.new.self refl) same) again.costs;
       way =
           way-named c.save.new.self.tableau.qubits c.args.self.now.tableau.qubits (g.C.Coins.sequence c.args.coins.now) c.args.self.now.step c.args.plan c.save.new.self.cursor.all c.args.self.now.cursor.all

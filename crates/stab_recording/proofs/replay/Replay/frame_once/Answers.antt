@@ -3,16 +3,16 @@ use Rattle.std.proofs.Common.{IfSome}
 use Rattle.stab_recording.specs.inner.Progress.{IsFurther}
 use Rattle.stab_recording.proofs.ProgressLemmas.{further-none, costs-none}
 use Rattle.stab_recording.proofs.ReplayLemmas.{coins-cut}
-use Rattle.stab_recording.proofs.FoldedReplayLemmas.{kept-before, ones-given}
+use Rattle.stab_recording.proofs.FoldedReplayLemmas.{preserved-before, ones-given}
 use Rattle.stab_recording.proofs.replay.Replay.frame_once.Given.{Over}
 use Rattle.stab_recording.proofs.replay.Replay.frame_once.Goals as goal
 use Rattle.stab_recording.proofs.replay.Replay.frame_once.Goals.{In-Some}
 
-kept : (g : Over) (c : In-Some g)
+preserved : (g : Over) (c : In-Some g)
     → c.args.propagation.number + ones (drop c.args.segment.from.free (take c.args.segment.to.free c.args.self.now.outputs.free.items)) ≤ length c.args.self.now.pivots.strings.strings
-kept g c = let le = c.in-Some.ensures.kept in omega (arith, le, c.number-before.ensures.value, c.in-Some.ensures.count)
+preserved g c = let le = c.in-Some.ensures.preserved in omega (arith, le, c.number-before.ensures.value, c.in-Some.ensures.count)
 
--- the coins that it asks for, by the flags that it takes
+-- the coins that it asks for, by the randomness that it takes
 coins : (g : Over) (c : In-Some g)
     → ones (take (all_coins_of (take c.args.segment.steps c.args.self.now.cursor.left)) (drop c.args.propagation.coin c.args.self.now.outputs.free.items)) ≡ c.in-Some.asked
 coins g c =
@@ -61,16 +61,16 @@ propagate_with_coins-requires-clause-fits g c =
 pub propagate_with_coins-requires-clause-few : goal.propagate_with_coins-requires-clause-few
 propagate_with_coins-requires-clause-few g c = let k = c.requires.may in omega (arith, k.few, c.len.ensures)
 
-pub propagate_with_coins-requires-clause-kept : goal.propagate_with_coins-requires-clause-kept
-propagate_with_coins-requires-clause-kept g c =
-    let at = (goal.at.propagate_with_coins-requires-clause-kept g c).In-Some in
+pub propagate_with_coins-requires-clause-preserved : goal.propagate_with_coins-requires-clause-preserved
+propagate_with_coins-requires-clause-preserved g c =
+    let at = (goal.at.propagate_with_coins-requires-clause-preserved g c).In-Some in
     let k = c.requires.may in
     let free = c.args.self.now.outputs.free.items in
     subst (λ bits. ones (take (c.args.propagation.coin + all_coins_of (take c.args.segment.steps c.args.self.now.cursor.left)) bits) ≤ length c.args.self.now.pivots.strings.strings)
     (sym c.as_slice.ensures.value)
-    (kept-before c.args.propagation.number c.args.propagation.coin (all_coins_of (take c.args.segment.steps c.args.self.now.cursor.left)) c.args.segment.to.free
+    (preserved-before c.args.propagation.number c.args.propagation.coin (all_coins_of (take c.args.segment.steps c.args.self.now.cursor.left)) c.args.segment.to.free
     (length c.args.self.now.pivots.strings.strings) free k.placed c.requires.may.last
-    (subst (λ i. c.args.propagation.number + ones (drop i (take c.args.segment.to.free free)) ≤ length c.args.self.now.pivots.strings.strings) (sym k.coin) (kept g at)))
+    (subst (λ i. c.args.propagation.number + ones (drop i (take c.args.segment.to.free free)) ≤ length c.args.self.now.pivots.strings.strings) (sym k.coin) (preserved g at)))
 
 -- it went further by the steps of the segment, and asked for no more coins than they use up
 gone : (g : Over) (c : In-Some g) (before after : ℕ) (new : Replay) → after ≤ before + all_coins_of (take c.args.segment.steps c.args.self.now.cursor.left)
@@ -137,17 +137,17 @@ returns-clause-costs g c =
     let to = c.args.segment.to.free in
     let count = all_coins_of (take c.args.segment.steps c.args.self.now.cursor.left) in
     let asked = (c.in_ok-propagate_with_coins.ensures {u = tt}).asks_random in
-    let flags = ap (λ bits. ones (take count (drop c.args.propagation.coin bits))) c.as_slice.ensures.value in
+    let randomness = ap (λ bits. ones (take count (drop c.args.propagation.coin bits))) c.as_slice.ensures.value in
     let given = ap (λ (o : RunOutput). ones o.free) ((c.in_ok-append_propagated.ensures {u = tt}).value ∙ ap (λ o. joined (output_of c.args.self.now.outputs) (flipped_output o (flips_after c.lengths_propagated-gone.result c.propagate_with_coins.new.propagation))) (c.in_ok-part.ensures {u = tt}).value) in
     record {
       counted = omega (arith, few g at);
-      asks = omega (arith, asked, flags, coins g at);
+      asks = omega (arith, asked, randomness, coins g at);
       asks_random =
           omega (
             arith,
             asked,
             given,
-            flags,
+            randomness,
             ones-given c.args.propagation.coin count to free c.requires.may.last,
             ap (λ i. ones (drop i (take to free))) c.requires.may.coin,
             ap ones (flipped-empty (drop from (take to free))),
@@ -197,7 +197,7 @@ returns-clause-by_frame g c =
             detectors = drop (c.lengths_propagated-gone.ensures.detectors i) v.flips.detectors;
             additions = drop (c.lengths_propagated-gone.ensures.additions i) v.flips.additions;
           })));
-      kept = kept g at;
+      preserved = preserved g at;
       strings =
           subst (λ x. x) (λ i. HasStringsAgain (c.number-before.ensures.value i) (c.number-after.ensures.value i) old.pivots.strings c.repeat_pivots.new.strings)
           (c.in_ok-repeat_pivots.ensures {u = tt}).value;

@@ -44,11 +44,11 @@ giving-preserved g c =
       further = further-on _ _ _ _ _ _ inv.further done.further;
       same_coins = done.same_coins ∙ inv.same_coins;
       costs = costs-on _ _ _ _ _ _ inv.costs gave.costs;
-      way = λ begin p checkpoints kept next block folding.
-          folding-named begin p checkpoints kept next block c.args.end true new later qubits inv.same_coins inv.further.all
+      way = λ begin p checkpoints preserved next block folding.
+          folding-named begin p checkpoints preserved next block c.args.end true new later qubits inv.same_coins inv.further.all
           (some-one (λ (e : Recurrence). (begin : ℕ) (p : Plan) (checkpoints : List Checkpoint) (old : List Bool) (next : ℕ) (block : Repeat) (passed : Bool)
           → IsFolding c.giving.self.tableau.qubits (g.C.Coins.sequence c.giving.coins) begin p c.giving.self.cursor.all checkpoints old next block c.args.end passed c.giving.self c.giving.found
           → IsFolding c.giving.self.tableau.qubits (g.C.Coins.sequence c.giving.coins) begin p c.giving.self.cursor.all checkpoints old next block c.args.end true new e) _ later c.in-Some.is gave.way
-          begin p checkpoints kept next block c.giving.passed
-          (folding-named begin p checkpoints kept next block c.args.end c.giving.passed old c.giving.found (sym qubits) (sym inv.same_coins) (sym inv.further.all) (inv.way begin p checkpoints kept next block folding)));
+          begin p checkpoints preserved next block c.giving.passed
+          (folding-named begin p checkpoints preserved next block c.args.end c.giving.passed old c.giving.found (sym qubits) (sym inv.same_coins) (sym inv.further.all) (inv.way begin p checkpoints preserved next block folding)));
     }

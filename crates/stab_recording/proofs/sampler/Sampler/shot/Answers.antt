@@ -13,14 +13,14 @@ returns g c =
     (shots-of_items found c.self.inside.qubits coins (circuit_items c.self.inside.circuit.now) c.self.inside.observables
     ready.observables_are c.run_whole.ensures.run) in
     record {
-      kept = search rules;
+      preserved = search rules;
       records = IfOk-weaker found _ _ (λ s i. i.records) is;
       free = IfOk-weaker found _ _ (λ s i. i.free) is;
       detectors = IfOk-weaker found _ _ (λ s i. i.detectors) is;
       observables = IfOk-weaker found _ _ (λ s i. i.observables) is;
       decided =
           IfOk-weaker found _ _
-          (λ s i. subst (λ flags. DependsOnCoinsAt flags now.qubits coins now.items) (sym i.free) (run_of-same now.qubits coins now.items))
+          (λ s i. subst (λ randomness. DependsOnCoinsAt randomness now.qubits coins now.items) (sym i.free) (run_of-same now.qubits coins now.items))
           is;
       same_coins = search rules;
       asks = search rules;

@@ -1,6 +1,6 @@
 use Rattle.stab_regions.proofs.Names.{◌<◌, ◌∷◌, ◌∙◌, sym, ap, subst, length, arith, All, Step, step_shown, step_qubits}
 use Rattle.stab_regions.proofs.SiteLemmas.{step-within}
-use Rattle.stab_regions.proofs.SiteRowLemmas.{kept-long}
+use Rattle.stab_regions.proofs.SiteRowLemmas.{preserved-long}
 use Rattle.stab_regions.proofs.SweepLemmas.{swept-more}
 use Rattle.stab_regions.proofs.WalkRowLemmas.{walk-qubits, walk-sides}
 use Rattle.stab_regions.proofs.sweep.Sweep.before.Goals as goal
@@ -33,7 +33,7 @@ add_all-requires c =
           subst (λ m. All (λ q. q < m) (step_qubits x)) (sym (ap length c.as_slice-3.ensures.value ∙ walk-qubits w.numbered w p.counts (x ∷ p.back) at))
           (step-within p.counts.qubits x (p.passes.fits.steps 0 x (omega arith)));
       same_length = ap length c.as_slice-4.ensures.value ∙ walk-sides w.numbered w p.counts (x ∷ p.back) at ∙ sym (ap length c.as_slice-3.ensures.value);
-      kept = λ following. ap length (c.in_ok-keep_all.ensures.value following) ∙ kept-long c.as_slice.result.now c.as_slice-2.result.now (step_qubits x);
+      retained = λ following. ap length (c.in_ok-keep_all.ensures.value following) ∙ preserved-long c.as_slice.result.now c.as_slice-2.result.now (step_qubits x);
     }
 
 pub returns : goal.returns

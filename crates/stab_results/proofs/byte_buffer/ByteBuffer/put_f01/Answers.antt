@@ -1,27 +1,33 @@
-use Rattle.std.proofs.Common.{◌++◌, false, codes, arith, ap}
-use Rattle.std.proofs.lemmas.List.{drop_more, drop_all}
+use Rattle.std.proofs.Common.{◌≡◌, ◌++◌, rules, ap, codes}
+use Rattle.std.proofs.lemmas.List.{nil_from_length}
 use Rattle.std.specs.List.{flat_map}
+use Rattle.std.specs.Slice.Iter.{chunks_rest}
 use Rattle.stab_results.specs.Formats.{digit, f01_bytes}
 use Rattle.stab_results.proofs.PutsLemmas.{begins, goes_on, breaks_off, ends}
-use Rattle.stab_results.proofs.PieceLemmas.{next_piece}
+use Rattle.stab_results.proofs.PieceLemmas.{next_pieces}
 use Rattle.stab_results.proofs.byte_buffer.ByteBuffer.put_f01.Goals as goal
 
-pub loop-bit-init : goal.loop-bit-init
-loop-bit-init g c = begins (g.O.Output.seen c.args.out.now) c.args.self.now (f01_bytes c.args.bits.now)
+pub loop-block-init : goal.loop-block-init
+loop-block-init g c =
+    let all : chunks_rest c.into_iter-block-iterator.result ≡ c.args.bits.now = cc in record {
+      size = search rules;
+      puts = rw all (begins (g.O.Output.seen c.args.out.now) c.args.self.now (f01_bytes c.args.bits.now));
+    }
 
-pub loop-bit-preserved : goal.loop-bit-preserved
-loop-bit-preserved g c =
-    let first = drop_more c.args.bits.now c.loop-bit.bit-index false (omega arith) in
-    goes_on c.loop-bit.invariant c.in_ok-push.ensures.puts (next_piece digit _ _ _ _ (codes "\n") first c.digit.ensures.value)
+pub loop-block-preserved : goal.loop-block-preserved
+loop-block-preserved g c =
+    let step = c.in-Some.ensures.steps.1 in record {
+      size = search rules;
+      puts = goes_on c.loop-block.invariant.puts c.in_ok-put_digits.ensures.puts (next_pieces digit _ c.in-Some.block.now (chunks_rest c.next.new.self) (codes "\n") step.0);
+    }
 
-pub returns-in_err-push : goal.returns-in_err-push
-returns-in_err-push g c =
-    let first = drop_more c.args.bits.now c.loop-bit.bit-index false (omega arith) in record {
-      puts = breaks_off c.from_residual.result _ c.loop-bit.invariant c.in_err-push.ensures.puts (next_piece digit _ _ _ _ (codes "\n") first c.digit.ensures.value) c.from_residual.ensures.1;
+pub returns-in_err-put_digits : goal.returns-in_err-put_digits
+returns-in_err-put_digits g c =
+    let step = c.in-Some.ensures.steps.1 in record {
+      puts = breaks_off c.from_residual.result _ c.loop-block.invariant.puts c.in_err-put_digits.ensures.puts (next_pieces digit _ c.in-Some.block.now (chunks_rest c.next.new.self) (codes "\n") step.0) c.from_residual.ensures.1;
     }
 
 pub returns : goal.returns
-returns g c =
-    let none = ap (λ l. flat_map digit l ++ codes "\n") (drop_all c.loop-bit.bit-index c.args.bits.now (omega arith)) in record {
-      puts = ends c.push-2.result c.loop-bit.invariant c.push-2.ensures.puts none;
-    }
+returns g c = record {
+  puts = ends c.push.result c.loop-block.invariant.puts c.push.ensures.puts (ap (λ l. flat_map digit l ++ codes "\n") (nil_from_length (chunks_rest c.loop-block.block-iterator) c.in-None.ensures.steps.1.0));
+}

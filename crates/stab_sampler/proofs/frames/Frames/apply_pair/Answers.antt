@@ -13,6 +13,6 @@ returns-in-Some-clause-letters g c = λ l lt.
 pub returns-in-None-clause-letters : goal.returns-in-None-clause-letters
 returns-in-None-clause-letters g c = λ l lt.
     exchange-put g.W.Word.at l c.args.self.now.letters.items c.args.gate c.args.first c.args.second
-    c.index-kept.result.now c.index-in-None.result.now c.index-kept.result.now
+    c.index-preserved.result.now c.index-in-None.result.now c.index-preserved.result.now
     (sym c.controlled_letter.ensures.value ∙ c.in-None.is) c.requires.first_in_range c.requires.second_in_range
-    c.index-kept.ensures c.index-in-None.ensures refl
+    c.index-preserved.ensures c.index-in-None.ensures refl

@@ -33,35 +33,35 @@ returns c =
     let old = c.args.self.now in
     let after = c.run_recording_pivots.new in
     let sized = c.requires.sized in
-    let zeros = c.clear_flags.new.flags.items in
+    let zeros = c.clear_randomness.new.randomness.items in
     let new = program_state after.tableau (output_of after.outputs) in
-    let kept = c.truncate.new.self in
+    let preserved = c.truncate.new.self in
     let following = after.pivots.strings in
     let zero : list_coin c.new-coins.result.bits ≡ zero_coins = ap (λ (k : Listed). list_coin k.bits) c.new-coins.ensures.value in
     let ran =
     subst (λ s. IsRun n s ys (record { stabilised = stabilises old.tableau; output = record (output_of old.outputs) { free = zeros } }) new) zero
     (subst (λ zs. IsRun n (list_coin c.new-coins.result.bits) (take c.args.count zs) (record { stabilised = stabilises old.tableau; output = record (output_of old.outputs) { free = zeros } }) new)
-    c.in_ok-cursor.ensures.steps (c.in_ok-run_recording_pivots.ensures {u = tt}).recorded.steps.run) in
+    c.in_ok-cursor.ensures.steps (c.in_ok-run_recording_pivots.ensures {u = tt}).recorded.done.pivots.run) in
     let keeps =
-    subst (λ s. KeepsTrue n s ys kept following (record { stabilised = stabilises old.tableau; output = record (output_of old.outputs) { free = zeros } }) new) zero
-    (subst (λ zs. KeepsTrue n (list_coin c.new-coins.result.bits) (take c.args.count zs) kept following (record { stabilised = stabilises old.tableau; output = record (output_of old.outputs) { free = zeros } }) new)
-    c.in_ok-cursor.ensures.steps (c.in_ok-run_recording_pivots.ensures {u = tt}).recorded.steps.has_pivots) in
+    subst (λ s. KeepsTrue n s ys preserved following (record { stabilised = stabilises old.tableau; output = record (output_of old.outputs) { free = zeros } }) new) zero
+    (subst (λ zs. KeepsTrue n (list_coin c.new-coins.result.bits) (take c.args.count zs) preserved following (record { stabilised = stabilises old.tableau; output = record (output_of old.outputs) { free = zeros } }) new)
+    c.in_ok-cursor.ensures.steps (c.in_ok-run_recording_pivots.ensures {u = tt}).recorded.done.pivots.has_pivots) in
     let here = c.requires.recorded.arrived in
-    let size = c.clear_flags.ensures.size in
-    let none = c.clear_flags.ensures.none in
-    let empty : kept.strings ≡ [] = ap (λ (k : PivotsState). k.strings) c.truncate.ensures.value in
-    let limit : kept.most ≡ most_strings n =
+    let size = c.clear_randomness.ensures.size in
+    let none = c.clear_randomness.ensures.none in
+    let empty : preserved.strings ≡ [] = ap (λ (k : PivotsState). k.strings) c.truncate.ensures.value in
+    let limit : preserved.most ≡ most_strings n =
     ap (λ (k : PivotsState). k.most) c.truncate.ensures.value ∙ omega (arith, sized.most, ap most_strings sized.strings) in
     let position : c.len-determined.result ≡ length zeros = search rules in
     let determined = c.in_ok-push_rest.ensures.value ∙ (λ i. old.free.items ++ drop (position i) (c.as_slice.ensures.value i)) in
-    let there : PartRecording = record { tableau = after.tableau; string = after.string; outputs = after.outputs; pivots = after.pivots; free = c.push_rest.new.flags } in
+    let there : PartRecording = record { tableau = after.tableau; string = after.string; outputs = after.outputs; pivots = after.pivots; free = c.push_rest.new.randomness } in
     record {
       sized = record {
         qubits = c.run_recording_pivots.ensures.qubits;
         string = c.run_recording_pivots.ensures.sized.string;
         written = c.run_recording_pivots.ensures.sized.scratch;
         strings = c.run_recording_pivots.ensures.sized.strings;
-        most = c.run_recording_pivots.ensures.kept.most ∙ limit;
+        most = c.run_recording_pivots.ensures.no_less.most ∙ limit;
       };
       recorded =
           subst (λ zs. IsPartRecording n zs there) (sym (take-add c.args.from c.args.count steps)) (record {
@@ -72,10 +72,10 @@ returns c =
         determined = determined-random n xs ys (stabilises old.tableau) (output_of old.outputs) zeros old.free.items new here size none ran;
         others = others-not n xs ys (stabilises old.tableau) (output_of old.outputs) zeros old.free.items new here size none ran;
         number =
-            strings-numbered n xs ys (stabilises old.tableau) (output_of old.outputs) zeros old.free.items new here size none ran kept following empty keeps
-            ∙ ap (min (ones after.outputs.free.items)) (c.run_recording_pivots.ensures.kept.most ∙ limit);
+            strings-numbered n xs ys (stabilises old.tableau) (output_of old.outputs) zeros old.free.items new here size none ran preserved following empty keeps
+            ∙ ap (min (ones after.outputs.free.items)) (c.run_recording_pivots.ensures.no_less.most ∙ limit);
         few = random-few n xs ys (stabilises old.tableau) (output_of old.outputs) zeros old.free.items new here size none ran;
-        right = strings-right n xs ys (stabilises old.tableau) (output_of old.outputs) zeros old.free.items new here size none ran kept following empty keeps;
+        right = strings-right n xs ys (stabilises old.tableau) (output_of old.outputs) zeros old.free.items new here size none ran preserved following empty keeps;
       };
       err = tt;
     }

@@ -1,9 +1,9 @@
 use Rattle.stab_sampler.proofs.Names.{◌≡◌, ◌+◌, ◌-◌, ◌∙◌, ap, length, arith, circuit_items, ones, run_of, most_strings, zero_coins}
-use Rattle.stab_sampler.proofs.RecordedLemmas.{all-kept, are-few}
+use Rattle.stab_sampler.proofs.RecordedLemmas.{all-unchanged, are-few}
 use Rattle.stab_sampler.proofs.reference.Reference.of_checked.Goals as goal
 
-pub returns-then-own-most_pivots-clause-kept : goal.returns-then-own-most_pivots-clause-kept
-returns-then-own-most_pivots-clause-kept c few =
+pub returns-then-own-most_pivots-clause-preserved : goal.returns-then-own-most_pivots-clause-preserved
+returns-then-own-most_pivots-clause-preserved c few =
     let n = c.args.n in
     let strings = c.in_ok-run.run'.strings in
     let free = ones (run_of n zero_coins (circuit_items c.args.circuit.now)).free in
@@ -20,7 +20,7 @@ returns-clause-reference c =
     let own : c.own.result ≡ (length strings.strings + most_strings n) - strings.most =
     c.own.ensures.value ∙ ap (λ k. (length strings.strings + most_strings k) - strings.most) c.in_ok-run.ensures.qubits in
     c.in_ok-run.ensures.reference
-    (all-kept n (length strings.strings) strings.most free c.in_ok-run.ensures.number c.requires.in_range
+    (all-unchanged n (length strings.strings) strings.most free c.in_ok-run.ensures.number c.requires.in_range
     (omega (arith, own, c.most_pivots.ensures.value, c.if-own-most_pivots.false)))
 
 pub returns-clause-few : goal.returns-clause-few

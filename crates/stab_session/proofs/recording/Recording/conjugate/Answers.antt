@@ -35,7 +35,7 @@ here : (c : After-index-checkpoints-before) → length (unroll (circuit_items c.
     → slice_get c.args.self.now.checkpoints.items (c.count_before-before.result - 1) ≡ Some c.index-checkpoints-before.result
 here c small count =
     let f = c.requires.follows.1 in
-    checkpoint-is f.count f.kept f.span small count c.index-checkpoints-before.result
+    checkpoint-is f.count f.preserved f.span small count c.index-checkpoints-before.result
     (c.index-checkpoints-before.is ∙ ap (λ cs. get_or cs (c.count_before-before.result - 1) c.index-checkpoints-before.result) c.as_slice-checkpoints.ensures.value)
 
 passed : (c : In-Some) → IsPastSites (unroll (circuit_items c.args.circuit.now)) c.args.span c.count_before-before.result c.count_within-inside.result c.args.change.now c.args.self.now
@@ -75,7 +75,7 @@ conjugating-requires-clause-may c =
     let counts = some-at (λ (d : Checkpoint). (k : ℕ) (coins : ℕ → Bool) (a : Point) → c.in-Some.passed.from ≡ longer d.lengths (lengths_of (outputs k coins (take (c.args.span.first - d.step) (drop d.step ys)) a)))
     c.args.self.now.checkpoints.items (c.count_before-before.result - 1) c.index-checkpoints-before.result d_here went.from_is in
     record {
-      same_length = f.kept.has_pivots.size ∙ sym went.letters;
+      same_length = f.preserved.has_pivots.size ∙ sym went.letters;
       fits =
           subst (λ k. All (StepFits k) (drop c.args.span.new_end ys)) (sym went.letters)
           (All-drop (StepFits n) c.args.span.new_end ys (check-fits n (circuit_items c.args.circuit.now) ys c.requires.checked refl c.in_ok-passed.ensures.distinct));
@@ -84,8 +84,8 @@ conjugating-requires-clause-may c =
           omega (
             arith,
             went.few,
-            from-few f.count f.kept f.span small count c.index-checkpoints-before.result d_here c.in-Some.passed.from counts c.args.span.first,
-            from-few f.count f.kept f.span small count c.index-checkpoints-before.result d_here c.in-Some.passed.from counts c.args.span.new_end,
+            from-few f.count f.preserved f.span small count c.index-checkpoints-before.result d_here c.in-Some.passed.from counts c.args.span.first,
+            from-few f.count f.preserved f.span small count c.index-checkpoints-before.result d_here c.in-Some.passed.from counts c.args.span.new_end,
           );
       few_passed = omega (arith, c.past_sites.ensures.most, small, length-drop c.args.span.new_end ys);
     }
@@ -105,7 +105,7 @@ propagated_between-followed-requires c =
     let small = few at.After-as_slice-checkpoints in
     let count = counted at.After-count_before-before in
     let order = f.span.new_order in
-    let before = checkpoint-before f.count f.kept f.span small count c.index-checkpoints-before.result (here at.After-index-checkpoints-before small count) in
+    let before = checkpoint-before f.count f.preserved f.span small count c.index-checkpoints-before.result (here at.After-index-checkpoints-before small count) in
     let following = end-following c.args.span (length (unroll (circuit_items c.args.circuit.now)))
     (slice_get c.args.self.now.checkpoints.items (c.count_within-inside.result + length c.in-Some-2.conjugating.rest.conjugated.items)) f.span.new_within small in
     record {

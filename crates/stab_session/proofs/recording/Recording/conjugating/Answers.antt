@@ -31,7 +31,7 @@ propagate_rest-requires-clause-order c =
     let cs = c.args.self.now.checkpoints.items in
     subst (AreInOrder c.args.span.old_end (c.args.span.old_end + length c.in_ok-cursor.cursor.left)) (sym (c.split_at.ensures.back ∙ ap (drop c.args.inside) c.as_slice.ensures.value))
     (subst (λ zs. AreInOrder c.args.span.old_end (c.args.span.old_end + length zs) (drop c.args.inside cs)) (sym c.in_ok-cursor.ensures.steps)
-    (following-order f.count f.kept f.span c.args.inside c.requires.following))
+    (following-order f.count f.preserved f.span c.args.inside c.requires.following))
 
 pub returns-clause-conjugating : goal.returns-clause-conjugating
 returns-clause-conjugating c =

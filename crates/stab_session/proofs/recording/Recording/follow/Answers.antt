@@ -27,7 +27,7 @@ returns-in-Some-2-clause-followed g c =
     let done = conjugated g (goal.at.returns-in-Some-2-clause-followed g c).In-Some-2 in
     let none : c.in-Some-2.followed.tried ≡ 0 = subst (λ o. IfSome o (λ f. f.tried ≡ 0)) c.in-Some-2.is c.in_ok-followed.ensures.none_in_vain in
     record {
-      kept = done.kept;
+      preserved = done.preserved;
       distinct = subst (λ o. IfSome o (λ _. All HasDistinctQubits (unroll (circuit_items c.args.circuit.now)))) c.in-Some-2.is c.in_ok-followed.ensures.distinct;
       way = done.way;
       tried = omega (arith, none);

@@ -4,13 +4,13 @@ use Rattle.stab_session.proofs.recording.Recording.old_rest.Goals as goal
 
 pub returns-clause-rest : goal.returns-clause-rest
 returns-clause-rest c =
-    let kept = c.args.self.now in
+    let preserved = c.args.self.now in
     let a = output_of c.args.outputs.now in
     let d = c.index-checkpoint.result.now in
-    let here : slice_get kept.checkpoints.items c.args.number ≡ Some d =
-    slice_get_read kept.checkpoints.items (length kept.checkpoints.items) c.args.number d refl c.requires.in_range c.index-checkpoint.ensures in
-    at-some (IsOldRest kept a c.args.strings.now c.args.step c.args.number (output_of c.append_rest.new.self) c.append_strings.new.strings _)
-    kept.checkpoints.items c.args.number d here (record {
+    let here : slice_get preserved.checkpoints.items c.args.number ≡ Some d =
+    slice_get_read preserved.checkpoints.items (length preserved.checkpoints.items) c.args.number d refl c.requires.in_range c.index-checkpoint.ensures in
+    at-some (IsOldRest preserved a c.args.strings.now c.args.step c.args.number (output_of c.append_rest.new.self) c.append_strings.new.strings _)
+    preserved.checkpoints.items c.args.number d here (record {
       old = _;
       is = refl;
       from = refl;
@@ -19,6 +19,6 @@ returns-clause-rest c =
       letters = ap (λ (w : PropagationState). w.letters) c.in_ok-new.ensures.value ∙ ap (λ k. replicate k I) c.len.ensures.value;
       output = (c.in_ok-append_rest.ensures {u = tt}).value;
       strings =
-          subst (λ bits. IsSpliced c.args.strings.now kept.strings (ones (take d.lengths.free kept.outputs.free.items)) (ones bits) c.append_strings.new.strings) c.as_slice.ensures.value
+          subst (λ bits. IsSpliced c.args.strings.now preserved.strings (ones (take d.lengths.free preserved.outputs.free.items)) (ones bits) c.append_strings.new.strings) c.as_slice.ensures.value
           (c.in_ok-append_strings.ensures {u = tt}).spliced;
     })

@@ -8,7 +8,7 @@ few : (c : After-index-checkpoint) → length (unroll (circuit_items c.args.circ
 few c = check-steps (circuit_items c.args.circuit.now) (check-whole c.args.self.now.tableau.qubits (circuit_items c.args.circuit.now) c.requires.checked)
 
 here : (c : After-index-checkpoint) → slice_get c.args.self.now.checkpoints.items (c.args.before - 1) ≡ Some c.index-checkpoint.result.now
-here c = let f = c.requires.follows.2 in checkpoint-is f.count f.kept f.span (few c) c.requires.counted.first c.index-checkpoint.result.now c.index-checkpoint.ensures
+here c = let f = c.requires.follows.2 in checkpoint-is f.count f.preserved f.span (few c) c.requires.counted.first c.index-checkpoint.result.now c.index-checkpoint.ensures
 
 -- the lengths are those that the steps give at any point
 counts : (first : ℕ) (d : Checkpoint) (left ys : List Step) (from : Lengths) → left ≡ drop d.step ys → (k : ℕ) (others : ℕ → Bool) (a : Point)
@@ -29,13 +29,13 @@ first-left first step left following ys le is went =
 
 pub at-requires-clause-in_range : goal.at-requires-clause-in_range
 at-requires-clause-in_range c =
-    let f = c.requires.follows.2 in checkpoint-within f.count f.kept f.span (few c) c.requires.counted.first c.index-checkpoint.result.now (here c)
+    let f = c.requires.follows.2 in checkpoint-within f.count f.preserved f.span (few c) c.requires.counted.first c.index-checkpoint.result.now (here c)
 
 pub overflow_sub-span : goal.overflow_sub-span
 overflow_sub-span c =
     let at = (goal.at.overflow_sub-span c).After-index-checkpoint in
     let f = c.requires.follows.2 in
-    checkpoint-before f.count f.kept f.span (few at) c.requires.counted.first c.index-checkpoint.result.now (here at)
+    checkpoint-before f.count f.preserved f.span (few at) c.requires.counted.first c.index-checkpoint.result.now (here at)
 
 pub lengths_after-from-requires : goal.lengths_after-from-requires
 lengths_after-from-requires c =
@@ -44,7 +44,7 @@ lengths_after-from-requires c =
     record {
       few =
           subst (λ zs. AreBelow 9223372036854775808 (length zs) c.index-checkpoint.result.now.lengths) (sym c.in_ok-cursor.ensures.steps)
-          (checkpoint-below f.count f.kept f.span (few at) c.requires.counted.first c.index-checkpoint.result.now (here at));
+          (checkpoint-below f.count f.preserved f.span (few at) c.requires.counted.first c.index-checkpoint.result.now (here at));
     }
 
 pub new-requires : goal.new-requires
@@ -54,7 +54,7 @@ new-requires c =
     record {
       in_range =
           subst (λ bits. c.lengths_after-from.result.free ≤ length bits) (sym c.as_slice-free.ensures.value)
-          (from-within f.count f.kept f.span (few at) c.requires.counted.first c.index-checkpoint.result.now (here at) c.lengths_after-from.result
+          (from-within f.count f.preserved f.span (few at) c.requires.counted.first c.index-checkpoint.result.now (here at) c.lengths_after-from.result
           (λ k others a. counts c.args.span.first c.index-checkpoint.result.now c.in_ok-cursor.cursor.left (unroll (circuit_items c.args.circuit.now)) c.lengths_after-from.result c.in_ok-cursor.ensures.steps k others a
           (c.lengths_after-from.ensures.value k others a)));
     }
@@ -66,7 +66,7 @@ left c le =
     c.in_ok-cursor.ensures.steps c.lengths_after-from.ensures.left
 
 at-first : (c : After-index-checkpoint) → c.index-checkpoint.result.now.step ≤ c.args.span.first
-at-first c = let f = c.requires.follows.2 in checkpoint-before f.count f.kept f.span (few c) c.requires.counted.first c.index-checkpoint.result.now (here c)
+at-first c = let f = c.requires.follows.2 in checkpoint-before f.count f.preserved f.span (few c) c.requires.counted.first c.index-checkpoint.result.now (here c)
 
 long : (c : In_ok-propagation) → length c.in_ok-propagation.propagation.letters ≡ c.args.self.now.tableau.qubits
 long c = letters-long c.args.self.now.tableau.qubits c.len.result c.in_ok-propagation.propagation c.len.ensures.value c.in_ok-propagation.ensures.value
@@ -83,7 +83,7 @@ propagate_sites-requires-clause-may c =
     let is = c.in_ok-propagation.ensures.value in
     let distinct : All HasDistinctQubits ys = subst (All HasDistinctQubits) c.in_ok-cursor.ensures.all c.in_ok-cursor.ensures.distinct in
     record {
-      same_length = f.kept.has_pivots.size ∙ sym size;
+      same_length = f.preserved.has_pivots.size ∙ sym size;
       fits =
           subst (λ k. All (StepFits k) c.lengths_after-from.new.cursor.left) (sym size)
           (subst (All (StepFits n)) (sym rest) (All-drop (StepFits n) c.args.span.first ys (check-fits n (circuit_items c.args.circuit.now) ys c.requires.checked refl distinct)));
@@ -91,7 +91,7 @@ propagate_sites-requires-clause-may c =
       few =
           omega (
             arith,
-            from-few f.count f.kept f.span small c.requires.counted.first c.index-checkpoint.result.now (here at.After-index-checkpoint) c.lengths_after-from.result
+            from-few f.count f.preserved f.span small c.requires.counted.first c.index-checkpoint.result.now (here at.After-index-checkpoint) c.lengths_after-from.result
                 (λ k others a. counts c.args.span.first c.index-checkpoint.result.now c.in_ok-cursor.cursor.left ys c.lengths_after-from.result c.in_ok-cursor.ensures.steps k others a
                 (c.lengths_after-from.ensures.value k others a)) c.args.span.first,
             ap (λ (w : PropagationState). w.coin) is,
@@ -133,7 +133,7 @@ propagate_sites-requires-clause-same_qubits c =
     subst (All (λ d. d.tableau.qubits ≡ length c.in_ok-propagation.propagation.letters))
     (sym (within c.split_at.result.1.now cs c.args.before c.args.inside c.split_at-2.result.0.now c.as_slice.result.now c.split_at-2.ensures.front c.split_at.ensures.back c.as_slice.ensures.value))
     (All-take (λ d. d.tableau.qubits ≡ length c.in_ok-propagation.propagation.letters) (c.args.inside - c.args.before) (drop c.args.before cs)
-    (following-qubits f.count f.kept f.span c.args.before (length c.in_ok-propagation.propagation.letters) (long at.In_ok-propagation)))
+    (following-qubits f.count f.preserved f.span c.args.before (length c.in_ok-propagation.propagation.letters) (long at.In_ok-propagation)))
 
 pub returns-clause-passed : goal.returns-clause-passed
 returns-clause-passed c =
@@ -149,7 +149,7 @@ returns-clause-passed c =
     let size : length propagation.letters ≡ n = long at.In_ok-propagation in
     let all : c.lengths_after-from.new.cursor.all ≡ ys = c.lengths_after-from.ensures.all ∙ c.in_ok-cursor.ensures.all in
     let rest : c.lengths_after-from.new.cursor.left ≡ drop c.args.span.first ys = left at.In_ok-propagation (at-first at.After-index-checkpoint) in
-    let flags : c.as_slice-free.result.now ≡ c.args.self.now.outputs.free.items = c.as_slice-free.ensures.value in
+    let randomness : c.as_slice-free.result.now ≡ c.args.self.now.outputs.free.items = c.as_slice-free.ensures.value in
     let some : c.split_at-2.result.0.now ≡ take (c.args.inside - c.args.before) (drop c.args.before cs) =
     within c.split_at.result.1.now cs c.args.before c.args.inside c.split_at-2.result.0.now c.as_slice.result.now c.split_at-2.ensures.front c.split_at.ensures.back c.as_slice.ensures.value in
     record {
@@ -160,10 +160,10 @@ returns-clause-passed c =
       start = propagation;
       begins =
           subst (λ x. x)
-          (λ i. propagation ≡ record { letters = replicate (c.len.ensures.value i) I; flips = nothing; coin = from.free; number = ones (take from.free (flags i)) })
+          (λ i. propagation ≡ record { letters = replicate (c.len.ensures.value i) I; flips = nothing; coin = from.free; number = ones (take from.free (randomness i)) })
           c.in_ok-propagation.ensures.value;
       letters = went.length ∙ size;
-      placed = subst (λ bits. IsPlaced bits c.propagate_sites.new.propagation) flags went.placed;
+      placed = subst (λ bits. IsPlaced bits c.propagate_sites.new.propagation) randomness went.placed;
       few = omega (arith, went.coin did, ap (λ (w : PropagationState). w.coin) c.in_ok-propagation.ensures.value, ap length rest);
       count =
           omega (
@@ -176,14 +176,14 @@ returns-clause-passed c =
             c.requires.counted.within,
           );
       between = λ coins xs base front b.
-          subst (λ x. x) (λ i. IsFrameBetween (size i) coins xs (all i) (pivot_at strings (flags i)) (flags i) base front c.args.span.old_end c.args.span.new_end c.propagate_sites.new.propagation)
+          subst (λ x. x) (λ i. IsFrameBetween (size i) coins xs (all i) (pivot_at strings (randomness i)) (randomness i) base front c.args.span.old_end c.args.span.new_end c.propagate_sites.new.propagation)
           (went.between did coins xs base front c.args.span refl
           (subst (λ x. x)
-          (λ i. IsBeforeSites (sym size i) coins xs (sym all i) (pivot_at strings (sym flags i)) (sym flags i) base front c.args.span c.args.change.now (sym rest i) propagation) b));
+          (λ i. IsBeforeSites (sym size i) coins xs (sym all i) (pivot_at strings (sym randomness i)) (sym randomness i) base front c.args.span c.args.change.now (sym rest i) propagation) b));
       are_checkpoints = λ coins xs base front b are.
           subst (λ x. x) (λ i. All (IsCheckpoint (size i) coins (all i)) c.propagate_sites.new.passed.items)
           (went.checkpoints did coins xs base front c.args.span refl
           (subst (λ x. x)
-          (λ i. IsBeforeSites (sym size i) coins xs (sym all i) (pivot_at strings (sym flags i)) (sym flags i) base front c.args.span c.args.change.now (sym rest i) propagation) b)
+          (λ i. IsBeforeSites (sym size i) coins xs (sym all i) (pivot_at strings (sym randomness i)) (sym randomness i) base front c.args.span c.args.change.now (sym rest i) propagation) b)
           (subst (λ x. x) (λ i. All (IsCheckpoint (sym size i) coins xs) (sym some i)) are));
     }

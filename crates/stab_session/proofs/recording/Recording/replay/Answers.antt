@@ -185,7 +185,7 @@ returns-clause-qubits g c =
     let begins = begun g at.In_ok-replay (few g at.After-as_slice) (first g at.After-count_before-before) in
     let ended = end_of g at.In_ok-end c.requires.follows (few g at.After-as_slice) (first g at.After-count_before-before) begins (following g at.After-as_slice-3) in
     let ready = ended.ready _ (record { tableau = refl; output = refl; observables = refl; strings = refl; window = refl; checkpoints = refl }) c.observables.result c.in_ok-prepared.prepared c.in_ok-prepared.ensures.prepared in
-    (ready.kept c.prepare.new.self c.prepare.ensures.unchanged (fitting g at.After-as_slice begins.distinct) c.commit.new.self c.commit.ensures.committed).qubits
+    (ready.preserved c.prepare.new.self c.prepare.ensures.unchanged (fitting g at.After-as_slice begins.distinct) c.commit.new.self c.commit.ensures.committed).qubits
 
 pub returns-clause-followed : goal.returns-clause-followed
 returns-clause-followed g c =
@@ -199,19 +199,19 @@ returns-clause-followed g c =
     c.as_slice-3.ensures.value refl c.in_ok-end.ensures.ended.soon in
     let costs = c.in_ok-end.ensures.costs in
     record {
-      kept =
+      preserved =
           subst (λ count. IsRecording c.args.self.now.tableau.qubits (g.C.Coins.sequence c.args.coins.now) c.args.stride (unroll (circuit_items c.args.circuit.now)) count c.commit.new.self)
           c.observables.ensures.value
-          (ready.kept c.prepare.new.self c.prepare.ensures.unchanged (fitting g at.After-as_slice begins.distinct) c.commit.new.self c.commit.ensures.committed);
+          (ready.preserved c.prepare.new.self c.prepare.ensures.unchanged (fitting g at.After-as_slice begins.distinct) c.commit.new.self c.commit.ensures.committed);
       distinct = begins.distinct;
       way = record {
         most = ended.applied _ took;
-        few = λ xs count far kept span agree.
-            (end_of g at.In_ok-end (record { old = xs; count = count; kept = kept; span = span; differ = tt }) (few g at.After-as_slice) (first g at.After-count_before-before) begins (following g at.After-as_slice-3)).few _ took soon far agree;
-        counted = λ xs count kept span.
-            (end_of g at.In_ok-end (record { old = xs; count = count; kept = kept; span = span; differ = tt }) (few g at.After-as_slice) (first g at.After-count_before-before) begins (following g at.After-as_slice-3)).counted _ took soon;
+        few = λ xs count far preserved span agree.
+            (end_of g at.In_ok-end (record { old = xs; count = count; preserved = preserved; span = span; differ = tt }) (few g at.After-as_slice) (first g at.After-count_before-before) begins (following g at.After-as_slice-3)).few _ took soon far agree;
+        counted = λ xs count preserved span.
+            (end_of g at.In_ok-end (record { old = xs; count = count; preserved = preserved; span = span; differ = tt }) (few g at.After-as_slice) (first g at.After-count_before-before) begins (following g at.After-as_slice-3)).counted _ took soon;
       };
       tried = omega (arith, c.requires.tried);
       asks = omega (arith, costs.asks, begins.applied);
-      asks_random = omega (arith, costs.asks_random, ready.flags c.prepare.new.self c.prepare.ensures.unchanged c.commit.new.self c.commit.ensures.committed);
+      asks_random = omega (arith, costs.asks_random, ready.randomness c.prepare.new.self c.prepare.ensures.unchanged c.commit.new.self c.commit.ensures.committed);
     }

@@ -1,4 +1,4 @@
-use Rattle.stab_session.proofs.Names.{◌≡◌, ◌∙◌, ap, refl, sym, subst, length, All, Some, length-replicate, slice_get-get_or, Letter, I, Signed, HasDistinctQubits, ones, front_kept}
+use Rattle.stab_session.proofs.Names.{◌≡◌, ◌∙◌, ap, refl, sym, subst, length, All, Some, length-replicate, slice_get-get_or, Letter, I, Signed, HasDistinctQubits, ones, front_stored}
 use Rattle.std.specs.List.{slice_get}
 use Rattle.stab_session.proofs.FollowLemmas.{at-some}
 use Rattle.stab_session.proofs.recording.Recording.resume.Goals as goal
@@ -14,7 +14,7 @@ returns-clause-begins c =
       string = ap (λ (p : Signed). length p.letters) c.in_ok-string.ensures.ok ∙ length-replicate {A = Letter} _ I ∙ c.len.ensures.value;
       output = c.in_ok-outputs.ensures.value;
       scratch = c.in_ok-pivots.ensures.string;
-      strings = c.in_ok-pivots.ensures.strings ∙ ap (λ free. front_kept (ones free) c.args.self.now.strings) c.as_slice.ensures.value;
+      strings = c.in_ok-pivots.ensures.strings ∙ ap (λ free. front_stored (ones free) c.args.self.now.strings) c.as_slice.ensures.value;
       window = c.in_ok-pivots.ensures.window;
       all = c.in_ok-cursor.ensures.all;
       left = c.in_ok-cursor.ensures.steps;

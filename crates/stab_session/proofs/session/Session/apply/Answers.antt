@@ -8,7 +8,7 @@ returns-in-Ok-follow-clause-applied g c =
     let begun = c.in-Ok.ensures {u = tt} in
     let ran = c.in-Ok-follow.ensures {u = tt} in
     let coins = ap (λ (s : SessionState g.row.C.Denot). g.C.Coins.sequence s.coins) c.self.view_is in
-    let run = followed c.len-n.result c.self.inside.recording.tableau.qubits _ _ c.self.inside.stride _ _ c.follow.new.self c.len-n.ensures.value coins ran.followed.kept in
+    let run = followed c.len-n.result c.self.inside.recording.tableau.qubits _ _ c.self.inside.stride _ _ c.follow.new.self c.len-n.ensures.value coins ran.followed.preserved in
     edited-applied g.C.Coins.sequence c.args.edit c.args.self.now c.len-n.result c.self.inside.circuit c.begin.new.circuit c.in-Ok.begun.0 c.in-Ok.begun.1 begun.begun
     (ap (λ (s : SessionState g.row.C.Denot). s.items) (sym c.self.view_is))
     (ap (λ (s : SessionState g.row.C.Denot). s.qubits) (sym c.self.view_is) ∙ sym c.len-n.ensures.value)
@@ -35,7 +35,7 @@ invariant_of-self-in-Ok-follow g c =
     let begun = c.in-Ok.ensures {u = tt} in
     let ran = c.in-Ok-follow.ensures {u = tt} in
     let coins = ap (λ (s : SessionState g.row.C.Denot). g.C.Coins.sequence s.coins) c.self.view_is in
-    let run = followed c.len-n.result c.self.inside.recording.tableau.qubits _ _ c.self.inside.stride _ _ c.follow.new.self c.len-n.ensures.value coins ran.followed.kept in
+    let run = followed c.len-n.result c.self.inside.recording.tableau.qubits _ _ c.self.inside.stride _ _ c.follow.new.self c.len-n.ensures.value coins ran.followed.preserved in
     let recorded = c.self.invariant.0 in (
       edited-recorded g.C.Coins.sequence c.args.edit c.args.self.now c.len-n.result c.self.inside.circuit c.begin.new.circuit c.in-Ok.begun.0 c.in-Ok.begun.1 begun.begun
           (ap (λ (s : SessionState g.row.C.Denot). s.items) (sym c.self.view_is))
@@ -56,7 +56,7 @@ returns-in-Ok-follow-clause-statement g c =
     let begun = c.in-Ok.ensures {u = tt} in
     let ran = c.in-Ok-follow.ensures {u = tt} in
     let coins = ap (λ (s : SessionState g.row.C.Denot). g.C.Coins.sequence s.coins) c.self.view_is in
-    let run = followed c.len-n.result c.self.inside.recording.tableau.qubits _ _ c.self.inside.stride _ _ c.follow.new.self c.len-n.ensures.value coins ran.followed.kept in
+    let run = followed c.len-n.result c.self.inside.recording.tableau.qubits _ _ c.self.inside.stride _ _ c.follow.new.self c.len-n.ensures.value coins ran.followed.preserved in
     statement g.C.Coins.sequence (listed c.finish.new.circuit) c.self.inside.stride c.follow.new.coins c.follow.new.self c.len-n.result (g.C.Coins.sequence c.args.self.now.coins) (ran.same_coins ∙ coins)
     (new-run g.C.Coins.sequence c.args.edit c.args.self.now c.len-n.result c.self.inside.circuit c.begin.new.circuit c.in-Ok.begun.0 c.in-Ok.begun.1 begun.begun
     (ap (λ (s : SessionState g.row.C.Denot). s.items) (sym c.self.view_is))
@@ -69,7 +69,7 @@ returns-in-Ok-follow-clause-edited g c =
     let begun = c.in-Ok.ensures {u = tt} in
     let ran = c.in-Ok-follow.ensures {u = tt} in
     let coins = ap (λ (s : SessionState g.row.C.Denot). g.C.Coins.sequence s.coins) c.self.view_is in
-    let run = followed c.len-n.result c.self.inside.recording.tableau.qubits _ _ c.self.inside.stride _ _ c.follow.new.self c.len-n.ensures.value coins ran.followed.kept in
+    let run = followed c.len-n.result c.self.inside.recording.tableau.qubits _ _ c.self.inside.stride _ _ c.follow.new.self c.len-n.ensures.value coins ran.followed.preserved in
     session-edited g.C.Coins.sequence c.args.edit c.args.self.now c.len-n.result c.self.inside.circuit c.begin.new.circuit c.in-Ok.begun.0 c.in-Ok.begun.1 begun.begun
     (ap (λ (s : SessionState g.row.C.Denot). s.items) (sym c.self.view_is))
     (ap (λ (s : SessionState g.row.C.Denot). s.qubits) (sym c.self.view_is) ∙ sym c.len-n.ensures.value)
@@ -91,7 +91,7 @@ returns-in-Ok-follow-clause-by_frame g c =
     let begun = c.in-Ok.ensures {u = tt} in
     let ran = c.in-Ok-follow.ensures {u = tt} in
     let coins = ap (λ (s : SessionState g.row.C.Denot). g.C.Coins.sequence s.coins) c.self.view_is in
-    let run = followed c.len-n.result c.self.inside.recording.tableau.qubits _ _ c.self.inside.stride _ _ c.follow.new.self c.len-n.ensures.value coins ran.followed.kept in
+    let run = followed c.len-n.result c.self.inside.recording.tableau.qubits _ _ c.self.inside.stride _ _ c.follow.new.self c.len-n.ensures.value coins ran.followed.preserved in
     let le =
     edited-applied g.C.Coins.sequence c.args.edit c.args.self.now c.len-n.result c.self.inside.circuit c.begin.new.circuit c.in-Ok.begun.0 c.in-Ok.begun.1 begun.begun
     (ap (λ (s : SessionState g.row.C.Denot). s.items) (sym c.self.view_is))
@@ -106,7 +106,7 @@ returns-in-Ok-follow-clause-tried g c =
     let begun = c.in-Ok.ensures {u = tt} in
     let ran = c.in-Ok-follow.ensures {u = tt} in
     let coins = ap (λ (s : SessionState g.row.C.Denot). g.C.Coins.sequence s.coins) c.self.view_is in
-    let run = followed c.len-n.result c.self.inside.recording.tableau.qubits _ _ c.self.inside.stride _ _ c.follow.new.self c.len-n.ensures.value coins ran.followed.kept in
+    let run = followed c.len-n.result c.self.inside.recording.tableau.qubits _ _ c.self.inside.stride _ _ c.follow.new.self c.len-n.ensures.value coins ran.followed.preserved in
     edited-tried g.C.Coins.sequence c.args.edit c.args.self.now c.len-n.result c.self.inside.circuit c.begin.new.circuit c.in-Ok.begun.0 c.in-Ok.begun.1 begun.begun
     (ap (λ (s : SessionState g.row.C.Denot). s.items) (sym c.self.view_is))
     (ap (λ (s : SessionState g.row.C.Denot). s.qubits) (sym c.self.view_is) ∙ sym c.len-n.ensures.value)
@@ -119,7 +119,7 @@ returns-in-Ok-follow-clause-counted g c =
     let begun = c.in-Ok.ensures {u = tt} in
     let ran = c.in-Ok-follow.ensures {u = tt} in
     let coins = ap (λ (s : SessionState g.row.C.Denot). g.C.Coins.sequence s.coins) c.self.view_is in
-    let run = followed c.len-n.result c.self.inside.recording.tableau.qubits _ _ c.self.inside.stride _ _ c.follow.new.self c.len-n.ensures.value coins ran.followed.kept in
+    let run = followed c.len-n.result c.self.inside.recording.tableau.qubits _ _ c.self.inside.stride _ _ c.follow.new.self c.len-n.ensures.value coins ran.followed.preserved in
     edited-counted g.C.Coins.sequence c.args.edit c.args.self.now c.len-n.result c.self.inside.circuit c.begin.new.circuit c.in-Ok.begun.0 c.in-Ok.begun.1 begun.begun
     (ap (λ (s : SessionState g.row.C.Denot). s.items) (sym c.self.view_is))
     (ap (λ (s : SessionState g.row.C.Denot). s.qubits) (sym c.self.view_is) ∙ sym c.len-n.ensures.value)
@@ -136,7 +136,7 @@ returns-in-Ok-follow-clause-early g c =
     let begun = c.in-Ok.ensures {u = tt} in
     let ran = c.in-Ok-follow.ensures {u = tt} in
     let coins = ap (λ (s : SessionState g.row.C.Denot). g.C.Coins.sequence s.coins) c.self.view_is in
-    let run = followed c.len-n.result c.self.inside.recording.tableau.qubits _ _ c.self.inside.stride _ _ c.follow.new.self c.len-n.ensures.value coins ran.followed.kept in
+    let run = followed c.len-n.result c.self.inside.recording.tableau.qubits _ _ c.self.inside.stride _ _ c.follow.new.self c.len-n.ensures.value coins ran.followed.preserved in
     λ far.
     edited-early g.C.Coins.sequence c.args.edit c.args.self.now c.len-n.result c.self.inside.circuit c.begin.new.circuit c.in-Ok.begun.0 c.in-Ok.begun.1 begun.begun
     (ap (λ (s : SessionState g.row.C.Denot). s.items) (sym c.self.view_is))
@@ -156,7 +156,7 @@ returns-in-Ok-follow-clause-few_checkpoints g c =
     let begun = c.in-Ok.ensures {u = tt} in
     let ran = c.in-Ok-follow.ensures {u = tt} in
     let coins = ap (λ (s : SessionState g.row.C.Denot). g.C.Coins.sequence s.coins) c.self.view_is in
-    let run = followed c.len-n.result c.self.inside.recording.tableau.qubits _ _ c.self.inside.stride _ _ c.follow.new.self c.len-n.ensures.value coins ran.followed.kept in
+    let run = followed c.len-n.result c.self.inside.recording.tableau.qubits _ _ c.self.inside.stride _ _ c.follow.new.self c.len-n.ensures.value coins ran.followed.preserved in
     few-checkpoints g.C.Coins.sequence (listed c.finish.new.circuit) c.self.inside.stride c.follow.new.coins c.follow.new.self c.len-n.result (g.C.Coins.sequence c.args.self.now.coins) (ran.same_coins ∙ coins)
     (new-run g.C.Coins.sequence c.args.edit c.args.self.now c.len-n.result c.self.inside.circuit c.begin.new.circuit c.in-Ok.begun.0 c.in-Ok.begun.1 begun.begun
     (ap (λ (s : SessionState g.row.C.Denot). s.items) (sym c.self.view_is))

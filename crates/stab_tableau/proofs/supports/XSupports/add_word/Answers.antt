@@ -1,5 +1,5 @@
 use Rattle.stab_tableau.proofs.Names.{◌≡◌, ◌<◌, ◌+◌, ◌*◌, ap, ◌∙◌, length, arith, Supports, has_position}
-use Rattle.stab_tableau.proofs.SupportLemmas.{positions-added, positions-kept}
+use Rattle.stab_tableau.proofs.SupportLemmas.{positions-added, positions-unchanged}
 use Rattle.stab_tableau.proofs.supports.XSupports.add_word.Goals as goal
 use Rattle.stab_tableau.proofs.supports.XSupports.add_word.Goals.{After-index}
 
@@ -8,9 +8,9 @@ in-range c =
     let e : length c.self.inside.known.items ≡ length c.args.self.now.known = ap (λ (s : Supports). length s.known) c.self.view_is in
     omega (arith, e, c.self.invariant.size, c.requires.in_range, c.requires.word_in_range)
 
-pub returns-clause-kept : goal.returns-clause-kept
-returns-clause-kept c = λ g w position one.
-    positions-kept c.self.inside.words.items (16 * c.args.group + c.args.word) c.index.result.now c.args.positions (in-range (goal.at.returns-clause-kept c).After-index) c.index.ensures
+pub returns-clause-preserved : goal.returns-clause-preserved
+returns-clause-preserved c = λ g w position one.
+    positions-unchanged c.self.inside.words.items (16 * c.args.group + c.args.word) c.index.result.now c.args.positions (in-range (goal.at.returns-clause-preserved c).After-index) c.index.ensures
     (16 * g + w) position (ap (λ (s : Supports). has_position s g w position) c.self.view_is ∙ one)
 
 pub returns-clause-added : goal.returns-clause-added

@@ -1,5 +1,5 @@
 use Rattle.stab_tableau.proofs.Names.{◌∙◌, sym, refl, subst, row_at, with_row, swapped_rows, Covers}
-use Rattle.stab_tableau.proofs.PairedRowsLemmas.{kept-paired, seen-few, seen-position, seen-distinct, seen-exchanged}
+use Rattle.stab_tableau.proofs.PairedRowsLemmas.{preserved-paired, seen-few, seen-position, seen-distinct, seen-exchanged}
 use Rattle.stab_tableau.proofs.SupportLemmas.{row-group}
 use Rattle.stab_tableau.proofs.table.Table.exchange.Goals as goal
 
@@ -46,8 +46,8 @@ invariant_of-self c =
     let f = c.position-2.ensures.value ∙ sym c.position-4.ensures.value in
     let made = c.swap.ensures.value ∙ (λ i. swapped_rows c.self.inside.rows (e i) (f i)) in
     let r = c.self.inside.rows in (
-      kept-paired (with_row r c.position-3.result (row_at r c.position-4.result)) c.swap.new.self c.position-4.result (row_at r c.position-3.result)
-          (kept-paired r (with_row r c.position-3.result (row_at r c.position-4.result)) c.position-3.result (row_at r c.position-4.result) c.self.invariant.0 refl) made,
+      preserved-paired (with_row r c.position-3.result (row_at r c.position-4.result)) c.swap.new.self c.position-4.result (row_at r c.position-3.result)
+          (preserved-paired r (with_row r c.position-3.result (row_at r c.position-4.result)) c.position-3.result (row_at r c.position-4.result) c.self.invariant.0 refl) made,
       subst (Covers c.swap-2.new.self) (sym made)
           (c.swap-2.ensures.covers c.self.inside.rows
           (seen-position c.self.inside.rows c.self.invariant.0 c.args.self.now c.self.view_is c.args.row c.args.qubit c.position-3.result c.requires.in_range c.position-3.ensures.value)

@@ -1,5 +1,5 @@
 use Rattle.stab_tableau.proofs.Names.{◌∙◌, sym, subst, anticommute, product_times_i, OthersStay}
-use Rattle.stab_tableau.proofs.PairedRowsLemmas.{kept-paired, seen-few, seen-position, seen-read, seen-written, seen-distinct}
+use Rattle.stab_tableau.proofs.PairedRowsLemmas.{preserved-paired, seen-few, seen-position, seen-read, seen-written, seen-distinct}
 use Rattle.stab_tableau.proofs.SupportLemmas.{row-group, made-others-stay}
 use Rattle.stab_tableau.proofs.table.Table.multiply_times_i.Goals as goal
 
@@ -45,7 +45,7 @@ forget-requires c = record { in_range = row-group c.self.inside.supports c.self.
 
 pub invariant_of-self : goal.invariant_of-self
 invariant_of-self c = (
-  kept-paired c.self.inside.rows c.multiply_times_i.new.self c.position.result _ c.self.invariant.0 c.multiply_times_i.ensures.value,
+  preserved-paired c.self.inside.rows c.multiply_times_i.new.self c.position.result _ c.self.invariant.0 c.multiply_times_i.ensures.value,
   c.forget.ensures.covers c.self.inside.rows c.multiply_times_i.new.self c.self.invariant.1
       (subst (λ k. OthersStay k c.self.inside.rows c.multiply_times_i.new.self) (c.position.ensures.value ∙ sym c.position-3.ensures.value)
       (made-others-stay c.self.inside.rows c.multiply_times_i.new.self c.position.result _ c.multiply_times_i.ensures.value)),

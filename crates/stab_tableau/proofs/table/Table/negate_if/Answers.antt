@@ -1,5 +1,5 @@
 use Rattle.stab_tableau.proofs.Names.{ap, with_sign}
-use Rattle.stab_tableau.proofs.PairedRowsLemmas.{kept-paired, seen-few, seen-position, seen-read, seen-written}
+use Rattle.stab_tableau.proofs.PairedRowsLemmas.{preserved-paired, seen-few, seen-position, seen-read, seen-written}
 use Rattle.stab_tableau.proofs.SupportLemmas.{conjugated-covered}
 use Rattle.stab_tableau.proofs.table.Table.negate_if.Goals as goal
 
@@ -19,6 +19,6 @@ returns c =
 
 pub invariant_of-self : goal.invariant_of-self
 invariant_of-self c = (
-  kept-paired c.self.inside.rows c.negate_if.new.self c.position.result _ c.self.invariant.0 c.negate_if.ensures.value,
+  preserved-paired c.self.inside.rows c.negate_if.new.self c.position.result _ c.self.invariant.0 c.negate_if.ensures.value,
   conjugated-covered c.self.inside.supports c.self.inside.rows c.negate_if.new.self c.position.result c.args.bit (seen-position c.self.inside.rows c.self.invariant.0 c.args.self.now c.self.view_is c.args.row c.args.qubit c.position.result c.requires.in_range c.position.ensures.value) c.negate_if.ensures.value c.self.invariant.1,
 )

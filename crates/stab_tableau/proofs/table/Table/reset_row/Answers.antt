@@ -1,5 +1,5 @@
 use Rattle.stab_tableau.proofs.Names.{◌∙◌, ap, subst, sym, length, arith, length-set, identity, Rows, string_at, with_row, with_letter, OthersStay}
-use Rattle.stab_tableau.proofs.PairedRowsLemmas.{kept-paired, seen-few, seen-position, seen-length, seen-reset}
+use Rattle.stab_tableau.proofs.PairedRowsLemmas.{preserved-paired, seen-few, seen-position, seen-length, seen-reset}
 use Rattle.stab_tableau.proofs.SupportLemmas.{row-group, again-others-stay}
 use Rattle.stab_tableau.proofs.table.Table.reset_row.Goals as goal
 
@@ -46,8 +46,8 @@ invariant_of-self c =
     let same = c.position-2.ensures.value ∙ sym c.position.ensures.value in
     let last = c.position.ensures.value ∙ sym c.position-3.ensures.value in
     let again = c.set.ensures.value ∙ (λ i. with_row c.clear.new.self (same i) (with_letter c.args.qubit c.args.letter (string_at c.clear.new.self (same i)))) in (
-      kept-paired c.clear.new.self c.set.new.self c.position.result _
-          (kept-paired c.self.inside.rows c.clear.new.self c.position.result _ c.self.invariant.0 c.clear.ensures.value) again,
+      preserved-paired c.clear.new.self c.set.new.self c.position.result _
+          (preserved-paired c.self.inside.rows c.clear.new.self c.position.result _ c.self.invariant.0 c.clear.ensures.value) again,
       c.forget.ensures.covers c.self.inside.rows c.set.new.self c.self.invariant.1
           (subst (λ k. OthersStay k c.self.inside.rows c.set.new.self) last
           (again-others-stay c.self.inside.rows c.clear.new.self c.set.new.self c.position.result _ _ c.clear.ensures.value again)),

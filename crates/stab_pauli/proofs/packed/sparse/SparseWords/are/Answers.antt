@@ -6,8 +6,8 @@ pub returns-then-not-has_block : goal.returns-then-not-has_block
 returns-then-not-has_block c =
     let mine = c.args.self.now in
     let position = c.loop-block.position in
-    let whole : List ℕ = spread mine.gaps.items mine.kept.items mine.following in
-    let rest : List ℕ = words_from mine.gaps.items mine.kept.items mine.following position.next position.gap in
+    let whole : List ℕ = spread mine.gaps.items mine.stored.items mine.following in
+    let rest : List ℕ = words_from mine.gaps.items mine.stored.items mine.following position.next position.gap in
     record {
       value = (
         (λ h. absurd (no_false h)),
@@ -20,9 +20,9 @@ loop-block-preserved c =
     let mine = c.args.self.now in
     let position = c.loop-block.position in
     let new = c.has_block.new.position in
-    let whole : List ℕ = spread mine.gaps.items mine.kept.items mine.following in
-    let rest : List ℕ = words_from mine.gaps.items mine.kept.items mine.following position.next position.gap in
-    let following : List ℕ = words_from mine.gaps.items mine.kept.items mine.following new.next new.gap in
+    let whole : List ℕ = spread mine.gaps.items mine.stored.items mine.following in
+    let rest : List ℕ = words_from mine.gaps.items mine.stored.items mine.following position.next position.gap in
+    let following : List ℕ = words_from mine.gaps.items mine.stored.items mine.following new.next new.gap in
     let at : ℕ = 8 * c.loop-block.block in
     let holds : IsTrue true = search rules in
     let here = sym (take-append-drop 8 rest) ∙ (λ i. c.if-not-has_block.ensures.value.0 holds i ++ sym (c.if-not-has_block.ensures.following holds) i) in
@@ -32,8 +32,8 @@ pub returns : goal.returns
 returns c =
     let mine = c.args.self.now in
     let position = c.loop-block.position in
-    let whole : List ℕ = spread mine.gaps.items mine.kept.items mine.following in
-    let rest : List ℕ = words_from mine.gaps.items mine.kept.items mine.following position.next position.gap in
+    let whole : List ℕ = spread mine.gaps.items mine.stored.items mine.following in
+    let rest : List ℕ = words_from mine.gaps.items mine.stored.items mine.following position.next position.gap in
     let all = take_all (8 * c.loop-block.block) c.args.words.now (omega (arith, c.requires.all, c.loop-block-test.false)) in
     let holds : IsTrue true = search rules in
     record { value = ((λ _. passed-all whole c.args.words.now rest (8 * c.loop-block.block) c.loop-block.invariant all c.requires.size), (λ _. holds)) }

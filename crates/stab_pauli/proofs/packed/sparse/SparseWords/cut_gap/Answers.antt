@@ -6,5 +6,5 @@ pub returns-clause-value : goal.returns-clause-value
 returns-clause-value c =
     let mine = c.args.self.now in
     let new = c.keep.new.self in
-    sparse-cut mine.gaps.items mine.kept.items new.gaps.items new.kept.items mine.following c.min-gap.result (new.following - c.min-gap.result - 1) c.requires.even c.in_ok-keep.ensures.gaps c.in_ok-keep.ensures.kept
+    sparse-cut mine.gaps.items mine.stored.items new.gaps.items new.stored.items mine.following c.min-gap.result (new.following - c.min-gap.result - 1) c.requires.even c.in_ok-keep.ensures.gaps c.in_ok-keep.ensures.stored
     (omega (arith, c.min-gap.ensures, c.requires.many, c.keep.ensures.following))

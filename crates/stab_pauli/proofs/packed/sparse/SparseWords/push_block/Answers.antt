@@ -6,4 +6,4 @@ pub returns-then-is_blank : goal.returns-then-is_blank
 returns-then-is_blank c =
     let mine = c.args.self.now in
     let holds : IsTrue true = search rules in
-    record { value = sparse-blank mine.gaps.items mine.kept.items mine.following 8 c.args.block.now c.requires.even (c.if-is_blank.ensures.value.0 holds) }
+    record { value = sparse-blank mine.gaps.items mine.stored.items mine.following 8 c.args.block.now c.requires.even (c.if-is_blank.ensures.value.0 holds) }

@@ -16,8 +16,8 @@ returns c =
     let determined = slice_eq-Decides (determines_phases _ refl refl refl refl refl refl refl refl refl refl refl refl refl refl refl refl) c.as_slice.result.now c.as_slice-2.result.now true c.if-not-same.ensures in
     let powers = sym c.as_slice.ensures.value ∙ determined.0 refl ∙ c.as_slice-2.ensures.value in
     let same = ap determined_by c.as_ref-sparse.ensures in
-    let kept = subst (AreShort 64) (c.as_slice-3.ensures.value ∙ ap (λ (w : SparseWords). w.kept.items) c.as_ref-sparse.ensures) c.are_short-2.ensures.law in
-    let short = short-spread c.self.inside.words.value.gaps.items c.self.inside.words.value.kept.items c.self.inside.words.value.following kept in
+    let stored = subst (AreShort 64) (c.as_slice-3.ensures.value ∙ ap (λ (w : SparseWords). w.stored.items) c.as_ref-sparse.ensures) c.are_short-2.ensures.law in
+    let short = short-spread c.self.inside.words.value.gaps.items c.self.inside.words.value.stored.items c.self.inside.words.value.following stored in
     let words = subst (AreShort 64) c.as_slice-words.ensures.value c.are_short.ensures.law in
     let same_qubits = sym (qubits_seen mine) ∙ c.if-self-rows.false ∙ qubits_seen theirs in
     record {

@@ -33,8 +33,8 @@ returns c =
     let k' = c.rows.inside.powers.ok.0 in
     let number : length c.self.inside.powers.items ≡ length c.rows.inside.powers.items = omega arith in
     let same = ap determined_by c.as_ref-sparse.ensures in
-    let kept = subst (AreShort 64) (c.as_slice.ensures.value ∙ ap (λ (w : SparseWords). w.kept.items) c.as_ref-sparse.ensures) c.are_short-2.ensures.law in
-    let short = short-spread c.self.inside.words.value.gaps.items c.self.inside.words.value.kept.items c.self.inside.words.value.following kept in
+    let stored = subst (AreShort 64) (c.as_slice.ensures.value ∙ ap (λ (w : SparseWords). w.stored.items) c.as_ref-sparse.ensures) c.are_short-2.ensures.law in
+    let short = short-spread c.self.inside.words.value.gaps.items c.self.inside.words.value.stored.items c.self.inside.words.value.following stored in
     let shorts = subst (AreShort 64) c.as_slice-words.ensures.value c.are_short.ensures.law in
     record {
       value = (

@@ -1,0 +1,3 @@
+mod Names
+pub mod AscendingLemmas
+pub mod MergeLemmas

@@ -1,5 +1,0 @@
-use Rattle.stab_rounds.proofs.Names.{arith, few_steps, circuit_items}
-use Rattle.stab_rounds.proofs.edited.add_parts.Goals as goal
-
-pub rest_of-requires-clause-few_new : goal.rest_of-requires-clause-few_new
-rest_of-requires-clause-few_new c = omega (arith, c.requires.old.2.1.new_within, few_steps (circuit_items c.args.circuit.now) c.requires.checked)

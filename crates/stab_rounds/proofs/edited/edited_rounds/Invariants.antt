@@ -1,7 +1,0 @@
-use Rattle.stab_rounds.proofs.Names.{unroll, circuit_items, AreRepeats}
-use Rattle.stab_rounds.proofs.edited.edited_rounds.Given as goal
-
-abbrev pub invariant-loop-repeat : goal.invariant-loop-repeat
-invariant-loop-repeat l = record {
-  are : AreRepeats 0 (unroll (circuit_items l.circuit)) l.repeats.items;
-}

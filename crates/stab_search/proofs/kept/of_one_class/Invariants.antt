@@ -1,8 +1,0 @@
-use Rattle.stab_search.proofs.Names.{ℕ, List, AreRowsOf, HaveClasses}
-use Rattle.stab_search.proofs.kept.of_one_class.Given as goal
-
-abbrev pub invariant-rows : goal.invariant-rows
-invariant-rows l = record {
-  rows : (rows : List (List ℕ)) → AreRowsOf rows l.kept.errors.table.rows l.kept.numbers.items → AreRowsOf rows l.chosen.rows.items l.chosen.numbers.items;
-  classes : HaveClasses (record { detectors = l.kept.errors.table.detectors; rows = l.chosen.rows.items }) l.classes;
-}
