@@ -189,6 +189,24 @@ def test_a_tab_that_the_server_closed_says_why(page):
     page.browser.switch_to.window(page.browser.window_handles[0])
 
 
+# Sends texts by a socket of its own, and answers the last answer to a question that is put after them.
+SEND = """const [address, texts, done] = arguments;
+const socket = new WebSocket(address);
+socket.onopen = () => [...texts, JSON.stringify({ ask: 'sign', pauli: 'Z0', id: 7 })].forEach((text) => socket.send(text));
+socket.onmessage = ({ data }) => { const answer = JSON.parse(data); if (answer.id === 7) done(answer); };
+socket.onclose = () => done('closed');"""
+
+
+def test_deeply_nested_json_closes_no_tab(page):
+    address = page.address.replace("http:", "ws:").replace("/?", "/session?")
+    for deep in ("[" * 200_000, '{"ask":' * 100_000, "[" * 200_000 + "]" * 200_000):
+        answer = page.browser.execute_async_script(SEND, address, [deep])
+        assert answer["sign"] in "0+-", answer
+    page.ask("page.send([{ kind: 'insert', place: '0', item: 'X 1' }])")
+    page.wait(lambda: page.history() == ["opened", "insert 0 X 1"])
+    assert page.texts("#banner p") == []
+
+
 def test_a_round_is_taken_out_of_its_block(page):
     page.unfold(BLOCK)
     page.choose(f"{BLOCK}/1")

@@ -25,8 +25,14 @@ def banner(page):
     return page.texts("#banner p span")
 
 
+def is_well(page):
+    """Whether nothing was thrown on the page, and nothing is said in its banner; the browser's log is read from its beginning, or from where it was read last."""
+    return banner(page) == [] and page.browser.get_log("browser") == []
+
+
 def test_undo_of_the_detector_that_is_chosen_lets_go_of_it(open_page):
     page = open_page("R 0\nTICK\nM 0\n")
+    page.browser.get_log("browser")
     page.press("]")
     page.choose_qubit(0)
     page.press("d")
@@ -35,11 +41,12 @@ def test_undo_of_the_detector_that_is_chosen_lets_go_of_it(open_page):
     page.wait(lambda: page.ask("page.shown.bit") == "D0")
     undo(page)
     assert page.ask("page.shown.bit") is None and "No detector chosen" in page.find("about-detector").text
-    assert "· 0 detectors · 0 observables ·" in page.find("numbers").text and banner(page) == []
+    assert "· 0 detectors · 0 observables ·" in page.find("numbers").text and is_well(page)
 
 
 def test_undo_of_the_block_that_holds_the_chosen_item_leaves_its_place_chosen(open_page):
     page = open_page("R 0\nTICK\nM 0\n")
+    page.browser.get_log("browser")
     page.ask("page.send([{kind: 'insert', place: '2', item: 'REPEAT 3 {\\n H 0\\n TICK\\n}'}])")
     page.wait(lambda: len(page.history()) == 2)
     page.unfold(2)
@@ -47,6 +54,7 @@ def test_undo_of_the_block_that_holds_the_chosen_item_leaves_its_place_chosen(op
     undo(page)
     assert page.row("2") == "2M 0"
     page.wait(lambda: page.texts("#text [aria-selected=true]") == ["2M 0"])
+    assert is_well(page)
 
 
 def test_what_is_chosen_goes_with_its_item(open_page):
@@ -57,6 +65,28 @@ def test_what_is_chosen_goes_with_its_item(open_page):
     page.wait(lambda: page.texts("#text [aria-selected=true]") == ["7CX 0 1 2 3"])
     undo(page)
     page.wait(lambda: page.texts("#text [aria-selected=true]") == ["6CX 0 1 2 3"])
+
+
+def test_the_tick_that_is_shown_stays_so_if_ticks_come_and_go_before_it(open_page):
+    page = open_page("R 0 1\nTICK\nH 1\nTICK\nM 0 1\n")
+    page.go_to(1)
+    page.ask("page.send([{kind: 'insert', place: '0', item: 'TICK'}])")
+    page.wait(lambda: len(page.history()) == 2)
+    page.settle()
+    assert page.find("moment-said").text == "tick 2" and ["gate", "H"] in page.glyphs()
+    undo(page)
+    assert page.find("moment-said").text == "tick 1" and ["gate", "H"] in page.glyphs()
+    # A gate beside another one makes a moment of its own, and undo leaves its tick in sight.
+    page.choose_qubit(1)
+    page.press("s", held=[Keys.ALT])
+    page.wait(lambda: page.find("moment-said").text == "tick 1.2")
+    undo(page)
+    assert page.find("moment-said").text == "tick 1" and ["gate", "H"] in page.glyphs()
+    # So does undo of a tick that was put in.
+    page.press("t")
+    page.wait(lambda: page.find("moment-said").text == "tick 2")
+    undo(page)
+    assert page.find("moment-said").text == "tick 1" and ["gate", "H"] in page.glyphs()
 
 
 def test_a_block_stays_unfolded_if_an_edit_of_it_is_taken_back(open_page):

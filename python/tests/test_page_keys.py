@@ -66,6 +66,24 @@ def test_a_letter_with_another_key_held_is_no_gate(page):
     assert put_z_last(page) == ["opened", "insert 1 Z 3"]
 
 
+@pytest.mark.parametrize("key", [Keys.DELETE, "o", "<", ">"])
+def test_a_key_for_the_chosen_says_so_if_none_is(page, key):
+    page.focus("#picture")
+    page.press(key)
+    page.wait(lambda: page.find("message").text == "choose qubits first: click them, or drag a box")
+    assert page.history() == ["opened"] and not page.find("asking").is_displayed()
+
+
+def test_what_has_nothing_to_be_copied_says_so(open_page):
+    page = open_page("R 0\nTICK\nH 1\n")
+    page.choose_qubit(1)
+    page.press("c", held=[Keys.CONTROL])
+    page.wait(lambda: page.find("message").text == "nothing acts on these qubits here: nothing is copied")
+    page.press("]")
+    page.press("c", held=[Keys.CONTROL])
+    page.wait(lambda: page.find("message").text == "copied: H 1")
+
+
 def test_a_key_that_is_held_down_puts_in_one_pauli(page):
     page.choose_qubit(0)
     page.hold("x")

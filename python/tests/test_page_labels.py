@@ -229,7 +229,8 @@ ON_WIRES = """(() => {
   const elements = page.views.wires.elements();
   const partners = elements.filter((it) => it.words && it.fill === 'quiet' && it.halo).map(({ words, x, y }) => [words, x - 4 * words.length, y - 5, x + 4 * words.length, y + 5]);
   const rings = elements.filter(({ path, stroke }) => stroke === 'ink' && path[1]?.[0] === 'A').map(({ path: [, [, x, y, radius]] }) => [x, y, radius]);
-  return [partners, rings, document.querySelector('#wires canvas').clientHeight];
+  const pairs = elements.filter(({ glyph }) => glyph === 'control' || glyph === 'xtarget').map(({ x, y, side }) => [x, y, 0.84 * side / 2 + 0.8]);
+  return [partners, rings.concat(pairs), document.querySelector('#wires canvas').clientHeight];
 })()"""
 
 
@@ -242,13 +243,15 @@ def test_numbers_of_partners_on_the_wires_lie_on_no_mark_and_are_whole(open_page
     page.wait(lambda: page.ask("page.shown.layers.way(3)"))
     page.choose_qubit(0, 1)
     page.settle()
-    partners, rings, height = page.ask(ON_WIRES)
-    assert sorted(words for words, *_ in partners) == ["24", "25", "25"] and len(rings) == 2
+    partners, marks, height = page.ask(ON_WIRES)
+    # Two rings, and what acts on both lines.
+    assert sorted(words for words, *_ in partners) == ["24", "25", "25"] and len(marks) == 2 + 3
     for _, left, top, right, bottom in partners:
         assert bottom <= height
-        for x, y, radius in rings:
+        for x, y, radius in marks:
             across, down = max(left - x, x - right, 0), max(top - y, y - bottom, 0)
-            assert (across ** 2 + down ** 2) ** 0.5 >= radius
+            # What is written has a rim that nothing else is seen through.
+            assert (across ** 2 + down ** 2) ** 0.5 >= radius + 1.5
 
 
 def test_marks_of_ticks_do_not_cross_the_numbers_of_ticks(open_page):

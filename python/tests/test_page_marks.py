@@ -88,6 +88,19 @@ def test_two_marks_on_one_place_are_their_product_and_layers_are_apart(page):
     page.wait(lambda: len(page.history()) == 2)
 
 
+def test_ten_layers_have_a_mark_each_and_are_told_beside_the_picture(page):
+    for layer in range(10):
+        take_layer(page, layer)
+        page.wait(lambda: page.find("layer").text == f"marks {layer}")
+        mark(page, 1 + layer % 3, 10, "xyz"[layer % 3])
+    assert page.ask(MARKS) == [[layer, "XYZ"[layer % 3], 10, 1 + layer % 3] for layer in range(10)]
+    told = "[...document.querySelectorAll('#about-marks [data-layer]')].map((it) => it.dataset.layer)"
+    page.wait(lambda: page.ask(told) == [str(layer) for layer in range(10)])
+    for layer in (2, 5, 8):
+        assert flips(page, layer) == flips(page, 2)
+    assert page.history() == ["opened"]
+
+
 def test_marks_are_drawn_with_their_layer_and_cleared(page):
     take_layer(page, 7)
     mark(page, 3, 10, "z")

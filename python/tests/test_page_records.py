@@ -55,6 +55,16 @@ def test_a_measurement_is_moved_to_another_tick_with_its_records(page):
     assert lines(page) == ["R 0 1 2", "TICK", "M 1", "TICK", "M 0", "TICK", "DETECTOR rec[-1]", "DETECTOR rec[-2] rec[-1]"]
 
 
+def test_a_measurement_is_copied_to_another_tick_and_lookbacks_go_on_naming_the_first(page):
+    page.go_to(1)
+    page.choose_qubit(0)
+    page.press("c", held=[Keys.CONTROL])
+    page.go_to(2)
+    page.press("v", held=[Keys.CONTROL])
+    page.wait(lambda: lines(page) == ["R 0 1 2", "TICK", "M 0", "TICK", "M 1", "M 0", "TICK", "DETECTOR rec[-3]", "DETECTOR rec[-2] rec[-3]"])
+    assert page.history() == ["opened", "insert 5 M 0"]
+
+
 def test_detectors_that_lose_a_record_are_named(page):
     page.go_to(1)
     page.choose_qubit(0)

@@ -69,6 +69,41 @@ def test_ticks_are_chosen_on_the_timeline_copied_and_put_in(page):
     page.wait(lambda: page.circuit() == CODE)
 
 
+def choose_ticks(page, first, last):
+    """Clicks a tick on the timeline, and another one with Shift."""
+    page.go_to(first)
+    chain = ActionChains(page.browser, duration=0).key_down(Keys.SHIFT)
+    page.point_at("#timeline", *page.seen("timeline.columnOf(words[0])", last), chain=chain).click().key_up(Keys.SHIFT).perform()
+    page.wait(lambda: page.ask("page.views.timeline.range") == [first, last])
+
+
+def test_ticks_of_a_round_are_moved_and_cut_and_put_in_at_another_tick(open_page):
+    text = "R 0 1\nTICK\nREPEAT 3 {\n    H 0\n    TICK\n    S 0\n    TICK\n    CX 0 1\n    TICK\n    X 1\n    TICK\n}\nM 0 1\n"
+    page = open_page(text)
+    # The second round has ticks 5 to 8.
+    choose_ticks(page, 5, 6)
+    do(page, Keys.ARROW_DOWN, held=[Keys.ALT])
+    assert page.history() == ["opened", "move 4 lines down"] and lines(page)[3:9] == ["    CX 0 1", "    H 0", "    TICK", "    S 0", "    TICK", "    TICK"]
+    page.focus("#timeline")
+    page.press("z", held=[Keys.CONTROL])
+    page.wait(lambda: page.circuit() == text)
+    choose_ticks(page, 6, 7)
+    page.press("x", held=[Keys.CONTROL])
+    page.wait(lambda: page.history() == ["opened", "delete 4 lines"])
+    assert lines(page)[2:7] == ["REPEAT 3 {", "    H 0", "    TICK", "    X 1", "    TICK"]
+    page.go_to(0)
+    page.focus("#picture")
+    page.press("v", held=[Keys.CONTROL])
+    page.wait(lambda: lines(page)[:6] == ["R 0 1", "S 0", "TICK", "CX 0 1", "TICK", "TICK"])
+    page.press("z", "z", held=[Keys.CONTROL])
+    page.wait(lambda: page.circuit() == text)
+    # From one round to another no lines follow each other.
+    page.go_to(3)
+    chain = ActionChains(page.browser, duration=0).key_down(Keys.SHIFT)
+    page.point_at("#timeline", *page.seen("timeline.columnOf(words[0])", 6), chain=chain).click().key_up(Keys.SHIFT).perform()
+    page.wait(lambda: page.find("message").text.startswith("these ticks are in several rounds"))
+
+
 def exchange_lines(page, *paths):
     """Clicks lines with Ctrl."""
     page.settle()
@@ -195,6 +230,17 @@ def test_qubits_are_moved_and_turned_with_their_coordinates(open_page):
     page.wait(lambda: lines(page)[3:5] == ["QUBIT_COORDS(3, 1) 3", "QUBIT_COORDS(0, 1) 4"])
     page.press("z", held=[Keys.CONTROL])
     page.wait(lambda: lines(page)[3] == "QUBIT_COORDS(0, 1) 3 4")
+    # All that are chosen go with the one that is dragged; what was turned out of sight was fitted in.
+    page.choose_qubit(1, 2)
+    seen = [page.spot_of_place(*place) for place in ((2, 1), (2, 2))]
+    chain = page.point_at("#picture", *page.spot(2)).key_down(Keys.ALT).click_and_hold()
+    page.point_at("#picture", *seen[1], chain=chain).perform()
+    # While they are dragged it is seen where they would go.
+    ghosts = "page.views.layout.elements().filter(({ glyph, role }) => glyph === 'data' && role === 'accent').map(({ x, y }) => [x, y])"
+    page.wait(lambda: page.ask(ghosts) == seen)
+    ActionChains(page.browser, duration=0).release().key_up(Keys.ALT).perform()
+    page.wait(lambda: lines(page)[1:3] == ["QUBIT_COORDS(2, 1) 1", "QUBIT_COORDS(2, 2, 5) 2"])
+    assert page.chosen() == [1, 2] and page.history()[1:] == ["move 2 qubits"] * 3
 
 
 CORNER = "QUBIT_COORDS(0, 0) 0\nQUBIT_COORDS(3, 0, 5) 1\nQUBIT_COORDS(0, 1) 2\nQUBIT_COORDS(1, 2) 3\nR 0 1 2 3\n"

@@ -54,6 +54,14 @@ def test_a_circuit_is_dropped_as_a_file_or_as_text(page, tmp_path):
     drop(page, lambda: page.history()[-1] == "open dropped.stim" and page.circuit() == "H 2\n", items=text)
 
 
+def test_a_dropped_file_is_measured_first_and_what_is_too_long_is_said_at_once(page, tmp_path):
+    long = tmp_path / "long.stim"
+    with long.open("wb") as file:
+        file.truncate(40_000_000)
+    drop(page, lambda: page.find("message").text == "long.stim has 40.0 MB, and no more than 33.6 MB are read", files=[str(long)])
+    assert page.history() == ["opened"] and page.circuit() == FOUR
+
+
 def test_a_link_holds_the_circuit(page, open_page):
     page.go_to(1)
     page.type_on(2, "y")

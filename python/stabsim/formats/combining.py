@@ -8,7 +8,7 @@ from numpy.typing import NDArray
 Numbers = NDArray[np.int64]
 Chances = NDArray[np.float64]
 # How many rows a run of rows that follow each other has at least, on average, for runs to be taken one by one.
-ROWS_OF_RUN = 64
+ROWS_OF_RUN = 16
 
 
 class Joined(NamedTuple):
@@ -48,6 +48,14 @@ def starts_of(lengths: Numbers) -> Numbers:
     starts = np.zeros(len(lengths) + 1, dtype=np.int64)
     np.cumsum(lengths, out=starts[1:])
     return starts
+
+
+def order_of(numbers: Numbers, most: int) -> Numbers:
+    """The order of numbers from 0 to this one, equal ones as they come: by their digits of 16 bits, which takes a third of the time of a sort."""
+    order, bits = np.argsort(numbers.astype(np.uint16), kind="stable"), 16
+    while most >> bits:
+        order, bits = order[np.argsort((numbers[order] >> bits).astype(np.uint16), kind="stable")], bits + 16
+    return order
 
 
 def odd(sets: Numbers, columns: Numbers, width: int) -> tuple[Numbers, Numbers]:
@@ -112,9 +120,10 @@ def odd_chances(chances: Chances, begins: Numbers) -> Chances:
     lengths = np.diff(begins, append=len(chances))
     totals = np.zeros(len(begins), dtype=np.float64)
     # Runs by their length, so that those that have one more event are the last.
-    by_length = np.argsort(lengths, kind="stable")
+    longest = int(lengths.max(initial=0))
+    by_length = order_of(lengths, longest)
     ascending = lengths[by_length]
-    for place in range(int(lengths.max(initial=0))):
+    for place in range(longest):
         runs = by_length[int(np.searchsorted(ascending, place, side="right")) :]
         added = chances[begins[runs] + place]
         totals[runs] = totals[runs] * (1 - added) + added * (1 - totals[runs])

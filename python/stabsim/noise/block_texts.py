@@ -1,5 +1,6 @@
 """The texts before and after an edit in a block, cut at the block and at the edit, and how detectors of the one are numbered in the other."""
 
+import itertools
 from collections.abc import Sequence
 from dataclasses import dataclass
 from difflib import SequenceMatcher
@@ -8,10 +9,9 @@ from functools import cached_property
 import numpy as np
 
 from stabsim.formats.combining import Numbers
-from stabsim.noise.changed_lines import (
-    DECLARING, Change, Counts, change_of, counts_of, furthest, is_detector, list_begin, list_end, quiet_lines, rounds_of, without_targets,
-    with_blocks,
-)
+from stabsim.noise.changed_lines import Change, without_targets
+from stabsim.noise.known_lines import DETECTORS, KnownLines
+from stabsim.noise.line_facts import DECLARING, Counts
 from stabsim.noise.pieces import Piece
 
 
@@ -23,26 +23,24 @@ class BlockText:
     that they are in, as runs: beside these the text before the edit and the one after it differ in detectors and observables alone.
     """
 
-    lines: Sequence[str]
+    lines: KnownLines
     begin: int
     end: int
     own: Sequence[range]
 
-    @property
-    def inside(self) -> Sequence[str]:
-        """The lines in the block."""
-        return self.lines[self.begin + 1 : self.end - 1]
-
     @cached_property
     def each(self) -> Counts:
         """What a round makes."""
-        return counts_of(quiet_lines(self.inside))
+        return self.lines.counts(self.begin + 1, self.end - 1)
 
     @cached_property
     def around(self) -> tuple[int, int]:
         """How many detectors are declared in front of the block and after it."""
-        above, below = (counts_of(quiet_lines(lines)).detectors for lines in (self.lines[: self.begin], self.lines[self.end :]))
-        return above, below
+        return self.lines.counts(0, self.begin).detectors, self.lines.counts(self.end, len(self.lines.lines)).detectors
+
+    def declared(self) -> tuple[list[str], list[str]]:
+        """The lines in the block, and those after it, that declare detectors."""
+        return self.lines.picked(self.begin + 1, self.end - 1, DETECTORS), self.lines.picked(self.end, len(self.lines.lines), DETECTORS)
 
     def detectors(self, rounds: int) -> int:
         """How many detectors there are if the block has this many rounds."""
@@ -51,48 +49,63 @@ class BlockText:
     @cached_property
     def least(self) -> int | None:
         """How many rounds it takes until no lookback goes from the last of them or from below beyond the first; None if none are enough."""
-        reach = max(furthest(quiet_lines(lines)) for lines in (self.inside, self.lines[self.end :]))
+        reach = max(self.lines.reach(self.begin + 1, self.end - 1), self.lines.reach(self.end, len(self.lines.lines)))
         if not self.each.records:
             return None if reach else 1
         return 1 - -reach // self.each.records
 
+    @cached_property
+    def cuts(self) -> list[int]:
+        """The lines at which pieces in the block begin, and the one after the last of them."""
+        return [self.begin + 1, *(cut for run in self.own for cut in (run.start, run.stop)), self.end - 1]
+
+    def marks(self) -> list[int]:
+        """How many marks each of the pieces has, those in the block in one round."""
+        inside = [self.lines.counts(first, last).marks for first, last in itertools.pairwise(self.cuts)]
+        return [self.lines.counts(0, self.begin).marks, *inside, self.lines.counts(self.end, len(self.lines.lines)).marks]
+
     def pieces(self, qubits: int, rounds: int) -> list[Piece]:
         """In front of the block, in it in turn lines that are kept and those of the edit, and after the block, with marks, as those of all of
         this many qubits come first in each round."""
-        cuts = [self.begin + 1, *(cut for run in self.own for cut in (run.start, run.stop)), self.end - 1]
-        found = [Piece.of(self.lines[: self.begin], 1, 0)]
+        found = [Piece.of(self.lines, 0, self.begin, 0)]
         mark = found[0].marks + qubits
-        for first, last in zip(cuts, cuts[1:]):
-            found.append(Piece.of(self.lines[first:last], first + 1, mark))
+        for first, last in itertools.pairwise(self.cuts):
+            found.append(Piece.of(self.lines, first, last, mark))
             mark += found[-1].marks
         each = mark - found[0].marks
-        return [*found, Piece.of(self.lines[self.end :], self.end + 1, found[0].marks + each * rounds)]
+        return [*found, Piece.of(self.lines, self.end, len(self.lines.lines), found[0].marks + each * rounds)]
 
 
 def texts_of(change: Change) -> tuple[BlockText, BlockText, int] | None:
     """The texts before and after an edit in a block, and how many rounds that has; None if it is in none, or changes more than declarations
     below it."""
-    begin = list_begin(change.before, change.first)
-    if begin == change.first:
+    around, again = change.before.around(change.first), change.after.around(change.first)
+    if not around:
         return None
-    ends = [list_end(lines, change.first) for lines in (change.before, change.after)]
-    if without_declared(change.before[ends[0] :]) != without_declared(change.after[ends[1] :]):
+    ends = around[0].end + 1, again[0].end + 1
+    below = [[line for line in its[end - change.first :] if not is_declared(line)] for its, end in zip((change.old, change.new), ends)]
+    if below[0] != below[1]:
         return None
-    insides = [lines[begin + 1 : end - 1] for lines, end in zip((change.before, change.after), ends)]
-    texts = [BlockText(lines, begin, end, its) for lines, end, its in zip((change.before, change.after), ends, own_lines(insides, begin + 1))]
-    return texts[0], texts[1], rounds_of(change.before[begin])
+    own = own_lines(change, ends)
+    texts = [BlockText(known, around[0].begin, end, its) for known, end, its in zip((change.before, change.after), ends, own)]
+    return texts[0], texts[1], around[0].rounds
 
 
-def own_lines(insides: Sequence[Sequence[str]], first: int) -> list[list[range]]:
-    """Which lines of a block before and after an edit are of it, beside declarations, as runs; first: the number of the block's first line."""
-    plain = [[at for at, line in enumerate(lines) if not is_declared(line)] for lines in insides]
-    change = with_blocks(change_of(*([lines[at] for at in places] for lines, places in zip(insides, plain))))
-    found = []
-    for lines, places, runs in zip(insides, plain, zip(*runs_apart(change.old, change.new))):
+def own_lines(change: Change, ends: tuple[int, int]) -> tuple[list[range], list[range]]:
+    """Which lines of a block before and after an edit are of it, beside declarations, as runs; ends: the lines after the block."""
+    # Blocks within it are taken whole.
+    begins = [known.around(change.first)[1:2] for known in (change.before, change.after)]
+    first = min([change.first, *(it.begin for its in begins for it in its)])
+    bounds, places = [], []
+    for known, changed, end in zip((change.before, change.after), (change.old_end, change.new_end), ends):
+        last = min(changed, end - 1)
+        bounds.append(max([last, *(it.end + 1 for it in known.around(last)[1:2])]))
+        places.append([at for at in range(first, bounds[-1]) if not is_declared(known.lines[at])])
+    runs = runs_apart(*([known.lines[at] for at in its] for known, its in zip((change.before, change.after), places)))
+    found: tuple[list[range], list[range]] = [], []
+    for its, end, own, which in zip(places, bounds, zip(*runs), (0, 1)):
         # Declarations around a run go with it.
-        bounds = [first, *(first + at for at in places), first + len(lines)]
-        begins = [bounds[change.first + run.start] + (change.first + run.start > 0) for run in runs]
-        found.append([range(begin, bounds[change.first + run.stop + 1]) for begin, run in zip(begins, runs)])
+        found[which].extend(range(its[run.start - 1] + 1 if run.start else first, its[run.stop] if run.stop < len(its) else end) for run in own)
     return found
 
 
@@ -112,28 +125,24 @@ def is_declared(line: str) -> bool:
     return line.lstrip().startswith(DECLARING)
 
 
-def without_declared(lines: Sequence[str]) -> list[str]:
-    """The lines that are of no detector and no observable."""
-    return [line for line in lines if not is_declared(line)]
-
-
 def columns_of_rounds(old: BlockText, new: BlockText, rounds: int, observables: int) -> Numbers:
     """The number in the new text of each detector and observable of the old one, -1 of one that is no more, if the block has this many rounds."""
     above, each = new.around[0], new.each.detectors
-    own = same_detectors(old.inside, new.inside, old.each.detectors, each)
-    below = same_detectors(old.lines[old.end :], new.lines[new.end :], old.around[1], new.around[1])
+    (inner, outer), (inner_after, outer_after) = old.declared(), new.declared()
+    own = same_detectors(inner, inner_after, old.each.detectors, each)
+    below = same_detectors(outer, outer_after, old.around[1], new.around[1])
     inside = np.where(own < 0, -1, above + each * np.arange(rounds)[:, None] + own).ravel()
     after = np.where(below < 0, -1, above + each * rounds + below)
     return np.concatenate([np.arange(above), inside, after, new.detectors(rounds) + np.arange(observables)])
 
 
 def same_detectors(old: Sequence[str], new: Sequence[str], before: int, after: int) -> Numbers:
-    """For each detector that lines declare, in blocks each round, which of the new lines' is taken for it, ascending, -1 for none; before, after:
-    how many there are of each."""
+    """For each detector that these lines declare, in blocks each round, which of the new lines' is taken for it, ascending, -1 for none; before,
+    after: how many there are of each."""
     if before == after:
         return np.arange(before)
     found = np.full(before, -1, dtype=np.int64)
-    heads, others = ([without_targets(line) for line in lines if is_detector(line)] for lines in (old, new))
+    heads, others = ([without_targets(line) for line in lines] for lines in (old, new))
     if (len(heads), len(others)) == (before, after):
         for at, again, size in SequenceMatcher(None, heads, others, autojunk=False).get_matching_blocks():
             found[at : at + size] = np.arange(again, again + size)

@@ -1,7 +1,7 @@
 """Which part of a circuit's noise makes a mechanism of its error model."""
 
 import functools
-import re
+from collections.abc import Sequence
 from dataclasses import dataclass, replace
 from typing import NamedTuple
 
@@ -9,15 +9,12 @@ import numpy as np
 from numpy.typing import NDArray
 
 from stabsim.formats.combining import Chances, Numbers, starts_of
+from stabsim.noise.known_lines import KnownLines
 from stabsim.noise.marking import Source
 from stabsim.noise.placing import placed
 from stabsim.questions.circuit_errors import CircuitError
-from stabsim.text.names import FED_BACK
 from stabsim.text.profile import profile_of
 from stabsim.text.reading import Item, items_of, walk
-
-# A line whose gate a record may control.
-CONTROLLED = re.compile(rf"\n[ \t]*(?:{'|'.join(FED_BACK)})\b[^\n]*")
 
 
 class Cause(NamedTuple):
@@ -40,16 +37,57 @@ class Cause(NamedTuple):
 
 
 @dataclass(frozen=True, eq=False)
+class Sources:
+    """The errors of a circuit by instruction, one after another.
+
+    its: the sources, of which lines and marks may be those of the circuit before edits; lines: int64 (sources,), the line of each, ascending;
+    times: int64 (sources,), how often it is met; chances: float64 (sources,).
+    """
+
+    its: tuple[Source, ...]
+    lines: Numbers
+    times: Numbers
+    chances: Chances
+
+    @classmethod
+    def of(cls, its: Sequence[Source]) -> "Sources":
+        """Of sources as they are."""
+        lines, times = np.array([(it.line, it.times()) for it in its], dtype=np.int64).reshape(len(its), 2).T
+        return cls(tuple(its), lines, times, np.array([it.chance for it in its], dtype=np.float64))
+
+    @functools.cached_property
+    def firsts(self) -> Numbers:
+        """The first error of each source, and how many there are of all, int64 (sources + 1,)."""
+        return starts_of(self.times)
+
+    def edited(self, begin: int, end: int, new: "Sources", lines: int) -> "Sources":
+        """With others in the place of some; those after them are this many lines further down."""
+        return Sources((*self.its[:begin], *new.its, *self.its[end:]), np.concatenate([self.lines[:begin], new.lines, self.lines[end:] + lines]),
+                       np.concatenate([self.times[:begin], new.times, self.times[end:]]),
+                       np.concatenate([self.chances[:begin], new.chances, self.chances[end:]]))
+
+    def are_like(self, begin: int, end: int, others: "Sources") -> bool:
+        """Whether some of them have the same errors as others, with any chances."""
+        letters = all(it.letters == its.letters for it, its in zip(self.its[begin:end], others.its))
+        return letters and np.array_equal(self.times[begin:end], others.times)
+
+
+@dataclass(frozen=True, eq=False)
 class Causes:
     """Which errors of a circuit each mechanism is made of.
 
-    sources: the errors by instruction, one after another; mechanisms: int32 (errors,), the mechanism of each error, in the order of the
-    sources and of all of their times, -1 of one that flips nothing; text: the circuit's, which was judged.
+    sources: the errors by instruction; mechanisms: int32 (errors,), the mechanism of each error, in the order of the sources and of all of
+    their times, -1 of one that flips nothing; known: the lines of the circuit's text, which was judged.
     """
 
-    sources: tuple[Source, ...]
+    sources: Sources
     mechanisms: NDArray[np.int32]
-    text: str
+    known: KnownLines
+
+    @property
+    def text(self) -> str:
+        """The circuit's text."""
+        return self.known.text
 
     @functools.cached_property
     def items(self) -> tuple[Item, ...]:
@@ -61,24 +99,9 @@ class Causes:
         """For each line of an item of the user's the path of that."""
         return {item.line: item.path for item in walk(items_of(self.text))}
 
-    @functools.cached_property
-    def firsts(self) -> Numbers:
-        """The first error of each source, and how many there are of all, int64 (sources + 1,)."""
-        return starts_of(np.array([source.times() for source in self.sources], dtype=np.int64))
-
-    @functools.cached_property
-    def is_fed_back(self) -> bool:
-        """Whether records control gates in the circuit."""
-        return is_fed_back(self.text)
-
-    @functools.cached_property
-    def lines(self) -> list[str]:
-        """The lines of the circuit's text."""
-        return self.text.split("\n")
-
     def chances_of(self, errors: Numbers) -> Chances:
         """The chances of errors with these numbers."""
-        found: Chances = np.array([source.chance for source in self.sources])[np.searchsorted(self.firsts, errors, side="right") - 1]
+        found: Chances = self.sources.chances[np.searchsorted(self.sources.firsts, errors, side="right") - 1]
         return found
 
     def renumbered(self, mechanisms: NDArray[np.int64]) -> "Causes":
@@ -100,17 +123,12 @@ class Causes:
         """The errors that make a mechanism: of which source, in which rounds of the blocks around it, and which of its times in these."""
         errors = np.flatnonzero(self.mechanisms == mechanism)
         found = []
-        for error, number in zip(errors.tolist(), (np.searchsorted(self.firsts, errors, side="right") - 1).tolist()):
-            source = self.sources[number]
+        for error, number in zip(errors.tolist(), (np.searchsorted(self.sources.firsts, errors, side="right") - 1).tolist()):
+            source = self.sources.its[number]._replace(line=int(self.sources.lines[number]))
             shape = (*(count for count, _ in reversed(source.blocks)), len(source.marks))
-            *rounds, at = map(int, np.unravel_index(error - int(self.firsts[number]), shape))
+            *rounds, at = map(int, np.unravel_index(error - int(self.sources.firsts[number]), shape))
             found.append((source, rounds, at))
         return found
-
-
-def is_fed_back(text: str) -> bool:
-    """Whether records control gates in a text."""
-    return any("rec[" in found[0] for found in CONTROLLED.finditer(f"\n{text}"))
 
 
 def cause_of(source: Source, rounds: list[int], at: int) -> Cause:

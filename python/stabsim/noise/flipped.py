@@ -8,7 +8,7 @@ from numpy.typing import NDArray
 
 from stabsim import program
 from stabsim.formats.combining import Numbers
-from stabsim.formats.words import LINE_END, SPACE
+from stabsim.formats.formats import LONG
 
 Bits = NDArray[np.bool_]
 # The letter on each qubit: of a region or a product.
@@ -27,8 +27,8 @@ class Flipped:
     @classmethod
     def of(cls, lines: Sequence[str], detectors: int, observables: int, sure_only: bool = False) -> "Flipped":
         """Asks the program; sure_only: leaves out what coins decide, which else is refused."""
-        written = program.run(["faults", "--out_format", "dets", *["--deterministic_only"] * sure_only], "\n".join([*lines, ""]))
-        return cls(*rows_of_lines(written, detectors), detectors, observables)
+        written = program.run(["faults", "--out_format", "r8", *["--deterministic_only"] * sure_only], "\n".join([*lines, ""]))
+        return cls(*rows_of_lengths(written, detectors + observables), detectors, observables)
 
     def pairs(self, first: int, count: int) -> tuple[Numbers, Numbers]:
         """Of this many marks from one on, pairs, ascending, of a line and what it flips."""
@@ -54,11 +54,14 @@ class Flipped:
         return found
 
 
-def rows_of_lines(written: bytes, detectors: int) -> tuple[Numbers, Numbers]:
-    """Lines of the program's, as `shot D3 L0`, as the rows of a CSR matrix, of this many detectors and then observables."""
-    text = np.frombuffer(written, dtype=np.uint8)
-    # In front of each bit is a space.
-    spaces = np.flatnonzero(text == SPACE)
-    numbers = np.fromstring(written.translate(None, b"shotDL\n"), dtype=np.int64, sep=" ")
-    indptr = np.append(0, np.searchsorted(spaces, np.flatnonzero(text == LINE_END)))
-    return indptr, numbers + detectors * (text[spaces + 1] == ord("L"))
+def rows_of_lengths(written: bytes, width: int) -> tuple[Numbers, Numbers]:
+    """Rows of this many bits in r8, as those of a CSR matrix: each byte counts zeros, after which a 1 comes, except after 255 of them; so it does
+    after each row."""
+    zeros = np.frombuffer(written, dtype=np.uint8)
+    places = np.flatnonzero(zeros != LONG)
+    ends = np.cumsum(zeros[places] + LONG * np.diff(places, prepend=-1) - (LONG - 1))
+    rows = (ends - 1) // (width + 1)
+    columns = ends - 1 - rows * (width + 1)
+    after = np.flatnonzero(columns == width)
+    assert len(after) * (width + 1) == (ends[-1] if len(ends) else 0), "each row has as many bits as there are detectors and observables"
+    return np.append(0, after - np.arange(len(after))), np.delete(columns, after)

@@ -39,6 +39,11 @@ class Source(NamedTuple):
     blocks: tuple[tuple[int, int], ...] = ()
     place: int | None = None
 
+    def within(self, rounds: int, each: int) -> "Source":
+        """It in a block more, of this many rounds, each of which has this many marks."""
+        blocks = (*self.blocks, (rounds, each))
+        return Source(self.letters, self.chance, self.marks, self.line, self.name, self.targets, self.is_record, blocks, self.place)
+
     def times(self) -> int:
         """How often it is met in all rounds."""
         times = len(self.marks)
@@ -94,7 +99,7 @@ class Marker:
         sources, end = self.items(block.items, first)
         self.lines.append("}")
         each = end - first
-        again = [it._replace(blocks=(*it.blocks, (block.repeat, each))) for it in sources]
+        again = [it.within(block.repeat, each) for it in sources]
         return again, first + each * block.repeat
 
     def instruction(self, item: Instruction, first: int) -> tuple[list[Source], int]:

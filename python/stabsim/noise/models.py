@@ -14,11 +14,12 @@ from numpy.typing import NDArray
 from stabsim import checking, program
 from stabsim.formats import bits, combining, sparse
 from stabsim.noise import dem, drawing
-from stabsim.noise.causes import Cause, Causes
+from stabsim.noise.causes import Cause, Causes, Sources
 from stabsim.noise.decomposing import Parts, parts_of
 from stabsim.noise.disjoint import Noise, noise_of
 from stabsim.noise.gauges import with_gauges
 from stabsim.noise.joining import joined_errors
+from stabsim.noise.known_lines import KnownLines
 from stabsim.noise.marked_faults import faults_of, profile_of
 from stabsim.noise.marking import Marked
 from stabsim.noise.model_distance import distance_of_model, sat_problem_of_model
@@ -372,4 +373,5 @@ def model_of(circuit: Marked, table: Rows, coordinates: NDArray[np.float64], pro
     """The model of a marked circuit, whose table of faults has X and Z of each mark, one after the other, and which was made of a profile."""
     joined = joined_errors(circuit.sources, table)
     return ErrorModel(joined.chances, joined.indptr, joined.indices, table.num_detectors, table.num_observables, coordinates, circuit.approximated,
-                      causes=Causes(tuple(circuit.sources), joined.mechanisms.astype(np.int32), profile.text), noise=noise_of(circuit.sources, table))
+                      causes=Causes(Sources.of(circuit.sources), joined.mechanisms.astype(np.int32), KnownLines(profile.text)),
+                      noise=noise_of(circuit.sources, table))

@@ -86,7 +86,8 @@ def flipped_with_paulis(text: str, sure_only: bool, ask: Callable[[Sequence[str]
     if not observables:
         return ask([text])
     items, qubit = items_of(text), spare_qubit(text)
-    table = ask(lines_without(items, observables))
+    # There are as many observables as before.
+    table = ask([*lines_without(items, observables), f"{OBSERVABLE}({max(observables)})"])
     return with_columns(table, observables, [column_of(items, observable, qubit, sure_only) for observable in observables])
 
 

@@ -1,16 +1,15 @@
 """Mechanisms of an error model of which some errors flip something else: renewed in their order."""
 
-from collections.abc import Sequence
 from dataclasses import dataclass, replace
 from typing import TYPE_CHECKING
 
 import numpy as np
 from numpy.typing import NDArray
 
-from stabsim.formats.combining import Numbers, columns_of, odd_chances, starts_of
-from stabsim.noise.causes import Causes
+from stabsim.formats.combining import Numbers, columns_of, odd_chances, order_of, starts_of
+from stabsim.noise.causes import Causes, Sources
 from stabsim.noise.flipped import Bits
-from stabsim.noise.marking import Source
+from stabsim.noise.known_lines import KnownLines
 
 if TYPE_CHECKING:
     from stabsim.noise.models import ErrorModel
@@ -35,11 +34,6 @@ class Renewal:
     places: Numbers
 
     @classmethod
-    def of_known(cls, model: "ErrorModel", mechanisms: Numbers) -> "Renewal":
-        """Of errors whose mechanisms are known."""
-        return cls(model, mechanisms, NONE, NONE, NONE)
-
-    @classmethod
     def of_rows(cls, model: "ErrorModel", indptr: Numbers, indices: Numbers) -> "Renewal | None":
         """Of the rows of errors; None if there are too many that the model does not have."""
         lengths = np.diff(indptr)
@@ -59,17 +53,17 @@ class Renewal:
         others = rows[new]
         return cls(model, mechanisms, np.cumsum(lengths[others]), columns_of(others, indptr, indices), places[new])
 
-    def model_of(self, mechanisms: Numbers, gone: Numbers, sources: Sequence[Source], text: str) -> "ErrorModel":
-        """The model of a text with these sources; mechanisms: of all their errors, as those of this; gone: those that errors left."""
+    def model_of(self, mechanisms: Numbers, gone: Numbers, sources: Sources, known: KnownLines) -> "ErrorModel":
+        """The model of a text of these lines, with these sources; mechanisms: of all their errors, as those of this; gone: those that errors left."""
         model, count = self.model, len(self.model) + len(self.indptr)
         is_renewed = np.zeros(count + 1, dtype=np.bool_)
         is_renewed[gone], is_renewed[self.mechanisms], is_renewed[-1] = True, True, False
         errors = np.flatnonzero(is_renewed[mechanisms])
-        errors = errors[np.argsort(mechanisms[errors], kind="stable")]
+        errors = errors[order_of(mechanisms[errors], count)]
         begins = np.flatnonzero(np.diff(mechanisms[errors], prepend=-1))
         chances = np.append(model.chances, np.zeros(len(self.indptr)))
         chances[is_renewed[:-1]] = -1.0
-        causes = Causes(tuple(sources), mechanisms.astype(np.int32), text)
+        causes = Causes(sources, mechanisms.astype(np.int32), known)
         chances[mechanisms[errors[begins]]] = odd_chances(causes.chances_of(errors), begins)
         # New rows go where they are in the order of what is flipped; mechanisms that no error makes any more go.
         order = np.insert(np.arange(len(model)), self.places, np.arange(len(model), count))
@@ -109,11 +103,6 @@ def mechanisms_with(model: "ErrorModel", is_meant: Bits) -> Numbers:
     if not is_meant.any():
         return NONE
     return np.searchsorted(model.indptr, np.flatnonzero(is_meant[model.indices]), side="right") - 1
-
-
-def moved_by(sources: Sequence[Source], lines: int) -> Sequence[Source]:
-    """Sources that are this many lines further down."""
-    return [source._replace(line=source.line + lines) for source in sources] if lines else sources
 
 
 def rows_apart(lengths: Numbers, columns: Numbers) -> tuple[Numbers, Numbers]:

@@ -10,19 +10,18 @@ The program is asked for the errors of the lines that changed, which alone are m
 errors make or made which flip something else.
 """
 
-from collections.abc import Sequence
 from typing import TYPE_CHECKING
 
 import numpy as np
 
 from stabsim.errors import Refused, UnsupportedNoise
 from stabsim.formats.combining import Numbers
-from stabsim.noise.causes import Causes, is_fed_back
-from stabsim.noise.changed_lines import CHAINED, Change, blocks_around, change_of, is_of_no_region, noisy_items, quiet_lines
+from stabsim.noise.causes import Causes, Sources
+from stabsim.noise.changed_lines import CHAINED, Change, change_of, is_of_no_region
 from stabsim.noise.flipped import Flipped
 from stabsim.noise.marked_faults import undetermined
-from stabsim.noise.marking import Marker, Source
-from stabsim.noise.renewal import NONE, Renewal, moved_by
+from stabsim.noise.pieces import Piece
+from stabsim.noise.renewal import NONE, Renewal
 from stabsim.noise.renewing_blocks import renewed_block
 from stabsim.noise.renewing_circuit import renewed_circuit
 from stabsim.noise.renewing_detectors import renewed_detectors
@@ -34,6 +33,7 @@ from stabsim.text.rewriting import WrongWord
 if TYPE_CHECKING:
     from stabsim.noise.models import ErrorModel
 
+
 def renewed(model: "ErrorModel", text: str, sure_only: bool, qubits: int | None = None) -> "ErrorModel | None":
     """The model of a text, from that of the text before edits; None if that is not seen, or if disjoint errors are taken for independent
     ones. Texts are as sessions print them, without comments; qubits: how many there are, if it is known."""
@@ -41,17 +41,17 @@ def renewed(model: "ErrorModel", text: str, sure_only: bool, qubits: int | None 
     if causes is None or model.approximated or model.parts is not None or CHAINED in text or CHAINED in causes.text:
         return None
     try:
-        change = change_of(causes.lines, text.split("\n"))
+        change = change_of(causes.known, text)
         if is_of_no_region(change):
-            return after_change(model, causes, change, text, sure_only)
+            return after_change(model, causes, change, sure_only)
         # Which detectors coins decided before is not known of a model that leaves them out.
         if not qubits or sure_only:
             return None
-        declared = renewed_detectors(model, causes, change, text, qubits)
-        if declared is not None or causes.is_fed_back or is_fed_back("\n".join(change.new)):
+        declared = renewed_detectors(model, causes, change, qubits)
+        if declared is not None or change.before.is_fed_back() or change.after.is_fed_back():
             return declared
-        found = renewed_block(model, causes, change, text, qubits)
-        return renewed_circuit(model, causes, change, text, qubits) if found is None else found
+        found = renewed_block(model, causes, change, qubits)
+        return renewed_circuit(model, causes, change, qubits) if found is None else found
     except Refused as refused:
         # It is said of the whole text; of a circuit that coins decide by what the program said.
         if refused.name == "NotDeterministic":
@@ -61,36 +61,26 @@ def renewed(model: "ErrorModel", text: str, sure_only: bool, qubits: int | None 
     return None
 
 
-def after_change(model: "ErrorModel", causes: Causes, change: Change, text: str, sure_only: bool) -> "ErrorModel | None":
+def after_change(model: "ErrorModel", causes: Causes, change: Change, sure_only: bool) -> "ErrorModel | None":
     """The model after a change by which all regions stay."""
-    lines = [source.line - 1 for source in causes.sources]
-    begin, end = np.searchsorted(lines, [change.first, change.first + len(change.old)]).tolist()
-    marker = Marker(False)
-    items, each = marker.items(noisy_items(change.new, change.first + 1), 0)
-    opened = blocks_around(change.above)
-    sources = [in_blocks(source, opened, each) for source in items]
-    moved = moved_by(causes.sources[end:], len(change.new) - len(change.old))
-    old = causes.sources[begin:end]
-    start, stop = int(causes.firsts[begin]), int(causes.firsts[end])
+    begin, end = np.searchsorted(causes.sources.lines, [change.first + 1, change.old_end + 1]).tolist()
+    piece = Piece.of(change.after, change.first, change.new_end, 0)
+    around, each = [], piece.marks
+    for block in reversed(change.after.around(change.first)):
+        around.append((block.rounds, each))
+        each *= block.rounds
+    sources = Sources.of([source._replace(blocks=tuple(around)) for source in piece.sources])
+    start, stop = int(causes.sources.firsts[begin]), int(causes.sources.firsts[end])
     gone = causes.mechanisms[start:stop].astype(np.int64)
     renewal: Renewal | None
-    if are_alike(change) and [(its.letters, its.times()) for its in sources] == [(its.letters, its.times()) for its in old]:
-        renewal = Renewal.of_known(model, gone)
+    if are_alike(change) and causes.sources.are_like(begin, end, sources):
+        renewal = Renewal(model, gone, NONE, NONE, NONE)
     else:
-        renewal = Renewal.of_rows(model, *rows_of_sources(marker, sources, change, model, sure_only))
+        renewal = Renewal.of_rows(model, *rows_of_sources(piece, sources, change, model, sure_only))
     if renewal is None:
         return None
     mechanisms: Numbers = np.concatenate([causes.mechanisms[:start], renewal.mechanisms, causes.mechanisms[stop:]])
-    return renewal.model_of(mechanisms, gone, (*causes.sources[:begin], *sources, *moved), text)
-
-
-def in_blocks(source: Source, opened: Sequence[int], each: int) -> Source:
-    """A source in blocks of these numbers of rounds, the outermost first; each: how many marks a round of the innermost has."""
-    blocks = []
-    for rounds in reversed(opened):
-        blocks.append((rounds, each))
-        each *= rounds
-    return source._replace(blocks=tuple(blocks))
+    return renewal.model_of(mechanisms, gone, causes.sources.edited(begin, end, sources, len(change.new) - len(change.old)), change.after)
 
 
 def are_alike(change: Change) -> bool:
@@ -98,10 +88,11 @@ def are_alike(change: Change) -> bool:
     return [Line(0, it, "").without_arguments() for it in change.old] == [Line(0, it, "").without_arguments() for it in change.new]
 
 
-def rows_of_sources(marker: Marker, sources: Sequence[Source], change: Change, model: "ErrorModel", sure_only: bool) -> tuple[Numbers, Numbers]:
-    """What the errors of sources flip, as a CSR matrix, of the program."""
-    if not sources:
+def rows_of_sources(piece: Piece, sources: Sources, change: Change, model: "ErrorModel", sure_only: bool) -> tuple[Numbers, Numbers]:
+    """What the errors of the new lines flip, as a CSR matrix, of the program."""
+    if not sources.its:
         return np.zeros(1, dtype=np.int64), NONE
-    marked = [*quiet_lines(change.above), *marker.lines, *quiet_lines(change.below)]
+    known = change.after
+    marked = [known.quiet_text(0, change.first), piece.text, known.quiet_text(change.new_end, len(known.lines))]
     flipped = Flipped.of(marked, model.num_detectors, model.num_observables, sure_only)
-    return rows_of_errors([(source, np.arange(source.times())) for source in sources], flipped)
+    return rows_of_errors([(source, np.arange(source.times())) for source in sources.its], flipped)

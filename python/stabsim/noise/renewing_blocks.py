@@ -9,6 +9,7 @@ The program is asked about few rounds of the text from before the edit too. Erro
 """
 
 import functools
+import itertools
 from collections.abc import Sequence
 from concurrent.futures import ThreadPoolExecutor
 from dataclasses import dataclass, replace
@@ -18,16 +19,15 @@ from typing import TYPE_CHECKING
 import numpy as np
 
 from stabsim.errors import Refused
-from stabsim.formats.combining import Numbers, rows_of, starts_of
+from stabsim.formats.combining import Numbers, columns_of, rows_of, starts_of
 from stabsim.noise.block_texts import BlockText, columns_of_rounds, texts_of
-from stabsim.noise.causes import Causes
-from stabsim.noise.changed_lines import Change, observables_in, placing, quiet_lines
+from stabsim.noise.causes import Causes, Sources
+from stabsim.noise.changed_lines import Change, coordinates_in, observables_in, placing
 from stabsim.noise.flipped import Bits, Flipped
 from stabsim.noise.marking import Source
 from stabsim.noise.pieces import Piece
 from stabsim.noise.renewal import Renewal, renumbered
 from stabsim.noise.sourced import errors_at, rows_of_errors
-from stabsim.text.coordinates import detector_coordinates
 
 if TYPE_CHECKING:
     from stabsim.noise.models import ErrorModel
@@ -48,43 +48,48 @@ def flipped(text: str, detectors: int, observables: int) -> Flipped:
 class Few:
     """A text in which the block has few rounds, with marks, in each round marks of all qubits first, and what they flip.
 
-    pieces: in front of the block, in it in turn what is kept and what is of the edit, and after the block; rounds: how many the block has;
-    qubits: how many there are; detectors: how many a round declares.
+    marks: how many each piece has, one in front of the block, in it in turn what is kept and what is of the edit, and one after the block;
+    rounds: how many the block has; qubits: how many there are; detectors: how many a round declares; pieces: of the text after the edit.
     """
 
     table: Flipped
-    pieces: Sequence[Piece]
+    marks: Sequence[int]
     rounds: int
     qubits: int
     detectors: int
+    pieces: Sequence[Piece] = ()
 
     @classmethod
-    def of(cls, text: BlockText, rounds: int, qubits: int, observables: int) -> "Few":
-        """Asks the program."""
+    def of(cls, text: BlockText, rounds: int, qubits: int, observables: int, is_before: bool = False) -> "Few":
+        """Asks the program; is_before: if it was not asked for the last edit."""
+        key = (text.begin, rounds, qubits, observables)
+        if is_before and key in text.lines.tables:
+            return cls(text.lines.tables[key], text.marks(), rounds, qubits, text.each.detectors)
         mark = " ".join(["I", *map(str, range(qubits))])
         outside, *inside, after = pieces = text.pieces(qubits, rounds)
-        block = [f"REPEAT {rounds} {{", mark, *(line for piece in inside for line in piece.lines), "}"]
-        table = flipped("\n".join([*outside.lines, *block, *after.lines]), text.detectors(rounds), observables)
-        return cls(table, pieces, rounds, qubits, text.each.detectors)
+        block = "".join([f"REPEAT {rounds} {{\n{mark}\n", *(piece.text for piece in inside), "}\n"])
+        table = flipped("".join([outside.text, block, after.text]), text.detectors(rounds), observables)
+        text.lines.tables[key] = table
+        return cls(table, text.marks(), rounds, qubits, text.each.detectors, pieces)
 
     @property
     def first(self) -> int:
         """The first mark of the block."""
-        return self.pieces[0].marks
+        return self.marks[0]
 
     @property
     def each(self) -> int:
         """How many marks a round has."""
-        return self.qubits + sum(piece.marks for piece in self.pieces[1:-1])
+        return self.qubits + sum(self.marks[1:-1])
 
     @cached_property
     def kept(self) -> Numbers:
         """The marks that are not the edit's, which are one after another the same in both texts."""
-        counts = [self.qubits, *(piece.marks for piece in self.pieces[1:-1])]
+        counts = [self.qubits, *self.marks[1:-1]]
         inside = np.flatnonzero(np.repeat([place < 2 or place % 2 == 1 for place in range(len(counts))], counts))
         end = self.first + self.rounds * self.each
         block = self.first + self.each * np.arange(self.rounds)[:, None] + inside
-        return np.concatenate([np.arange(self.first), block.ravel(), np.arange(end, end + self.pieces[-1].marks)])
+        return np.concatenate([np.arange(self.first), block.ravel(), np.arange(end, end + self.marks[-1])])
 
     def is_periodic(self) -> bool:
         """Whether regions at the begins of the first two rounds are the same, with detectors of a round later at the second."""
@@ -93,27 +98,29 @@ class Few:
         return np.array_equal(lines, again) and np.array_equal(columns, moved)
 
     def rows(self) -> tuple[Numbers, Numbers]:
-        """What X and Z flip of each mark that is kept: pairs, ascending, of the place of its letter and what it flips."""
-        return rows_of(np.stack([2 * self.kept, 2 * self.kept + 1], axis=1).ravel(), self.table.indptr, self.table.indices)
+        """What X and Z of each mark that is kept flip, one after the other: how much each does, and all of it."""
+        rows = np.stack([2 * self.kept, 2 * self.kept + 1], axis=1).ravel()
+        return np.diff(self.table.indptr)[rows], columns_of(rows, self.table.indptr, self.table.indices)
 
     def sources(self, rounds: int) -> list[list[Source]]:
         """The errors of each piece, if the block has this many rounds."""
-        outside, *inside, after = (piece.sources for piece in self.pieces)
-        around = (rounds, self.each)
-        return [outside, *([it._replace(blocks=(*it.blocks, around)) for it in its] for its in inside), after]
+        outside, *inside, after = (list(piece.sources) for piece in self.pieces)
+        return [outside, *([it.within(rounds, self.each) for it in its] for its in inside), after]
+
+    @cached_property
+    def own_sources(self) -> list[list[Source]]:
+        """The same of the rounds that it has."""
+        return self.sources(self.rounds)
 
     def marks_that_differ(self, old: "Few", columns: Numbers) -> Bits:
         """Which marks flip something else than in an old text, whose detectors and observables have these numbers now."""
-        places, before = old.rows()
-        again, after = self.rows()
-        before, width = columns[before], self.table.num_detectors + self.table.num_observables
-        found, is_other = np.zeros(len(self.table.indptr) // 2, dtype=np.bool_), np.zeros(2 * len(self.kept), dtype=np.bool_)
-        if not (np.array_equal(places, again) and np.array_equal(before, after)):
-            is_other[places[before < 0]] = True
-            keys = np.concatenate([(places * width + before)[before >= 0], again * width + after])
-            keys.sort(kind="stable")
-            is_first = np.diff(keys, prepend=-1) != 0
-            is_other[keys[is_first & np.append(is_first[1:], True)] // width] = True
+        (lengths_before, before), (lengths, after) = old.rows(), self.rows()
+        found, is_other, before = np.zeros(len(self.table.indptr) // 2, dtype=np.bool_), lengths != lengths_before, columns[before]
+        if is_other.any():
+            # Of rows that are as long as before the columns are compared one by one.
+            before, after = before[np.repeat(~is_other, lengths_before)], after[np.repeat(~is_other, lengths)]
+        ends = np.cumsum(np.where(is_other, 0, lengths))
+        is_other[np.searchsorted(ends, np.flatnonzero(before != after), side="right")] = True
         found[self.kept] = is_other[::2] | is_other[1::2]
         return found
 
@@ -131,7 +138,7 @@ class Rows:
     def of(cls, few: Few, rounds: int, several: Sequence[Sequence[Numbers]], firsts: Numbers) -> "Rows | None":
         """Of some errors of the sources of each piece; None if there are too many. rounds: of the block; firsts: the first error of each source
         after the edit."""
-        sources, some = joined(few.sources(few.rounds)), [it for its in several for it in its]
+        sources, some = joined(few.own_sources), [it for its in several for it in its]
         number = np.repeat(np.arange(len(sources)), [len(its) for its in some])
         piece = np.repeat(np.arange(len(several)), [len(its) for its in several])[number]
         in_block, more = (piece > 0) & (piece < len(several) - 1), rounds - few.rounds
@@ -165,7 +172,7 @@ class Edit:
     def of(cls, change: Change, texts: tuple[BlockText, BlockText], rounds: int, few: int, qubits: int, observables: int) -> "Edit":
         """Asks the program about both texts at once."""
         with ThreadPoolExecutor(1) as thread:
-            old = thread.submit(Few.of, texts[0], few, qubits, observables)
+            old = thread.submit(Few.of, texts[0], few, qubits, observables, True)
             new = Few.of(texts[1], few, qubits, observables)
         return cls(change, texts, rounds, old.result(), new)
 
@@ -173,14 +180,19 @@ class Edit:
         """Whether other rounds are as these."""
         return self.new.rounds == self.rounds or self.old.is_periodic() and self.new.is_periodic()
 
-    def renewed(self, model: "ErrorModel", causes: Causes, text: str) -> "ErrorModel | None":
+    def renewed(self, model: "ErrorModel", causes: Causes) -> "ErrorModel | None":
         """The model in which errors flip what they flip now; None if they are not those from before the edit, or if too many flip others."""
-        before, after = self.old.sources(self.rounds), self.new.sources(self.rounds)
-        if not are_alike(causes.sources, joined(before)) or not are_alike(joined(of_kept(before)), joined(of_kept(after))):
+        after = self.new.sources(self.rounds)
+        sources = Sources.of(joined(after))
+        # Where the errors of each piece begin, before the edit and after it.
+        starts_before = np.array([0, *np.searchsorted(causes.sources.lines, np.array(self.texts[0].cuts) + 1), len(causes.sources.its)])
+        starts = starts_of(np.array([len(its) for its in after]))
+        pieces = enumerate(zip(itertools.pairwise(starts_before.tolist()), after))
+        if not all(is_own(number, after) or causes.sources.are_like(*bounds, Sources.of(its)) for number, (bounds, its) in pieces):
             return None
-        firsts, parts = (starts_of(np.array([sum(it.times() for it in its) for its in pieces])) for pieces in (after, before))
+        firsts, parts = sources.firsts[starts], causes.sources.firsts[starts_before]
         columns = columns_of_rounds(*self.texts, self.new.rounds, model.num_observables)
-        rows = Rows.of(self.new, self.rounds, self.errors(columns), starts_of(np.array([it.times() for it in joined(after)], dtype=np.int64)))
+        rows = Rows.of(self.new, self.rounds, self.errors(columns), sources.firsts)
         if rows is None:
             return None
         mechanisms = causes.mechanisms.astype(np.int64)
@@ -190,21 +202,19 @@ class Edit:
         renewal = Renewal.of_rows(model, rows.indptr, rows.indices)
         if renewal is None:
             return None
-        pieces = np.split(mechanisms, parts[1:-1])
-        left = pieces[2:-1:2]
-        for number in range(2, len(pieces) - 1, 2):
-            pieces[number] = np.full(firsts[number + 1] - firsts[number], -1)
-        mechanisms = np.concatenate(pieces)
+        its = np.split(mechanisms, parts[1:-1])
+        left = its[2:-1:2]
+        for number in range(2, len(its) - 1, 2):
+            its[number] = np.full(firsts[number + 1] - firsts[number], -1)
+        mechanisms = np.concatenate(its)
         gone = np.concatenate([*left, mechanisms[rows.errors]])
         mechanisms[rows.errors] = renewal.mechanisms
-        found = renewal.model_of(mechanisms, gone, joined(after), text)
-        if placing(self.change.old) == placing(self.change.new):
-            return found
-        return replace(found, coordinates=detector_coordinates("\n".join(quiet_lines(self.texts[1].lines))))
+        found = renewal.model_of(mechanisms, gone, sources, self.change.after)
+        return found if placing(self.change.old) == placing(self.change.new) else replace(found, coordinates=coordinates_in(self.change.after))
 
     def errors(self, columns: Numbers) -> list[list[Numbers]]:
         """Which errors of the sources of each piece flip something else in few rounds, or are new. columns: those of `columns_of_rounds`."""
-        pieces = self.new.sources(self.new.rounds)
+        pieces = self.new.own_sources
         others = iter(errors_at(joined(of_kept(pieces)), self.new.marks_that_differ(self.old, columns)))
         return [[np.arange(source.times()) if is_own(number, pieces) else next(others) for source in its] for number, its in enumerate(pieces)]
 
@@ -224,18 +234,13 @@ def joined(pieces: Sequence[list[Source]]) -> list[Source]:
     return [source for its in pieces for source in its]
 
 
-def are_alike(some: Sequence[Source], others: Sequence[Source]) -> bool:
-    """Whether sources have the same errors."""
-    return [(its.letters, its.times()) for its in some] == [(its.letters, its.times()) for its in others]
-
-
-def renewed_block(model: "ErrorModel", causes: Causes, change: Change, text: str, qubits: int) -> "ErrorModel | None":
+def renewed_block(model: "ErrorModel", causes: Causes, change: Change, qubits: int) -> "ErrorModel | None":
     """The model of a text, from that of the text before an edit in a block; None if it is in none, or if few rounds don't say what it does."""
     found = texts_of(change)
     if found is None:
         return None
     old, new, rounds = found
-    if observables_in(quiet_lines(old.lines)) != observables_in(quiet_lines(new.lines)):
+    if observables_in(change.old) != observables_in(change.new) and observables_in(change.before.lines) != observables_in(change.after.lines):
         return None
     least = max(rounds if its.least is None else its.least for its in (old, new))
     for few in sorted({min(max(least, its), rounds) for its in FEW}):
@@ -245,5 +250,5 @@ def renewed_block(model: "ErrorModel", causes: Causes, change: Change, text: str
             # Whether coins decide something in all rounds too is found with all of them.
             return None
         if edit.says_all():
-            return edit.renewed(model, causes, text)
+            return edit.renewed(model, causes)
     return None

@@ -6,6 +6,7 @@ as far as what is declared from the edit on names no records before the cut, and
 those errors flip something else that flip, or flipped, something whose region just in front of the edit is another.
 """
 
+import itertools
 import re
 from concurrent.futures import ThreadPoolExecutor
 from dataclasses import dataclass, replace
@@ -15,16 +16,14 @@ from typing import TYPE_CHECKING
 import numpy as np
 
 from stabsim.formats.combining import Numbers, columns_of
-from stabsim.noise.causes import Causes
-from stabsim.noise.changed_lines import (
-    DECLARING, Change, Counts, counts_of, counts_of_line, cut_with, list_begin, observables_in, placing, quiet_lines, reach_of, with_blocks,
-)
+from stabsim.noise.causes import Causes, Sources
+from stabsim.noise.changed_lines import Change, coordinates_in, observables_in, placing
 from stabsim.noise.flipped import Bits, Flipped
-from stabsim.noise.marking import Source
+from stabsim.noise.known_lines import DETECTORS, REACH, ROUNDS
+from stabsim.noise.line_facts import Counts, quiet_lines
 from stabsim.noise.pieces import Piece
-from stabsim.noise.renewal import Renewal, mechanisms_with, moved_by, renumbered
+from stabsim.noise.renewal import Renewal, mechanisms_with, renumbered
 from stabsim.noise.sourced import by_source, errors_at, rows_of_errors
-from stabsim.text.coordinates import detector_coordinates
 
 if TYPE_CHECKING:
     from stabsim.noise.models import ErrorModel
@@ -50,19 +49,15 @@ class Edit:
     observables: int
 
     @cached_property
-    def quiet(self) -> tuple[list[str], list[str], list[str]]:
-        """Without noise: the lines that the edit took out, those that it put in, and those after it."""
-        return quiet_lines(self.change.old), quiet_lines(self.change.new), quiet_lines(self.change.below)
-
-    @cached_property
     def counts(self) -> tuple[Counts, Counts]:
         """What the lines make that the edit took out, and those that it put in."""
-        return counts_of(self.quiet[0]), counts_of(self.quiet[1])
+        its = self.change
+        return its.before.counts(its.first, its.old_end), its.after.counts(its.first, its.new_end)
 
     @cached_property
     def detectors_above(self) -> int:
         """How many detectors are declared before the edit."""
-        return counts_of(quiet_lines(self.change.before[: self.change.first])).detectors
+        return self.change.before.counts(0, self.change.first).detectors
 
     @cached_property
     def detectors_after(self) -> int:
@@ -81,32 +76,27 @@ class Edit:
     def looks(self) -> tuple[list[int], int] | None:
         """What is declared from the edit on and may look at records before it in another way, by its numbers after the edit, and how many
         records before the edit may be meant. None if a block does so."""
-        found: list[int] = []
-        reach = 0
-        for lines in self.quiet[:2]:
-            records = 0
-            for line in lines:
-                reach = max(reach, reach_of(line) - records) if line.startswith(DECLARING) else reach
-                records += counts_of_line(line).records
+        its, known = self.change, self.change.after
+        reach = max(its.before.reach(its.first, its.old_end), known.reach(its.first, its.new_end))
         if self.counts[0].records == self.counts[1].records:
-            return found, reach
-        fewest = min(its.records for its in self.counts)
-        records, number = 0, self.detectors_above + self.counts[1].detectors
-        for line in self.quiet[2]:
-            its = counts_of_line(line)
-            if line.startswith(DECLARING) and reach_of(line) > records:
-                # In a block each round is counted once here, so nothing is overlooked.
-                if any("{" in it for it in self.quiet[2]):
-                    return None
-                reach = max(reach, reach_of(line) - records - fewest)
-                found += [number] if its.detectors else [self.detectors_after + it for it in observables_in([line])]
-            records, number = records + its.records, number + its.detectors
-        return found, reach
+            return [], reach
+        below = known.facts[its.new_end :]
+        records = known.records_before[its.new_end : -1] - known.records_before[its.new_end]
+        far = np.flatnonzero(below[:, REACH] > records)
+        if not len(far):
+            return [], reach
+        # In a block each round is counted once here, so nothing is overlooked.
+        if below[:, ROUNDS].any():
+            return None
+        reach = max(reach, int((below[far, REACH] - records[far]).max()) - min(count.records for count in self.counts))
+        numbers = self.detectors_above + self.counts[1].detectors + np.cumsum(below[:, DETECTORS]) - 1
+        added = observables_in([known.lines[its.new_end + at] for at in far.tolist()])
+        return [*numbers[far[below[far, DETECTORS] > 0]].tolist(), *(self.detectors_after + it for it in added)], reach
 
     def declared(self) -> list[int]:
         """What the new lines declare, and what observables they add to, by its numbers."""
         first = self.detectors_above
-        return [*range(first, first + self.counts[1].detectors), *(self.detectors_after + it for it in observables_in(self.quiet[1]))]
+        return [*range(first, first + self.counts[1].detectors), *(self.detectors_after + it for it in observables_in(self.change.new))]
 
 
 @dataclass(frozen=True)
@@ -114,30 +104,31 @@ class Asked:
     """What the program says of an edit and a cut in front of it.
 
     cut: the line that it is in front of; old, new: of the texts before and after the edit, the marks at the cut first, and those in front of
-    the edit from old_edit and new_edit on; between, added: the errors of the new text from the cut to the edit, and those of its new lines.
+    the edit after them, of the new text from new_edit on; between, added: the errors of the new text from the cut to the edit, and those of
+    its new lines.
     """
 
     cut: int
     old: Flipped
     new: Flipped
-    old_edit: int
     new_edit: int
-    between: list[Source]
-    added: list[Source]
+    between: Sources
+    added: Sources
 
     @classmethod
     def of(cls, edit: Edit, cut: int) -> "Asked":
         """Asks the program about both texts at once."""
-        first, mark = edit.change.first, " ".join(["I", *map(str, range(edit.qubits))])
-        above, below = quiet_lines(edit.change.before[:cut]), edit.quiet[2]
-        between = Piece.of(edit.change.after[cut:first], cut + 1, edit.qubits)
+        change, mark = edit.change, " ".join(["I", *map(str, range(edit.qubits))])
+        first, known = change.first, change.before
+        above, below = known.quiet_text(0, cut), change.after.quiet_text(change.new_end, len(change.after.lines))
+        between = Piece.of(known, cut, first, edit.qubits)
         number = edit.qubits + between.marks
-        added = Piece.of(edit.change.new, first + 1, number + edit.qubits)
-        old_lines = [*above, mark, *quiet_lines(edit.change.before[cut:first]), mark, *edit.quiet[0], *below]
+        added = Piece.of(change.after, first, change.new_end, number + edit.qubits)
+        old_lines = [above, mark, known.quiet_text(cut, first), mark, known.quiet_text(first, change.old_end), below]
         with ThreadPoolExecutor(1) as thread:
             old = thread.submit(Flipped.of, old_lines, edit.detectors, edit.observables)
-            new = Flipped.of([*above, mark, *between.lines, mark, *added.lines, *below], edit.detectors_after, edit.observables)
-        return cls(cut, old.result(), new, edit.qubits, number, between.sources, added.sources)
+            new = Flipped.of([above, mark, between.text, mark, added.text, below], edit.detectors_after, edit.observables)
+        return cls(cut, old.result(), new, number, Sources.of(between.sources), Sources.of(added.sources))
 
     def is_as_before(self, edit: Edit) -> bool:
         """Whether all regions at the cut are as they were; in front of all lines nothing could be another."""
@@ -149,7 +140,7 @@ class Asked:
         """What may have another region in front of the edit, or look at other records before it, bool (detectors + observables,), by its
         numbers after the edit."""
         width = edit.detectors_after + edit.observables
-        lines, old = self.old.pairs(self.old_edit, edit.qubits)
+        lines, old = self.old.pairs(edit.qubits, edit.qubits)
         columns = edit.columns(old)
         again = self.new.pairs(self.new_edit, edit.qubits)
         found = np.zeros(width, dtype=np.bool_)
@@ -165,10 +156,9 @@ class Renewing:
 
     def __init__(self, model: "ErrorModel", causes: Causes, edit: Edit) -> None:
         self.model, self.causes, self.edit = model, causes, edit
-        self.lines = [source.line - 1 for source in causes.sources]
-        self.firsts = causes.firsts
-        first = edit.change.first
-        self.begin, self.end = np.searchsorted(self.lines, [first, first + len(edit.change.old)]).tolist()
+        self.lines = causes.sources.lines - 1
+        self.firsts = causes.sources.firsts
+        self.begin, self.end = np.searchsorted(self.lines, [edit.change.first, edit.change.old_end]).tolist()
 
     def errors_from(self, cut: int) -> int:
         """How many errors there were from a cut to the end of the edit."""
@@ -184,23 +174,22 @@ class Renewing:
         errors = np.flatnonzero(np.append(self.flip(is_meant), False)[self.causes.mechanisms[: self.firsts[self.begin]]])
         if not len(errors):
             return max(self.edit.change.first - LINES_BEFORE, 0)
-        return max(self.lines[int(np.searchsorted(self.firsts, errors[0], side="right")) - 1] - NOISE_AROUND, 0)
+        return max(int(self.lines[np.searchsorted(self.firsts, errors[0], side="right") - 1]) - NOISE_AROUND, 0)
 
     def near(self) -> Numbers:
         """Errors on the edit's qubits in instructions around it."""
-        qubits = {qubit for line in (*self.edit.quiet[0], *self.edit.quiet[1]) if not line.startswith("DETECTOR") for qubit in NUMBER.findall(line)}
-        around = dict.fromkeys(self.lines)
-        place = sum(line < self.edit.change.first for line in around)
-        meant = set(list(around)[max(place - NOISE_AROUND, 0) : place + NOISE_AROUND])
-        found = [np.zeros(0, dtype=np.int64)]
+        change = self.edit.change
+        qubits = {qubit for line in quiet_lines([*change.old, *change.new]) if not line.startswith("DETECTOR") for qubit in NUMBER.findall(line)}
+        around = np.unique(self.lines)
+        place = int(np.searchsorted(around, change.first))
+        meant = np.isin(self.lines, around[max(place - NOISE_AROUND, 0) : place + NOISE_AROUND])
+        found, sources = [np.zeros(0, dtype=np.int64)], self.causes.sources.its
         # The errors of a channel have the same targets.
-        last: tuple[tuple[str, ...], Numbers] = (), found[0]
-        for source, line, first in zip(self.causes.sources, self.lines, self.firsts.tolist()):
-            if line in meant:
-                if last[0] is not source.targets:
-                    is_on = np.array([it in qubits for it in source.targets]).reshape(len(source.marks), -1).any(axis=1)
-                    last = source.targets, np.flatnonzero(np.tile(is_on, source.times() // len(is_on)))
-                found.append(first + last[1])
+        for _, run in itertools.groupby(np.flatnonzero(meant).tolist(), lambda it: (id(sources[it].targets), self.lines[it])):
+            its = list(run)
+            source = sources[its[0]]
+            is_on = np.array([it in qubits for it in source.targets]).reshape(len(source.marks), -1).any(axis=1)
+            found.append((self.firsts[its][:, None] + np.flatnonzero(np.tile(is_on, source.times() // len(is_on)))).ravel())
         return np.concatenate(found)
 
     def flip(self, is_meant: Bits) -> Bits:
@@ -209,30 +198,27 @@ class Renewing:
         found[mechanisms_with(self.model, is_meant)] = True
         return found
 
-    def with_rows(self, asked: Asked, text: str) -> "ErrorModel | None":
+    def with_rows(self, asked: Asked) -> "ErrorModel | None":
         """The model with what errors flip now."""
         start = int(np.searchsorted(self.lines, asked.cut))
-        kept = self.causes.sources[start : self.begin]
-        if [(its.letters, its.times()) for its in kept] != [(its.letters, its.times()) for its in asked.between]:
+        if not self.causes.sources.are_like(start, self.begin, asked.between):
             return None
         others = asked.others(self.edit)
         errors = self.errors_that_differ(asked, start, others)
-        firsts = self.firsts[start : self.begin + 1] - self.firsts[start]
-        parts = [(source, np.arange(source.times())) for source in asked.added]
-        rows = rows_of_errors([*by_source(asked.between, errors, firsts), *parts], asked.new)
-        return self.renewed(asked, errors + self.firsts[start], rows, text)
+        parts = [(source, np.arange(source.times())) for source in asked.added.its]
+        rows = rows_of_errors([*by_source(asked.between.its, errors, asked.between.firsts), *parts], asked.new)
+        return self.renewed(asked, errors + self.firsts[start], rows)
 
     def errors_that_differ(self, asked: Asked, start: int, others: Bits) -> Numbers:
         """The errors between the cut and the edit that flip, or flipped, something of others, counted from the cut on."""
-        firsts = (self.firsts[start : self.begin] - self.firsts[start]).tolist()
-        now = [first + its for first, its in zip(firsts, errors_at(asked.between, asked.new.marks_that_flip(others)))]
+        now = [first + its for first, its in zip(asked.between.firsts.tolist(), errors_at(asked.between.its, asked.new.marks_that_flip(others)))]
         columns = self.edit.columns(np.arange(self.edit.detectors + self.edit.observables))
         before = self.flip((columns < 0) | others[columns])
         mechanisms = self.causes.mechanisms[self.firsts[start] : self.firsts[self.begin]]
         found: Numbers = np.unique(np.concatenate([*now, np.flatnonzero(np.append(before, False)[mechanisms])]))
         return found
 
-    def renewed(self, asked: Asked, errors: Numbers, rows: tuple[Numbers, Numbers], text: str) -> "ErrorModel | None":
+    def renewed(self, asked: Asked, errors: Numbers, rows: tuple[Numbers, Numbers]) -> "ErrorModel | None":
         """The model in which these errors and the new ones flip these rows."""
         first, change = int(self.firsts[self.begin]), self.edit.change
         model, mechanisms = self.renumbered()
@@ -242,12 +228,9 @@ class Renewing:
         above, below = mechanisms[:first].copy(), mechanisms[self.firsts[self.end] :]
         gone = np.concatenate([above[errors], mechanisms[first : self.firsts[self.end]]])
         above[errors] = renewal.mechanisms[: len(errors)]
-        moved = moved_by(self.causes.sources[self.end :], len(change.new) - len(change.old))
-        sources = (*self.causes.sources[: self.begin], *asked.added, *moved)
-        found = renewal.model_of(np.concatenate([above, renewal.mechanisms[len(errors) :], below]), gone, sources, text)
-        if placing(change.old) == placing(change.new):
-            return found
-        return replace(found, coordinates=detector_coordinates("\n".join(quiet_lines(self.edit.change.after))))
+        sources = self.causes.sources.edited(self.begin, self.end, asked.added, len(change.new) - len(change.old))
+        found = renewal.model_of(np.concatenate([above, renewal.mechanisms[len(errors) :], below]), gone, sources, change.after)
+        return found if placing(change.old) == placing(change.new) else replace(found, coordinates=coordinates_in(change.after))
 
     def renumbered(self) -> tuple["ErrorModel", Numbers]:
         """`renumbered` of the model, with detectors numbered as after the edit."""
@@ -258,20 +241,20 @@ class Renewing:
         return renumbered(self.model, mechanisms, columns, self.edit.detectors_after)
 
 
-def renewed_circuit(model: "ErrorModel", causes: Causes, change: Change, text: str, qubits: int) -> "ErrorModel | None":
+def renewed_circuit(model: "ErrorModel", causes: Causes, change: Change, qubits: int) -> "ErrorModel | None":
     """The model of a text, from that of the text before an edit of the circuit; None if it is not seen how, or if too much is another."""
-    edit = Edit(with_blocks(change), qubits, model.num_detectors, model.num_observables)
-    if observables_in(edit.quiet[0]) != observables_in(edit.quiet[1]) or edit.looks is None:
+    edit = Edit(change.with_blocks(), qubits, model.num_detectors, model.num_observables)
+    if observables_in(edit.change.old) != observables_in(edit.change.new) or edit.looks is None:
         return None
     renewing = Renewing(model, causes, edit)
     # A region begins further back than the records that its detector names, by about as much.
-    cut = cut_with(edit.change.before, edit.change.first, 2 * edit.looks[1], renewing.first_cut())
+    cut = edit.change.before.cut(edit.change.first, 2 * edit.looks[1], renewing.first_cut())
     for _ in range(MOST_CUTS):
         # If most errors are asked for again, it is as well to make the model anew.
         if renewing.errors_from(cut) > max(MOST_ASKED, len(causes.mechanisms) // 2):
             return None
         asked = Asked.of(edit, cut)
         if asked.is_as_before(edit):
-            return renewing.with_rows(asked, text)
-        cut = list_begin(edit.change.before, max(0, 2 * cut - edit.change.first - LINES_BEFORE))
+            return renewing.with_rows(asked)
+        cut = edit.change.before.outermost(max(0, 2 * cut - edit.change.first - LINES_BEFORE)).begin
     return None

@@ -20,13 +20,11 @@ from numpy.typing import NDArray
 
 from stabsim.errors import Refused
 from stabsim.formats.combining import Chances, Numbers, odd, rows_of, starts_of
-from stabsim.noise.causes import Causes
-from stabsim.noise.changed_lines import (
-    ALWAYS_QUIET, LOOKBACK, Change, counts_of, counts_of_line, cut_with, detector_numbers, is_detector, list_begin, list_end, quiet_lines,
-    tally,
-)
+from stabsim.noise.causes import Causes, Sources
+from stabsim.noise.changed_lines import Change, is_detector
 from stabsim.noise.flipped import Flipped
-from stabsim.noise.marking import Source
+from stabsim.noise.known_lines import ROUNDS, SHIFT, Around
+from stabsim.noise.line_facts import LOOKBACK, quiet_lines, records_of_line
 from stabsim.noise.pieces import Piece
 from stabsim.noise.renewal import NONE, Renewal, mechanisms_with, renumbered
 from stabsim.noise.sourced import errors_at, flips_of
@@ -37,8 +35,6 @@ if TYPE_CHECKING:
 
 # How many times as many records as the new detectors may name are made from a cut on, before all of the text is looked at.
 FURTHER = (2, 8)
-# Lines that have no part in what errors flip, beside those of the new detectors.
-QUIET = (*ALWAYS_QUIET, "QUBIT_COORDS")
 # How many rounds of a block are asked for at least.
 FEWEST_ROUNDS = 3
 
@@ -56,7 +52,8 @@ class Declared:
     @classmethod
     def of(cls, change: Change) -> "Declared | None":
         """The edit; None if it is of something else too, or of blocks."""
-        if any("{" in line or "}" in line for line in (*change.old, *change.new)) or others(change.old) != others(change.new):
+        others = [[line for line in lines if not is_detector(line)] for lines in (change.old, change.new)]
+        if others[0] != others[1] or any("{" in line or "}" in line for line in others[0]):
             return None
         before, after = records_named(change.old), records_named(change.new)
         same = SequenceMatcher(None, before, after, autojunk=False).get_matching_blocks()
@@ -65,21 +62,14 @@ class Declared:
         return cls(change, sorted(gone), sorted(new), -min((min(after[it], default=0) for it in new), default=0))
 
     @cached_property
-    def opened(self) -> list[list[int]]:
-        """The lists that are open in front of the edit, the outermost first: how many rounds each has, and how many detectors so far."""
-        opened = [[1, 0]]
-        tally(self.change.above, opened)
-        return opened
-
-    @cached_property
     def numbers_before(self) -> Numbers:
         """The numbers of all detectors that the old lines declared, a row for each round, int64 (rounds, detectors)."""
-        return detector_numbers(self.opened, self.change.old, self.change.below)
+        return self.change.before.detector_numbers(self.change.first, self.change.old_end)
 
     @cached_property
     def numbers(self) -> Numbers:
         """The same of the new lines."""
-        return detector_numbers(self.opened, self.change.new, self.change.below)
+        return self.change.after.detector_numbers(self.change.first, self.change.new_end)
 
     @cached_property
     def new_numbers(self) -> Numbers:
@@ -87,34 +77,21 @@ class Declared:
         return self.numbers[:, self.new].ravel()
 
     @cached_property
-    def begin(self) -> int:
-        """Where the outermost block around the edit begins, or the edit itself."""
-        return list_begin(self.change.before, self.change.first)
-
-    @cached_property
-    def end(self) -> int:
-        """Where that block ends, or the edit itself."""
-        return list_end(self.change.after, self.change.first + len(self.change.new))
-
-    @cached_property
-    def rounds(self) -> int:
-        """How many rounds that block has, 1 if there is none."""
-        return self.opened[1][0] if self.opened[1:] else 1
+    def around(self) -> Around:
+        """The outermost block around the edit after it, or the edit itself, as a block of one round that begins and ends outside of it."""
+        return self.change.after.outermost(self.change.first)._replace(end=self.change.after.outermost(self.change.new_end).end)
 
     @cached_property
     def new_each_round(self) -> int:
         """How many detectors of each of these rounds are new."""
-        return len(self.new_numbers) // self.rounds
+        return len(self.new_numbers) // self.around.rounds
 
     def few_rounds(self) -> int:
         """How many of these rounds it takes until new detectors name no record in front of the block; all, if records control gates."""
-        if self.rounds <= FEWEST_ROUNDS:
-            return self.rounds
-        block = [line for line in self.change.after[self.begin + 1 : self.end - 1] if not line.lstrip().startswith(QUIET)]
-        if any("rec[" in line for line in block):
-            return self.rounds
-        records = counts_of(quiet_lines(block)).records
-        return min(self.rounds, max(FEWEST_ROUNDS, 1 - -self.reach // max(records, 1)))
+        block, known = (self.around.begin + 1, self.around.end), self.change.after
+        if self.around.rounds <= FEWEST_ROUNDS or known.is_fed_back(*block):
+            return self.around.rounds
+        return min(self.around.rounds, max(FEWEST_ROUNDS, 1 - -self.reach // max(known.counts(*block).records, 1)))
 
     def columns(self, detectors: int, observables: int) -> tuple[Numbers, int]:
         """The number of each detector and observable after the edit, -1 of one that is no more; and how many detectors there are."""
@@ -128,7 +105,9 @@ class Declared:
 
     def coordinates(self, before: Chances, columns: Numbers, detectors: int) -> Chances:
         """The coordinates of all detectors, from those before the edit."""
-        own = detector_coordinates("\n".join([*shifts(self.change.above), *self.change.new, *shifts(self.change.below)]))
+        its, known = self.change, self.change.after
+        shifts = [known.picked(0, its.first, ROUNDS, SHIFT), known.picked(its.new_end, len(known.lines), ROUNDS, SHIFT)]
+        own = detector_coordinates("\n".join([*shifts[0], *its.new, *shifts[1]]))
         found = np.full((detectors, max(before.shape[1], own.shape[1])), np.nan)
         kept = np.flatnonzero(columns[: len(before)] >= 0)
         found[columns[kept], : before.shape[1]] = before[kept]
@@ -136,23 +115,14 @@ class Declared:
         found[self.numbers.ravel(), : own.shape[1]] = own
         return found[:, : int(np.flatnonzero(~np.isnan(found).all(axis=0)).max(initial=-1)) + 1]
 
-    def moved(self, sources: Sequence[Source]) -> tuple[Source, ...]:
+    def moved(self, sources: Sources) -> Sources:
         """Sources of the text before the edit by their lines after it."""
-        first, last = self.change.first, self.change.first + len(self.change.old)
+        first, lines = self.change.first, sources.lines.copy()
+        lines[lines > self.change.old_end] += len(self.change.new) - len(self.change.old)
         before, after = ([first + 1 + at for at, line in enumerate(its) if not is_detector(line)] for its in (self.change.old, self.change.new))
-        line_after = dict(zip(before, after))
-        by = len(self.change.new) - len(self.change.old)
-        return tuple(it if it.line <= first else it._replace(line=it.line + by if it.line > last else line_after[it.line]) for it in sources)
-
-
-def shifts(lines: Sequence[str]) -> list[str]:
-    """Lines that shift coordinates, and those that begin and end blocks."""
-    return [line for line in lines if "SHIFT_COORDS" in line or line.endswith(("{", "}"))]
-
-
-def others(lines: Sequence[str]) -> list[str]:
-    """Lines that declare no detector."""
-    return [line for line in lines if not is_detector(line)]
+        inside = np.flatnonzero((sources.lines > first) & (sources.lines <= self.change.old_end))
+        lines[inside] = np.array(after, dtype=np.int64)[np.searchsorted(before, sources.lines[inside])]
+        return replace(sources, lines=lines)
 
 
 def records_named(lines: Sequence[str]) -> list[tuple[int, ...]]:
@@ -164,11 +134,11 @@ def records_named(lines: Sequence[str]) -> list[tuple[int, ...]]:
             for lookback in LOOKBACK.findall(line):
                 named ^= {records - int(lookback)}
             found.append(tuple(sorted(named)))
-        records += counts_of_line(line).records
+        records += records_of_line(line)
     return found
 
 
-def renewed_detectors(model: "ErrorModel", causes: Causes, change: Change, text: str, qubits: int) -> "ErrorModel | None":
+def renewed_detectors(model: "ErrorModel", causes: Causes, change: Change, qubits: int) -> "ErrorModel | None":
     """The model of a text, from that of the text before an edit of detectors; None if more was edited, or the program refuses a new one."""
     edit = Declared.of(change)
     if edit is None:
@@ -184,7 +154,7 @@ def renewed_detectors(model: "ErrorModel", causes: Causes, change: Change, text:
         return None
     gone = mechanisms[errors]
     mechanisms[errors] = renewal.mechanisms
-    found = renewal.model_of(mechanisms, gone, edit.moved(causes.sources), text)
+    found = renewal.model_of(mechanisms, gone, edit.moved(causes.sources), change.after)
     return replace(found, coordinates=edit.coordinates(model.coordinates, columns, detectors))
 
 
@@ -200,12 +170,12 @@ class Flips:
         """Asks the program; None if it refuses one of them."""
         if not edit.new:
             return cls(NONE, NONE)
-        for rounds, times in itertools.product(sorted({edit.few_rounds(), edit.rounds}), FURTHER):
-            cut = cut_with(edit.change.before, edit.begin, times * edit.reach, edit.begin)
+        for rounds, times in itertools.product(sorted({edit.few_rounds(), edit.around.rounds}), FURTHER):
+            cut = edit.change.before.cut(edit.around.begin, times * edit.reach, edit.around.begin)
             found = cls.asked(edit, causes, Part(cut, rounds), qubits)
-            if found is not None or not cut and rounds == edit.rounds:
+            if found is not None or not cut and rounds == edit.around.rounds:
                 return found
-        return cls.asked(edit, causes, Part(0, edit.rounds), qubits)
+        return cls.asked(edit, causes, Part(0, edit.around.rounds), qubits)
 
     @classmethod
     def asked(cls, edit: Declared, causes: Causes, part: "Part", qubits: int) -> "Flips | None":
@@ -214,19 +184,19 @@ class Flips:
         if table is None or part.cut and len(table.pairs(0, qubits)[0]):
             return None
         last_round = (part.rounds - 1) * edit.new_each_round
-        if part.rounds < edit.rounds and (table.pairs(block_mark, qubits)[1] >= last_round).any():
+        if part.rounds < edit.around.rounds and (table.pairs(block_mark, qubits)[1] >= last_round).any():
             return None
-        start = int(np.searchsorted([source.line for source in causes.sources], part.cut + 1))
-        known = causes.sources[start : start + len(sources)]
-        if [(its.letters, its.times()) for its in known] != [(its.letters, part.times_in_all(its, edit)) for its in sources]:
+        start = int(np.searchsorted(causes.sources.lines, part.cut + 1))
+        times = np.where(sources.lines > edit.around.begin, sources.times // part.rounds * edit.around.rounds, sources.times)
+        if not causes.sources.are_like(start, start + len(times), replace(sources, times=times)):
             return None
-        several = errors_at(sources, table.marks_that_flip(np.ones(table.num_detectors, dtype=np.bool_)))
-        places, columns = flips_of(list(zip(sources, several)), table)
-        number = np.repeat(np.arange(len(sources)), [len(its) for its in several])[places]
-        each = np.array([source.times() // part.rounds for source in sources], dtype=np.int64)[number]
-        found = np.concatenate([NONE, *several])[places] + causes.firsts[start + number]
+        several = errors_at(sources.its, table.marks_that_flip(np.ones(table.num_detectors, dtype=np.bool_)))
+        places, columns = flips_of(list(zip(sources.its, several)), table)
+        number = np.repeat(np.arange(len(several)), [len(its) for its in several])[places]
+        each = (sources.times // part.rounds)[number]
+        found = np.concatenate([NONE, *several])[places] + causes.sources.firsts[start + number]
         # What later rounds do, of the last one's.
-        last, later = np.flatnonzero(columns >= last_round), np.arange(1, edit.rounds - part.rounds + 1)[:, None]
+        last, later = np.flatnonzero(columns >= last_round), np.arange(1, edit.around.rounds - part.rounds + 1)[:, None]
         found = np.concatenate([found, (found[last] + later * each[last]).ravel()])
         return cls(found, edit.new_numbers[np.concatenate([columns, (columns[last] + later * edit.new_each_round).ravel()])])
 
@@ -250,26 +220,19 @@ class Part:
     cut: int
     rounds: int
 
-    def table(self, edit: Declared, qubits: int) -> tuple[list[Source], int, Flipped | None]:
+    def table(self, edit: Declared, qubits: int) -> tuple[Sources, int, Flipped | None]:
         """Its errors; the first mark of those of all qubits in front of the block; and what those marks, marks of all qubits at the cut, which
         are the first, and those of its errors flip of the detectors that are new: None if the program refuses the text."""
-        change, begin = edit.change, edit.begin - self.cut
-        lines = ["" if it.lstrip().startswith(QUIET) else it for it in change.after[self.cut : edit.end]]
+        change, known = edit.change, edit.change.after
         places = [change.first + at for at, line in enumerate(change.new) if is_detector(line)]
-        for place in (places[it] for it in edit.new):
-            lines[place - self.cut] = change.after[place]
-        if self.rounds < edit.rounds:
-            lines[begin] = f"REPEAT {self.rounds} {{"
+        declared = {places[it] for it in edit.new}
         mark = " ".join(["I", *map(str, range(qubits))])
-        before = Piece.of(lines[:begin], self.cut + 1, qubits)
+        before = Piece.of(known, self.cut, edit.around.begin, qubits, declared)
         block_mark = qubits + before.marks
-        inside = Piece.of(lines[begin:], edit.begin + 1, block_mark + qubits)
+        rounds = self.rounds if edit.around.begin < change.first else None
+        inside = Piece.of(known, edit.around.begin, edit.around.end + 1, block_mark + qubits, declared, rounds)
         try:
-            table = Flipped.of([mark, *before.lines, mark, *inside.lines], self.rounds * edit.new_each_round, 0)
+            table = Flipped.of([mark, before.text, mark, inside.text], self.rounds * edit.new_each_round, 0)
         except Refused:
-            return [], 0, None
-        return [*before.sources, *inside.sources], block_mark, table
-
-    def times_in_all(self, source: Source, edit: Declared) -> int:
-        """How often an error of it is met in all rounds of the block."""
-        return source.times() // self.rounds * edit.rounds if source.line > edit.begin else source.times()
+            table = None
+        return Sources.of([*before.sources, *inside.sources]), block_mark, table

@@ -7,9 +7,9 @@ import itertools
 from collections.abc import Sequence
 from dataclasses import dataclass
 
-from stabsim.noise.changed_lines import counts_of, counts_of_line, reach_of
+from stabsim.noise.known_lines import KnownLines
+from stabsim.noise.line_facts import reach_of
 from stabsim.page.edits import Edit
-from stabsim.page.noise import quiet_lines
 
 
 @dataclass(frozen=True)
@@ -70,10 +70,8 @@ def outline_of(circuit: str) -> Outline:
     lines, begins = lines_and_begins(circuit)
     items = [lines[first:end] for first, end in itertools.pairwise(begins)]
     reaches = [reach_of("\n".join(item)) for item in reversed(items)]
-    counts = [counts_of(list(quiet_lines(item))) if len(item) > 1 else counts_of_line(item[0]) for item in items]
-    return Outline(lines, begins, list(itertools.accumulate(reaches, max, initial=0))[::-1],
-                   list(itertools.accumulate((it.records for it in counts), initial=0)),
-                   list(itertools.accumulate((it.detectors for it in counts), initial=0)))
+    records, detectors, _ = KnownLines("\n".join(lines)).made[1][begins].T.tolist()
+    return Outline(lines, begins, list(itertools.accumulate(reaches, max, initial=0))[::-1], records, detectors)
 
 
 @functools.lru_cache(maxsize=2)

@@ -1,7 +1,7 @@
 """The noise in the page's circuit, as a session writes it: channels, and chances of wrong records."""
 
 import re
-from collections.abc import Callable, Iterable, Iterator
+from collections.abc import Callable
 
 import stabsim
 from stabsim.text import names
@@ -42,9 +42,5 @@ def model_of(name: str, chance: float) -> stabsim.NoiseModel:
 
 def quiet(text: str) -> str:
     """A text without its noise."""
-    return "\n".join(quiet_lines(text.split("\n"))) if has_noise(text) else text
-
-
-def quiet_lines(lines: Iterable[str]) -> Iterator[str]:
-    """Lines without channels, and without chances of wrong records."""
-    return (CHANCE.sub(r"\1", line, count=1) if "(" in line else line for line in lines if not CHANNEL.match(line))
+    lines = (line for line in text.split("\n") if not CHANNEL.match(line))
+    return "\n".join(CHANCE.sub(r"\1", line, count=1) if "(" in line else line for line in lines) if has_noise(text) else text

@@ -22,7 +22,7 @@ from stabsim.session.retargeting import Retargeted, of_items
 from stabsim.session.rounds import joining
 from stabsim.session.script import Path, delete_line, edit_lines, item_text, path_text
 from stabsim.session.spares import carried_item, refuse_spares, spares_of
-from stabsim.text.carrying import above_in, below_comments, carried, cut_path, original_of, paths_made, with_comments, written_back
+from stabsim.text.carrying import TextBack, above_in, below_comments, carried, cut_path, original_of, paths_made, with_comments, written_back
 from stabsim.text.judging import judged
 from stabsim.text.profile import Profile, qubits_named
 from stabsim.text.reading import Instruction, Item, items_of
@@ -77,6 +77,7 @@ class Session(PlainSession):
         # The models of the circuit as it is, and the last ones of what it was.
         self.models: dict[Options, ErrorModel] = {}
         self.models_before: dict[Options, ErrorModel] = {}
+        self.back = TextBack()
         # The qubits that are spare, or were, so that few edits are looked at more closely.
         self.spares: set[int] = set()
         if profile is None:
@@ -264,7 +265,7 @@ class Session(PlainSession):
 
     def circuit(self, *, comments: bool = False) -> str:
         """The text of the circuit as it is now, with its noise; comments: with comments and blank lines too."""
-        return written_back(self.printed(), comments)
+        return written_back(self.printed()) if comments else self.back.of(self.process.ask(b"show circuit\n"))
 
     def item(self, path: Path, *, comments: bool = False) -> str:
         """The text of the item at the path; comments: with those above it and in it."""

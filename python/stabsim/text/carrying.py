@@ -11,6 +11,7 @@ import re
 from collections.abc import Callable, Iterable, Iterator, Sequence
 from dataclasses import replace
 
+from stabsim.program import text_of
 from stabsim.text.names import FIRST, NOISE
 from stabsim.text.profile import Made, made_of, spare_qubit
 from stabsim.text.reading import SPACING, Block, Instruction, Item, Line, Parts, content_of, headed, lines_of, parts_of, walk
@@ -156,28 +157,55 @@ def written_back(text: str, comments: bool = True) -> str:
     """The text of Stim's that one of the program's carries; comments: with those that ride along."""
     if MARKED not in text:
         return text
-    written = text.removesuffix("\n").split("\n")
-    lines: list[str] = []
-    done, is_skipped, closing = 0, False, ""
-    for place in [place for place, line in enumerate(written) if MARKED in line or line.endswith(CLOSING)]:
-        line = written[place]
+    return "".join(its for its, _ in lines_back(text.removesuffix("\n").split("\n"), comments))
+
+
+def lines_back(lines: Iterable[str], comments: bool) -> Iterator[tuple[str, bool]]:
+    """What lines of the program's become, each with line ends; and whether the next one is part of what came before."""
+    is_skipped, closing = False, ""
+    for line in lines:
+        its: Sequence[str] = (line,)
         if is_skipped:
-            is_skipped = line.strip(SPACING) != CLOSING
-            done = place + 1
-            continue
-        # Between these places lines stay as they are.
-        lines += written[done:place]
-        done = place + 1
-        if MARKED in line:
+            its, is_skipped = (), line.strip(SPACING) != CLOSING
+        elif MARKED in line:
             its, is_skipped, ending = line_back(line, comments)
-            lines += its
             closing = closing if ending is None else ending
-        elif line.strip(SPACING) == CLOSING:
-            lines.append(line + closing)
-            closing = ""
-        else:
-            lines.append(line)
-    return "\n".join([*lines, *written[done:], ""])
+        elif closing and line.strip(SPACING) == CLOSING:
+            its, closing = (line + closing,), ""
+        yield "".join([f"{it}\n" for it in its]), is_skipped or bool(closing)
+
+
+class TextBack:
+    """The text of Stim's that one of the program's carries, without comments; after an edit the lines that changed are looked at alone."""
+
+    def __init__(self) -> None:
+        self.lines: list[bytes] = []
+        # What each line becomes, and whether the next one is part of what came before.
+        self.parts: list[tuple[str, bool]] = []
+
+    def of(self, lines: list[bytes]) -> str:
+        """The text of lines of the program's."""
+        first, old, parts = alike(self.lines, lines, 1), self.lines, self.parts
+        while first and parts[first - 1][1]:
+            first -= 1
+        last = min(alike(old, lines, -1), len(old) - first, len(lines) - first)
+        while last and len(old) > last and parts[len(old) - last - 1][1]:
+            last -= 1
+        new = list(lines_back(map(text_of, lines[first : len(lines) - last]), False))
+        if last and new and new[-1][1]:
+            last, new = 0, list(lines_back(map(text_of, lines[first:]), False))
+        self.lines, self.parts = lines, [*parts[:first], *new, *parts[len(old) - last :]]
+        return "".join([its for its, _ in self.parts])
+
+
+def alike(one: Sequence[object], other: Sequence[object], way: int) -> int:
+    """How many letters or lines two texts have alike: the first ones, if the way is 1, or the last ones, if it is -1."""
+    low, high = 0, min(len(one), len(other)) + 1
+    while low + 1 < high:
+        middle = (low + high) // 2
+        some = [slice(low, middle) if way > 0 else slice(len(its) - middle, len(its) - low) for its in (one, other)]
+        low, high = (middle, high) if one[some[0]] == other[some[1]] else (low, middle)
+    return low
 
 
 @functools.lru_cache(maxsize=1 << 16)

@@ -30,7 +30,10 @@ export function takeCopies({ shown, editor, lines, isInText, say }) {
   const copy = (event) => {
     const isOther = !shown.state || isField(event.target) || !getSelection().isCollapsed;
     const text = isOther ? "" : textOf_();
-    if (!text) return false;
+    if (!text) {
+      if (!isOther && !isInText() && shown.chosen.length) say("nothing acts on these qubits here: nothing is copied", true);
+      return false;
+    }
     event.preventDefault();
     event.clipboardData.setData("text/plain", text);
     say(`copied: ${linesOf(text).join("; ").slice(0, 120)}`);

@@ -192,16 +192,16 @@ export class Editor {
   key(letter) {
     const { chosen } = this.#shown;
     const tool = toolOf(letter);
-    const keys = {
+    const ofChosen = {
       Delete: () => this.#remove(),
       Backspace: () => this.#remove(),
-      T: () => this.make(({ items }, moment) => takeTick(items, moment)),
-      D: () => this.#detector(true),
-      o: () => chosen.length && this.#observable(chosen),
-      "<": () => chosen.length && this.moveTo(chosen, this.#shown.moment - 1),
-      ">": () => chosen.length && this.moveTo(chosen, this.#shown.moment + 1),
+      o: () => this.#observable(chosen),
+      "<": () => this.moveTo(chosen, this.#shown.moment - 1),
+      ">": () => this.moveTo(chosen, this.#shown.moment + 1),
     };
+    const keys = { ...ofChosen, T: () => this.make(({ items }, moment) => takeTick(items, moment)), D: () => this.#detector(true) };
     if (tool) this.take(tool);
+    else if (ofChosen[letter] && !chosen.length) this.#act.say("choose qubits first: click them, or drag a box", true);
     else if (keys[letter]) keys[letter]();
     // With Shift a letter that means nothing else by that is the gate, too.
     else return /^[A-Z]$/.test(letter) && this.add(letter.toLowerCase());
@@ -210,7 +210,7 @@ export class Editor {
 
   #remove() {
     const { chosen, layers } = this.#shown;
-    if (!chosen.length || (layers.at !== null && layers.takeOut(chosen, this.#shown.moment))) return undefined;
+    if (layers.at !== null && layers.takeOut(chosen, this.#shown.moment)) return undefined;
     return this.make(({ items, uses }, moment) => editing.takeOut(items, moment, chosen, this.#isAlone(""), (qubit) => uses.acting.has(qubit)));
   }
 

@@ -19,7 +19,7 @@ export class Gestures {
   #drag = null;
   #hovered = null;
 
-  // `picture` has isThere, qubitAt(spot), faceAt(spot), qubitsIn(box), placeAt(spot), placesIn(box, step), hasGlyphAt(qubit, spot), pan(across, down),
+  // `picture` has isThere, qubitAt(spot), faceAt(spot), qubitsIn(box), placeAt(spot), placesIn(box, step), placesShifted(qubit, spot), hasGlyphAt(qubit, spot), pan(across, down),
   // zoom(factor, x, y) and draw(); `act` is that of the LayoutView.
   constructor(canvas, picture, act) {
     [this.#canvas, this.#picture, this.#act] = [canvas, picture, act];
@@ -33,12 +33,13 @@ export class Gestures {
     canvas.addEventListener("contextmenu", (event) => event.preventDefault());
   }
 
-  // What is drawn for the pointer: {pointer, frame, places}, where it is, the box of a drag, and the places for new qubits.
+  // What is drawn for the pointer: {pointer, frame, places}, where it is, the box of a drag, and the places for new qubits, or for those that are dragged.
   get marks() {
     const { kind, from, last, isMoved, isMore } = this.#drag ?? {};
     const pointer = this.#hovered?.at ?? null;
     const isBox = isMoved && (kind === "box" || kind === "places");
-    const places = isBox && kind === "places" ? this.#picture.placesIn([from, last], isMore ? 2 : 1) : this.#placesUnder(pointer);
+    const places = isMoved && kind === "shift" ? this.#picture.placesShifted(this.#drag.qubit, last)
+      : isBox && kind === "places" ? this.#picture.placesIn([from, last], isMore ? 2 : 1) : this.#placesUnder(pointer);
     return { pointer, frame: isBox ? [from, last] : null, places, led: isMoved && kind === "pair" ? this.#drag.qubit : null };
   }
 

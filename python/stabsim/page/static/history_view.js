@@ -8,12 +8,15 @@ export class HistoryView {
   #go;
   #lines = [];
   #shown = [];
+  #position = 0;
 
   // `go(position)` goes back or forward to the state after this many edits.
   constructor(place, go) {
     this.#place = place;
     this.#go = go;
     this.#add("opened", "");
+    // What is found out later, above it, may leave it less room.
+    new ResizeObserver(() => this.#bringIntoSight()).observe(place);
   }
 
   // Lines of entries that are shown already stay.
@@ -30,7 +33,12 @@ export class HistoryView {
       line.firstChild.title = number === position ? "the circuit as it is" : "go to the circuit as it was after this edit";
     });
     // Once the frame is painted, since it has the browser lay out the page.
-    requestAnimationFrame(() => setTimeout(() => this.#lines[position]?.scrollIntoView({ block: "nearest" })));
+    this.#position = position;
+    requestAnimationFrame(() => setTimeout(() => this.#bringIntoSight()));
+  }
+
+  #bringIntoSight() {
+    this.#lines[this.#position]?.scrollIntoView({ block: "nearest" });
   }
 
   #add(text, said) {

@@ -1,6 +1,8 @@
 // @ts-check
 // What was chosen before an update of the circuit, and is still there after it.
 
+import { momentEndedAt } from "./moments.js";
+
 // The path of what a path led to before an edit, which was made at a place of a list that it made `more` items longer. What was taken out
 // leaves its path to what came in its place.
 /** @param {import("./types.js").Path} path @param {import("./types.js").Move} move @returns {import("./types.js").Path} */
@@ -34,6 +36,13 @@ export function pathThere(items, path) {
     list = list[found.at(-1)]?.items;
   }
   return found;
+}
+
+// Which moment one is after edits that made more of them, or fewer: it goes with what ends it, which was at `where`.
+/** @param {import("./types.js").Item[]} items @param {import("./types.js").Where} where @param {import("./types.js").Move[]} moves @returns {number} */
+export function momentAfter(items, where, moves) {
+  const { path, rounds } = moves.reduce(whereAfter, where);
+  return momentEndedAt(items, { path: pathThere(items, path), rounds });
 }
 
 // Gives what is chosen over from the circuit before an update to that after it, before any view shows anything. `chosen` has {moment,

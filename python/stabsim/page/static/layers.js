@@ -2,9 +2,8 @@
 // Marks of errors, in ten layers: they are no part of the circuit, and each layer says what all of its marks flip together, by the program's
 // table of faults, and which way they go, as the program runs it (ways.py).
 
-import { itemAt } from "./circuit.js";
-import { pathThere, whereAfter } from "./keeping.js";
-import { endOf, momentOf, momentsOf } from "./moments.js";
+import { momentAfter } from "./keeping.js";
+import { endOf, momentsOf } from "./moments.js";
 
 // The product of two Paulis, without its sign; I is "".
 const PRODUCTS = { XX: "", YY: "", ZZ: "", XY: "Z", YX: "Z", XZ: "Y", ZX: "Y", YZ: "X", ZY: "X" };
@@ -84,8 +83,7 @@ export class Layers {
     const isAlike = momentsOf(items) === this.#moments;
     this.marks = this.marks.filter(({ qubit, where }) => placement.places.has(qubit) && (isAlike || isThere(where, moves)));
     for (const mark of this.marks) {
-      const { path, rounds } = moves.reduce(whereAfter, mark.where);
-      if (!isAlike) mark.moment = momentEndedAt(items, { path: pathThere(items, path), rounds });
+      if (!isAlike) mark.moment = momentAfter(items, mark.where, moves);
       mark.where = endOf(items, mark.moment);
     }
     this.#moments = momentsOf(items);
@@ -158,6 +156,3 @@ export function sumOf(lists) {
 
 // Whether no block around a place was taken out.
 const isThere = ({ path }, moves) => !moves.some(({ kind, at }) => kind === "delete" && at.length < path.length && at.every((place, i) => place === path[i]));
-
-// The moment that an item ends, by a cut in front of it or as a TICK.
-const momentEndedAt = (items, { path, rounds }) => Math.max(0, momentOf(items, path, rounds) - (itemAt(items, path)?.cut ? 1 : 0));

@@ -44,8 +44,7 @@ export class LayoutView {
   // Draws another scene (drawing.js). If it is fresh, all its qubits are fitted in.
   show(scene, isFresh) {
     this.#scene = scene;
-    this.#sight.take(scene, isFresh);
-    if (isFresh) this.#zoomed();
+    if (this.#sight.take(scene, isFresh)) this.#zoomed();
     else this.draw();
   }
 
@@ -145,6 +144,14 @@ export class LayoutView {
 
   placeAt(spot) {
     return this.#sight.placeAt(spot);
+  }
+
+  // Where a drag of a qubit to a spot takes it, with all that are chosen if it is one of them.
+  placesShifted(qubit, spot) {
+    const { chosen, places } = this.#scene;
+    const [[x, y], [across, down]] = [places.get(qubit), this.placeAt(spot)];
+    const ours = chosen.includes(qubit) ? chosen : [qubit];
+    return ours.map((it) => places.get(it)).filter(Boolean).map(([left, top]) => [left + across - x, top + down - y]);
   }
 
   // The whole places in a box of two spots on which no qubit is, or each second of them that way and this.

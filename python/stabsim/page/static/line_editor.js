@@ -4,7 +4,8 @@
 import { by } from "./by_id.js";
 import { itemAt, textOf } from "./circuit.js";
 import { copiedLines } from "./clipboard.js";
-import { beginOf, endOf, momentOf, nameOf } from "./moments.js";
+import { momentOf, nameOf } from "./moments.js";
+import { linesOf } from "./spans.js";
 
 export class LineEditor {
   #page;
@@ -114,13 +115,11 @@ export class LineEditor {
   chooseTicks(from, to) {
     const { items } = this.#page.shown.state;
     const [first, last] = [Math.min(from, to), Math.max(from, to)];
-    const [begin, end] = [beginOf(items, first), endOf(items, last)];
-    const isOne = begin.path.slice(0, -1).join() === end.path.slice(0, -1).join() && begin.rounds.join() === end.rounds.join();
-    if (!isOne) return void this.#page.say("these ticks are in several rounds: choose some within one, or outside blocks", true);
-    const place = begin.path.at(-1);
-    const count = end.path.at(-1) - place + (itemAt(items, end.path)?.name === "TICK" ? 1 : 0);
+    const found = linesOf(items, first, last);
+    if (!found) return void this.#page.say("these ticks are in several rounds: choose some within one, or outside blocks", true);
+    const { list, place, count } = found;
     if (!count) return void this.#page.say("there are no lines", true);
-    this.#choose(begin.path.slice(0, -1), place, count);
+    this.#choose(list, place, count);
     // In a small window the text may not be there.
     (by("text").checkVisibility() ? by("text") : by("timeline")).focus();
     return void this.#page.say(`ticks ${nameOf(items, first).name} to ${nameOf(items, last).name}: ${count} lines are chosen`);

@@ -83,6 +83,10 @@ function endIn(list, moment, path, rounds) {
   return endIn(item.items, left - round * item.once.bounds, [...path, place], [...rounds, round]);
 }
 
+// The moment that an item ends, by a cut in front of it or as a TICK; of the end of the list the last one.
+/** @param {import("./types.js").Item[]} items @param {import("./types.js").Where} where @returns {number} */
+export const momentEndedAt = (items, { path, rounds }) => Math.max(0, momentOf(items, path, rounds) - (itemAt(items, path)?.cut ? 1 : 0));
+
 // Where something is put in so that it is at the beginning of a moment: after what ends the one before.
 /** @param {import("./types.js").Item[]} items @param {number} moment @returns {import("./types.js").Where} */
 export function beginOf(items, moment) {

@@ -7,7 +7,7 @@ import { placesOfCoins } from "./coins.js";
 import { Followed } from "./followed.js";
 import { acts, qubitsOf } from "./instructions.js";
 import { noiseOf } from "./noise.js";
-import { pathThere, stillThere } from "./keeping.js";
+import { momentAfter, pathThere, stillThere } from "./keeping.js";
 import { areFaces } from "./knowledge.js";
 import { Layers } from "./layers.js";
 import { actedOften, endOf, momentAt, momentOf, momentsOf, momentsOfDetectors, nameOf } from "./moments.js";
@@ -44,6 +44,9 @@ export class Shown {
   #faces = [];
   #neighbours = [];
   #hovered = null;
+  // What ends the moment, and how many moments there are.
+  #end = null;
+  #moments = 0;
   // How often it is learnt, at this time, what the table of faults says.
   #learning = 0;
 
@@ -93,7 +96,10 @@ export class Shown {
       [this.chosen, this.waiting, this.#faces] = [[], [], []];
       this.layers.letGo();
     } else this.layers.keep(state);
-    const kept = stillThere({ ...this, hovered: this.#hovered, bit: this.bit }, state, momentsOf(state.items));
+    const moments = momentsOf(state.items);
+    // If moments came or went, the one that is shown may have another number.
+    const moment = isOther || moments === this.#moments ? this.moment : momentAfter(state.items, this.#end, state.moves);
+    const kept = stillThere({ ...this, moment, hovered: this.#hovered, bit: this.bit }, state, moments);
     [this.moment, this.chosen, this.waiting, this.#hovered] = [kept.moment, kept.chosen, kept.waiting, kept.hovered];
     this.#followed.take(kept.bit);
     [this.#neighbours, this.set] = [[], []];
@@ -241,6 +247,7 @@ export class Shown {
   }
 
   #look(isFresh, isEdited) {
+    [this.#end, this.#moments] = [endOf(this.state.items, this.moment), momentsOf(this.state.items)];
     this.instructions = momentAt(this.state.items, this.moment);
     this.often = actedOften(this.state.items, this.moment);
     this.noise = noiseOf(this.instructions);

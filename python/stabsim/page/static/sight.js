@@ -27,6 +27,8 @@ export class Sight {
   #fitted = 1;
   // How much of the picture's lower end lies below something else.
   #below = 0;
+  // Whether all is as it was fitted in, neither zoomed nor panned.
+  #isWhole = true;
 
   // Whether anything can be seen: there are places, and a picture of some size.
   get isThere() {
@@ -52,10 +54,20 @@ export class Sight {
     return { scale: this.#scale, x: this.#at[0], y: this.#at[1], width: this.#size[0], height: this.#size[1], near: this.#near };
   }
 
-  // Takes where places are (places.js); with `isFresh` all are fitted in.
+  // Takes where places are (places.js); with `isFresh` all are fitted in, and so they are if all were and one would be out of sight. Answers whether
+  // they were fitted in anew.
   take({ box, near }, isFresh) {
     [this.#box, this.#near] = [box, near];
-    if (isFresh || !this.isThere) this.fit();
+    const isFitted = isFresh || !this.isThere || (this.#isWhole && !this.#isInSight());
+    if (isFitted) this.fit();
+    return isFitted;
+  }
+
+  // Whether the outermost places are seen.
+  #isInSight() {
+    const { left, right, top, bottom } = this.#box;
+    const [first, last] = [this.seen([left, top]), this.seen([right, bottom])];
+    return Math.min(...first) >= 0 && last[0] <= this.#size[0] && last[1] <= this.#size[1] - this.#below;
   }
 
   fit() {
@@ -67,6 +79,7 @@ export class Sight {
     const room = this.#roomBeside(sideAt(scaleIn(this.#roomBeside(0)) * this.#near));
     this.#fitted = scaleIn(room);
     this.#scale = this.#fitted;
+    this.#isWhole = true;
     this.#at = [(width + room.left - room.right - this.#fitted * (left + right)) / 2, (height + room.top - room.bottom - this.#fitted * (top + bottom)) / 2];
   }
 
@@ -82,9 +95,11 @@ export class Sight {
     const part = scale / this.#scale;
     this.#at = [x - (x - this.#at[0]) * part, y - (y - this.#at[1]) * part];
     this.#scale = scale;
+    this.#isWhole = false;
   }
 
   pan(across, down) {
+    if (across || down) this.#isWhole = false;
     this.#at = [this.#at[0] + across, this.#at[1] + down];
   }
 

@@ -8,17 +8,21 @@ import { noiseOf } from "./noise.js";
 import { plateAt } from "./region_drawing.js";
 
 // How high a line is, how wide a moment, where lines begin, and how high the head with the ticks is.
-export const ROW = 34;
+export const ROW = 36;
 export const STEP = 46;
 export const LEFT = 46;
 export const HEAD = 22;
 // How far the number of a partner reaches below its line.
-export const FOOT = 2;
+export const FOOT = 6;
 // So that two letters have 12.5 pixels; and of what has none.
 const SIDE = 24.1;
 const PAIR = 18;
 const LETTER = 18;
 const NOISE = 10;
+// How far below its line a partner's number is: below what acts there, and above the next line.
+const PARTNER = 17;
+// Where noise is beside the middle of a gate: the number of a partner on the line above is over the middle.
+const BESIDE = [-13, -11];
 // How far from the middle of a gate an error beside it is: it leaves room for the letters at the end of the moment.
 const ERROR = [8, -10];
 
@@ -69,7 +73,7 @@ export function wiresOf({ items, moment, qubits, marksAt, waysAt }, { width, fir
     const busy = new Map();
     for (const act of actsOn(items, at, qubits)) drawAct(layers, act, x(at), y, busy);
     const noise = noiseOf(momentAt(items, at));
-    qubits.forEach((qubit, line) => noise.has(qubit) && layers.letters.push({ glyph: "noise", x: x(at), y: y(line) - ROW / 2 + 2, side: NOISE, role: "quiet" }));
+    qubits.forEach((qubit, line) => noise.has(qubit) && layers.letters.push({ glyph: "noise", x: x(at) + BESIDE[0], y: y(line) + BESIDE[1], side: NOISE, role: "quiet" }));
     drawLetters(layers, qubits, { letters: waysAt(at), marks: marksAt(at) }, [x(at) + STEP / 2, y]);
   }
   return [layers.ground, layers.joints, layers.glyphs, layers.letters];
@@ -89,7 +93,7 @@ function drawAct(layers, { places, glyphs, partners }, x, y, busy) {
   places.forEach((line, i) => layers.glyphs.push({ ...glyphs[i], x, y: y(line), side: glyphs[i].label ? SIDE : PAIR }));
   if (!partners.length) return;
   const words = partners.length > 1 ? `${partners[0]} …` : String(partners[0]);
-  layers.letters.push({ words, x, y: y(bottom) + ROW / 2 - 4, size: 12.5, fill: "quiet", halo: "sheet" });
+  layers.letters.push({ words, x, y: y(bottom) + PARTNER, size: 12.5, fill: "quiet", halo: "sheet" });
 }
 
 // At the end of a moment the letters that marks have come to, those of several layers over each other, and a ring round what was put in there.
