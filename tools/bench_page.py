@@ -1,9 +1,10 @@
 """Measures in Chromium how long the page takes from a key on a qubit until what it flips is drawn, for docs/build/benchmarks.md.
 
-On a surface code, written out and in a block, it puts a Pauli or a measurement on a qubit in the middle, at moments that lie evenly over all,
-and takes it back each time; in a block the Pauli's round is split off first, and the measurement comes into all. A line has the milliseconds
-of a step of the way, by the browser's clock: the middle one of the edits, the best and the worst; the last is the processor time of the
-page's main thread meanwhile. It needs what the page's tests do: Chromium, its driver, selenium, aiohttp and pytest."""
+On a surface code, written out and in a block, it puts a Pauli, a gate or a measurement on a qubit in the middle, or takes out what acts on it,
+at moments that lie evenly over all, and takes it back each time; in a block the Pauli's round is split off first, and all else is in all.
+A line has the milliseconds of a step of the way, by the browser's clock: the middle one of the edits, the best and the worst; the last
+two are the processor time meanwhile of the page's main thread, and of the server with its session. A key that makes no edit ends it. It needs
+what the page's tests do: Chromium, its driver, selenium, aiohttp and pytest."""
 
 import contextlib
 import os
@@ -17,20 +18,24 @@ from browsing import Page, open_browser
 from program import TOP
 from stabsim import codes
 
-# Chooses a qubit at a moment.
+# Chooses a qubit at a moment, or at the next one at which a gate acts on it, if the key is for that.
 CHOOSE = """
-const [qubit, moment, done] = arguments;
-import("/static/main.js").then(({ page }) => {
-  page.shown.goTo(moment);
+const [qubit, moment, isForGates, done] = arguments;
+Promise.all([import("/static/main.js"), import("/static/instructions.js")]).then(([{ page }, { isErrorOrMark, qubitsOf }]) => {
+  const isOn = ({ item }) => !isErrorOrMark(item.name) && qubitsOf(item).includes(qubit);
+  for (let at = moment; at < page.moments(); at += 1) {
+    page.shown.goTo(at);
+    if (!isForGates || page.shown.instructions.some(isOn)) break;
+  }
   page.shown.choose(qubit);
   done();
 });
 """
 
-# Types a letter on the chosen qubit, or takes back what was typed, and answers with the milliseconds of each of STEPS but the last: a message
-# is taken up after the frame.
+# Types a key on the chosen qubit, or takes back what was typed, and answers with the milliseconds of each of STEPS but those of the processor: a
+# message is taken up after the frame. If nothing is changed meanwhile, it answers with what the page says.
 TYPE = """
-const [letter, done] = arguments;
+const [letter, longest, done] = arguments;
 import("/static/main.js").then(({ page }) => {
   requestAnimationFrame(() => setTimeout(() => {
     const { position } = page.shown.state;
@@ -46,6 +51,7 @@ import("/static/main.js").then(({ page }) => {
       port2.postMessage("");
     });
     painted.observe(document.body, { attributeFilter: ["data-shown"] });
+    setTimeout(() => done(document.getElementById("message").textContent || "the page says nothing"), longest);
     if (letter) document.getElementById("picture").dispatchEvent(new KeyboardEvent("keydown", { key: letter, bubbles: true }));
     else document.getElementById("undo").click();
   }, 30));
@@ -79,9 +85,12 @@ const step = (now) => {
 requestAnimationFrame(step);
 """
 
-# A Pauli, and a measurement, at which the records are others.
-KEYS = ("x", "m")
-STEPS = ("program and server", "layout", "painted", "in all", "main thread")
+# A Pauli; a gate, in the place of another; a measurement, at which the records are others; and what takes a gate out.
+KEYS = ("x", "h", "m", "Delete")
+FOR_GATES = ("h", "Delete")
+STEPS = ("program and server", "layout", "painted", "in all", "main thread", "server's processor")
+# After how many milliseconds a key has made no edit.
+LONGEST = 60_000
 # Surface codes by distance and rounds, and how many edits and frames there are.
 SIZES = ((13, 13), (21, 100))
 EDITS = 9
@@ -103,15 +112,37 @@ def thread_time(driver: Any) -> float:
     return next(1000.0 * float(it["value"]) for it in metrics if it["name"] == "TaskDuration")
 
 
-def measure_edit(driver: Any, letter: str, qubit: int, moment: int) -> list[float]:
+def processor_times(pid: int) -> dict[int, float]:
+    """How many milliseconds of a processor the threads of a process and of its children have used, by their numbers. The table of faults, which is
+    made once the picture is there, has a process of its own."""
+    found = {}
+    for thread in Path(f"/proc/{pid}/task").iterdir():
+        found[int(thread.name)] = int((thread / "schedstat").read_text().split()[0]) / 1e6
+        for child in (thread / "children").read_text().split():
+            if b"table_process" not in Path(f"/proc/{child}/cmdline").read_bytes():
+                found |= processor_times(int(child))
+    return found
+
+
+def type_key(driver: Any, letter: str) -> list[float]:
+    """Types a key, or takes back what was typed; the milliseconds of what TYPE measures."""
+    found = driver.execute_async_script(TYPE, letter, LONGEST)
+    if isinstance(found, str):
+        raise RuntimeError(f"{letter or 'undo'} makes no edit: {found}")
+    return list(found)
+
+
+def measure_edit(page: Any, letter: str, qubit: int, moment: int) -> list[float]:
     """The milliseconds of STEPS of the edit that a key makes, which is taken back."""
-    driver.execute_async_script(CHOOSE, qubit, moment)
+    driver = page.browser
+    driver.execute_async_script(CHOOSE, qubit, moment, letter in FOR_GATES)
     time.sleep(1)
-    before = thread_time(driver)
-    found: list[float] = driver.execute_async_script(TYPE, letter)
-    found.append(thread_time(driver) - before)
+    before, was = thread_time(driver), processor_times(page.server.pid)
+    found = type_key(driver, letter)
+    now = processor_times(page.server.pid)
+    found += [thread_time(driver) - before, sum(now.values()) - sum(value for thread, value in was.items() if thread in now)]
     time.sleep(1)
-    driver.execute_async_script(TYPE, "")
+    type_key(driver, "")
     time.sleep(1)
     return found
 
@@ -129,19 +160,19 @@ def measure_size(driver: Any, file: Path, distance: int, rounds: int, written_ou
         qubit = stabsim.Circuit.from_file(file).qubit_coordinates().tolist().index([distance, distance])
         found: dict[str, Any] = {}
         for letter in KEYS:
-            times = [measure_edit(driver, letter, qubit, (number + 1) * last // (EDITS + 1)) for number in range(EDITS)]
+            times = [measure_edit(page, letter, qubit, (number + 1) * last // (EDITS + 1)) for number in range(EDITS)]
             found |= zip((f"{letter}: {step}" for step in STEPS), zip(*times))
         found["a region"] = [driver.execute_async_script(REGION, f"D{number}") for number in range(distance, distance + EDITS)]
         found["a frame"] = driver.execute_async_script(FRAMES, COUNT_OF_FRAMES)
         for name, its in found.items():
-            print(f"    {name:21} {statistics.median(its):6.1f} ms  ({min(its):.1f} to {max(its):.1f})")
+            print(f"    {name:26} {statistics.median(its):6.1f} ms  ({min(its):.1f} to {max(its):.1f})")
 
 
 def measure(file: Path) -> None:
     # The server of the page is started with it.
     os.environ["PYTHONPATH"] = str(TOP / "python")
     with open_browser() as driver:
-        driver.set_script_timeout(600)
+        driver.set_script_timeout(2 * LONGEST / 1000)
         driver.execute_cdp_cmd("Performance.enable", {"timeDomain": "threadTicks"})
         driver.execute_cdp_cmd("Emulation.setDeviceMetricsOverride", {"width": 1920, "height": 1080, "deviceScaleFactor": 1, "mobile": False})
         for distance, rounds in SIZES:

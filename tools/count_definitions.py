@@ -36,7 +36,7 @@ THEOREMS = {
         "stab_tableau::random_where_anticommuting", "stab_run::same_future", "stab_tableau::traces_have_one_list", "stab_search::parts_are_whole",
         "stab_circuit::printed_items_are_read_back"],
     "what the program calls": [
-        "stab_args::parse_words", "stab_args::read_coins", "stab_cli::run_job_watched", "stab_cli::write_usage", "stab_report::write_fault"],
+        "stab_args::parse_words", "stab_cli::read_coins", "stab_cli::run_job_watched", "stab_cli::write_usage", "stab_report::write_fault"],
     "calls of the library": [
         *(f"{part}::*" for part in (
             "stab_io", "stab_pauli", "stab_tableau", "stab_items::circuit", "stab_items::cursor", "stab_items::edit", "stab_items::path",

@@ -20,23 +20,17 @@ NAME = re.compile(r"[A-Za-z_]\w*")
 OF_LIBRARY = re.compile(r"\b(?:(?:leb|eqb)_tells|is_simple_and_free)\b")
 # What is said of things that don't move, and the line of a script that makes a bookmark.
 OF_OTHER_MEANING = re.compile(r"\bin place\b|\"mark\"|`mark`")
-# Names that still have a word that their crate does not use: none is added here.
-NAMES_LEFT = {
-    "Fault",
-    "Places", "each_after_place", "first_place", "next_place", "place_before",
-}
-# Words that are still where they are not to be used: no line is added here.
+# The papers' names: a refusal with a line, and where an edit is made.
+NAMES_LEFT = {"Fault", "Places"}
+# Words that output or the command line has.
 STANDING = {
     # The option keeps its name.
     ("framed", "crates/stab_args/"),
     ("framed", "crates/stab_cli/"),
     ("framed", "crates/stab_jobs/"),
     ("framed", "crates/tests_program/src/"),
-    ("framed", "crates/stab_frames/specs/PropagatedTableaus.antt"),
-    ("apart", "crates/stab_ways/proofs/FirstStepLemmas.antt"),
-    ("turned", "crates/stab_items/proofs/StepPathLemmas.antt"),
-    ("copies of the state", "crates/stab_circuit/specs/Limits.antt"),
-    ("copy of the state", "crates/stab_frames/src/run_laws.rt"),
+    # The text of the help.
+    ("kept", "crates/stab_args/src/words/help.rt"),
     # The columns of a row say what is reported by this word.
     ("tells", "crates/rows/src/format.rt"),
 }

@@ -110,7 +110,7 @@ def test_the_manual_has_all_options_and_the_lines_of_scripts() -> None:
 
 def test_a_checkpoint_has_one_name() -> None:
     assert STRIDE in help_of("edit", "--help") and STRIDE in MANUAL
-    assert "A checkpoint is a state that is kept" in text_of(TOP / "docs/use/editing.md")
+    assert "A checkpoint is a stored state" in text_of(TOP / "docs/use/editing.md")
 
 
 def test_the_page_has_the_instructions_and_their_other_names() -> None:
