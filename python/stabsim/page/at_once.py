@@ -8,7 +8,7 @@ from numpy.typing import NDArray
 
 from stabsim.page.edits import Edit, undoing
 from stabsim.page.explaining import refuse_unread
-from stabsim.page.nearby import lines_and_begins, moved, touched
+from stabsim.page.nearby import lines_and_begins, touched
 from stabsim.session.rounds import parts_of_block
 from stabsim.session.script import edit_lines
 from stabsim.text.carrying import written_back
@@ -42,18 +42,19 @@ def apply(nodes: list[Node], edit: Edit, first: int) -> str:
     no new one."""
     if edit.kind == "open":
         raise ValueError("another circuit is opened by itself")
-    *outer, place = map(int, moved(edit.place, -first).split("/"))
+    *outer, place = map(int, edit.place.split("/"))
     for number in outer:
-        block = nodes[number]
+        block = nodes[number - first]
         if not isinstance(block, Opened):
             raise ValueError(f"there is no block on the way to {edit.place}")
-        nodes = block.nodes
+        nodes, first = block.nodes, 0
+    place -= first
     if edit.kind == "insert":
         if place > len(nodes):
             raise IndexError(f"there is no place {edit.place}")
         nodes.insert(place, node_of(edit.item))
         return ""
-    old = "\n".join(lines_in([nodes[place]]))
+    old = "\n".join(lines_in([node])) if isinstance(node := nodes[place], Opened) else node
     if edit.kind == "split":
         nodes[place:place + 1] = [node_of(part.text) for part in parts_of_block(old, int(edit.item))]
     else:
@@ -66,6 +67,8 @@ def node_of(item: str) -> Node:
     refuse_unread(item)
     if "{" in item or "\n" in item:
         edit_lines("insert 0", item)
+    elif item.strip() not in ("", "}"):
+        return item.strip()
     [node] = nodes_of(item.split("\n"))
     return node
 

@@ -283,7 +283,8 @@ class Board:
         try:
             printed, text = self.texts()
             qubits = self.session.numbers().qubits
-            if any(has_noise(edit.item) or MARKED in edit.item for edit in edits):
+            items = "\n".join([edit.item for edit in edits])
+            if has_noise(items) or MARKED in items:
                 text, undone = made_at_once(text, edits, False)
                 session = stabsim.Circuit(text).edit(seed=self.seed, qubits=qubits)
             else:
@@ -303,7 +304,7 @@ class Board:
         made = following(self.session, edits, self.text)
         self.lost, self.split_off = made.lost, made.split_off
         for edit in made.edits:
-            yield dataclasses.replace(edit, block=self.session.printed_item(edit.place)) if edit.kind == "split" else edit
+            yield edit._replace(block=self.session.printed_item(edit.place)) if edit.kind == "split" else edit
 
     def _make_room(self, edits: list[Edit]) -> None:
         """Opens the session anew on more qubits, if edits name some that it lacks. The history stays, and each bit: a coin is known by

@@ -1,7 +1,7 @@
 """Edits as the page and the session speak of them, and how each is undone."""
 
 import dataclasses
-from typing import Any, Literal
+from typing import Any, Literal, NamedTuple
 
 from stabsim.page.opening import Opened
 from stabsim.session.rounds import longest_part, parts_of_block, place_behind
@@ -14,8 +14,7 @@ KINDS: tuple[Kind, ...] = ("insert", "replace", "delete")
 MOVING = ("DETECTOR", "OBSERVABLE", "COORDS", "REPEAT")
 
 
-@dataclasses.dataclass(frozen=True)
-class Edit:
+class Edit(NamedTuple):
     """An edit at a place, the path of an item as `edit` counts them, with the text of the item that it puts in. For a split that
     is the number of the round, and `block` the text of the block, as the program prints it. That which opens another circuit has its name as
     the place, and its text as the item; `source` is that circuit."""

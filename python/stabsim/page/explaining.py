@@ -18,6 +18,7 @@ LINE_NUMBER = re.compile(r"\d+: ")
 # The name of each line; and what the page shows, in capitals.
 FIRST_WORDS = re.compile(r"^[ \t]*([^\s([{}]+)", re.MULTILINE)
 SHOWN = frozenset((*names.READ, *names.NOISE))
+FIRST = SHOWN | {"REPEAT"}
 
 
 def explained(refused: stabsim.Refused, edit: Edit, circuit: str, qubits: int) -> stabsim.Refused:
@@ -45,7 +46,7 @@ def refusal_of(text: str) -> stabsim.Refused | None:
 
 def refuse_unread(item: str) -> None:
     """Refuses an item, as the program does, that has instructions which are neither read nor noise: the page shows none."""
-    if all(name in SHOWN or name == "REPEAT" for name in FIRST_WORDS.findall(item)):
+    if FIRST.issuperset(FIRST_WORDS.findall(item)):
         return
     try:
         items = items_of(item)

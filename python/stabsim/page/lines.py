@@ -95,7 +95,7 @@ def written_of(level: Level) -> Iterable[Written]:
     """The items of a list as they are to be, with lookbacks as they are written."""
     for node in level.new:
         if node.inside is None:
-            yield Written(node, str(node.now))
+            yield Written(node, str(node))
         else:
             rounds = node.now.repeat or 1
             yield Written(node, head_of(node, rounds), tuple(written_of(node.inside)), rounds)

@@ -11,8 +11,8 @@ MOST_QUBITS = 1024
 MOST_MORE = 64
 # A session is opened on some qubits more than it needs, so that the next ones find room.
 SPARE = 16
-# A qubit in a target, as 5, !5, X5 or !X5*Z6.
-QUBIT = re.compile(r"\d+")
+# A qubit in a target, as 5, !5, X5 or !X5*Z6, and no lookback.
+QUBIT = re.compile(r"(?<![-\d])\d+")
 
 
 def qubits_named(text: str) -> int:

@@ -7,13 +7,14 @@ from collections.abc import Iterable, Iterator, Sequence
 from dataclasses import dataclass, field
 from itertools import accumulate, count
 
-from stabsim.text.names import HERALDED, MEASURING, PAIRS
+from stabsim.text.names import DECLARATIONS, FED_BACK, HERALDED, MEASURING, PAIRS
 from stabsim.text.reading import Block, Instruction, Item
 from stabsim.text.rewriting import SPACED_STAR
 
 
-# What makes records.
+# What makes records, and what names them.
 RECORDING = frozenset((*MEASURING, *HERALDED))
+NAMING = frozenset((*DECLARATIONS, *FED_BACK))
 
 
 @dataclass(eq=False, slots=True)
@@ -25,23 +26,31 @@ class Node:
     now: Item
     inside: "Level | None" = None
     following: Sequence[int] = ()
+    # How many records it made, in one round of the blocks around it, and how many it makes; and how many rounds a block has more than it had.
+    had: int = 0
+    has: int = 0
+    more_rounds: int = 0
+    # How it was written, from when that is first asked for.
+    text_was: str = ""
 
-    @property
-    def had(self) -> int:
-        """How many records it made, in one round of the blocks around it."""
-        if self.was is None:
-            return 0
-        return (self.was.repeat or 1) * self.inside.had if self.inside else len(measured(self.was))
+    def settle(self) -> None:
+        """Finds out how many records and rounds it has."""
+        if self.inside:
+            self.inside.settle()
+            was, now = self.was and self.was.repeat or 1, self.now.repeat or 1
+            self.had, self.has, self.more_rounds = was * self.inside.had if self.was else 0, now * self.inside.has, now - was
+        else:
+            self.had = len(measured(self.was))
+            self.has = self.had if self.now is self.was else len(measured(self.now))
 
-    @property
-    def has(self) -> int:
-        """How many it makes."""
-        return (self.now.repeat or 1) * self.inside.has if self.inside else len(measured(self.now))
+    def __str__(self) -> str:
+        """How it is written."""
+        return self.before() if self.now is self.was else str(self.now)
 
-    @property
-    def more_rounds(self) -> int:
-        """How many rounds a block has more than it had."""
-        return (self.now.repeat or 1) - (self.was and self.was.repeat or 1)
+    def before(self) -> str:
+        """How it was written."""
+        self.text_was = self.text_was or str(self.was)
+        return self.text_was
 
 
 @dataclass(eq=False)
@@ -67,8 +76,7 @@ class Level:
         """Finds out where each record of the list went, and whether lookbacks in it follow."""
         pair_moved(self)
         for node in {id(it): it for it in (*self.old, *self.new)}.values():
-            if node.inside:
-                node.inside.settle()
+            node.settle()
         self.had_before = list(accumulate((it.had for it in self.old), initial=0))
         self.has_before = list(accumulate((it.has for it in self.new), initial=0))
         self.had, self.has = self.had_before[-1], self.has_before[-1]
@@ -97,7 +105,7 @@ class Level:
         for place, node in enumerate(self.old):
             if id(node) not in self.place:
                 continue
-            own = node.inside.reach() if node.inside else max(lookbacks_of(node.was), default=0)
+            own = node.inside.reach() if node.inside else max(node.following or lookbacks_of(node.was), default=0)
             far = max(far, own - self.had_before[place])
         return far
 
@@ -131,7 +139,7 @@ def level_of(items: Iterable[Item], is_new: bool = False) -> Level:
 
 def lookbacks_of(item: Item | None) -> list[int]:
     """How many records back each record is that an item names."""
-    return [int(target[5:-1]) for target in item.targets if target.startswith("rec[-")] if item else []
+    return [int(target[5:-1]) for target in item.targets if target[:5] == "rec[-"] if item and item.name in NAMING else []
 
 
 def pair_moved(level: Level) -> None:
@@ -140,7 +148,7 @@ def pair_moved(level: Level) -> None:
     taken: dict[str, list[Node]] = defaultdict(list)
     for node in level.old:
         if id(node) not in staying:
-            taken[str(node.was)].append(node)
+            taken[node.before()].append(node)
     for place, node in enumerate(level.new):
         if node.was is None and taken.get(str(node.now)):
             level.new[place] = as_it_was(taken[str(node.now)].pop(0))

@@ -149,7 +149,7 @@ class Follower:
                 written = self.followed(node, place, frames)
                 found += [written] if written else []
             else:
-                found.append(Written(node, str(node.now)))
+                found.append(Written(node, str(node)))
         return found
 
     def block(self, node: Node, place: int, frames: list[Frame]) -> list[Written]:
@@ -174,7 +174,7 @@ class Follower:
         level, back = frames[-1].level, max(node.following)
         was_at = level.place_was[id(node)]
         if level.is_steady(was_at, place, back):
-            return Written(node, str(node.now))
+            return Written(node, str(node))
         if back > level.had_before[was_at] + frames[-1].round_number * level.had:
             return self.moved(node, was_at, place, frames)
         if id(node) not in self.staying:
@@ -183,29 +183,31 @@ class Follower:
 
     def moved(self, node: Node, was_at: int, place: int, frames: list[Frame]) -> Written | None:
         """The same of an instruction that was, and is, at a place of the last frame's list."""
-        targets: list[str] = []
-        is_pair, has_lost = node.now.name in names.FED_BACK, False
-        for number, target in enumerate(node.now.targets):
-            if not target.startswith("rec[-"):
-                targets.append(target)
+        head, *targets = str(node).rsplit(" ", len(node.now.targets))
+        for number, target in enumerate(targets):
+            if target[:5] != "rec[-":
                 continue
             back = lookback(frames, was_at, place, int(target[5:-1]))
             if back is not None and back <= 0:
-                raise ValueError(f"{node.now}: the record that {target} names would come after it")
-            targets.append("" if back is None else f"rec[-{back}]")
-            has_lost |= back is None
-        if is_pair and has_lost:
+                raise ValueError(f"{node}: the record that {target} names would come after it")
+            targets[number] = "" if back is None else f"rec[-{back}]"
+        has_lost = "" in targets
+        if has_lost and node.now.name in names.FED_BACK:
             # A gate that is controlled by a record which is gone goes with it.
             targets = [it for pair in zip(targets[::2], targets[1::2]) if all(pair) for it in pair]
             if not targets:
                 return None
-        brackets = f"({', '.join(node.now.arguments)})" if node.now.arguments else ""
-        return Written(node, " ".join([headed(node.now.name, node.now.tag) + brackets, *filter(None, targets)]), has_lost=has_lost)
+        return Written(node, " ".join([head, *filter(None, targets)]), has_lost=has_lost)
 
 
 def lookback(frames: Sequence[Frame], was_at: int, at: int, back: int) -> int | None:
     """How many records back a record is now that was `back` records back from an item; None if it is gone, 0 or less if it comes after
     it. The item was, and is, at a place of the last frame's list."""
+    level = frames[-1].level
+    now = level.went.get(level.had_before[was_at] - back)
+    if now is not None:
+        # Its list made it, in the same round.
+        return level.has_before[at] - now
     far = 0
     for frame in reversed(frames):
         level = frame.level

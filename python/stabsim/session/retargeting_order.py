@@ -8,6 +8,7 @@ end, and no lookback reaches in front of the circuit on the way.
 from bisect import bisect_left
 from collections.abc import Iterator, Sequence
 from dataclasses import dataclass
+from typing import NamedTuple
 
 from stabsim.session.record_trees import Level, Node
 from stabsim.text.reading import indented
@@ -16,8 +17,7 @@ from stabsim.text.reading import indented
 RecordEdit = tuple[str, ...]
 
 
-@dataclass(frozen=True)
-class Written:
+class Written(NamedTuple):
     """An item as it is after the edits: its text, or that in front of a block's brace, with the items and rounds of the block.
     has_lost: whether it, or an item in it, lost a record."""
 
@@ -33,7 +33,7 @@ class Written:
         return f"{self.text} {{\n{indented(''.join(f'{it}' + chr(10) for it in self.items))}}}"
 
 
-@dataclass(eq=False)
+@dataclass(eq=False, slots=True)
 class Slot:
     """An item as the session has it by now."""
 
@@ -54,7 +54,7 @@ def edits_to(root: Level, written: Sequence[Written]) -> Iterator[RecordEdit]:
 
 
 def slots_of(nodes: Sequence[Node]) -> list[Slot]:
-    return [Slot(node, str(node.was), slots_of(node.inside.old) if node.inside else None) for node in nodes]
+    return [Slot(node, node.before(), slots_of(node.inside.old) if node.inside else None) for node in nodes]
 
 
 def copy_of(slot: Slot) -> Slot:
@@ -72,7 +72,7 @@ def splits(slots: list[Slot], written: Sequence[Written], above: str) -> Iterato
             continue
         while written[number].node is not node:
             number += 1
-        parts = parts_at(written, number)
+        parts = parts_at(written, number) if node.inside else written[number:number + 1]
         for rest, part in enumerate(parts):
             slot = slots[place]
             if rest < len(parts) - 1:
@@ -97,14 +97,17 @@ def staying_of(slots: Sequence[Slot], written: Sequence[Written]) -> set[int]:
     """The nodes that stay where they are: of those that are there before and after, as many as come in the same order. A block with
     more or fewer rounds is put in anew."""
     place_was = {id(slot.node): place for place, slot in enumerate(slots)}
-    both = [it.node for it in written if id(it.node) in place_was and not it.node.more_rounds]
+    both = dict.fromkeys(it.node for it in written if id(it.node) in place_was and not it.node.more_rounds)
+    places = [place_was[id(node)] for node in both]
+    if places == sorted(places):
+        return set(map(id, both))
     # The longest run that goes up: `ends` has the least last place of a run of each length, and `before` the node in front of each.
     ends: list[int] = []
     last: list[Node] = []
     before: dict[int, Node | None] = {}
-    for node in dict.fromkeys(both):
-        length = bisect_left(ends, place_was[id(node)])
-        ends[length:length + 1] = [place_was[id(node)]]
+    for node, place in zip(both, places):
+        length = bisect_left(ends, place)
+        ends[length:length + 1] = [place]
         last[length:length + 1] = [node]
         before[id(node)] = last[length - 1] if length else None
     found, node_at = set(), last[-1] if last else None

@@ -35,8 +35,7 @@ class Parts(NamedTuple):
     targets: tuple[str, ...]
 
 
-@dataclass(frozen=True, slots=True)
-class Line:
+class Line(NamedTuple):
     """A line with its number, counted from 1: its text as it is written, and its content, without comment and spacing around it."""
 
     number: int
@@ -175,8 +174,8 @@ def parts_of(content: str) -> Parts | None:
     if not found:
         return None
     _, name, tag, brackets, rest = found.groups(default="")
-    arguments = brackets.strip(SPACING)[1:-1]
-    given = tuple(argument.strip(SPACING) for argument in arguments.split(",")) if arguments.strip(SPACING) else ()
+    arguments = brackets.strip(SPACING)[1:-1].strip(SPACING)
+    given = tuple([argument.strip(SPACING) for argument in arguments.split(",")]) if arguments else ()
     name = name.upper()
     return Parts(ALIASES.get(name, name), tag[1:-1], given, tuple(WORD.findall(rest)))
 
@@ -247,9 +246,10 @@ def items_of(text: str | Iterable[Line], only: tuple[str, ...] = ()) -> tuple[It
 
 def instruction_of(line: Line, path: str) -> Instruction:
     """The instruction of a line."""
-    if line.parts is None:
+    parts = line.parts
+    if parts is None:
         raise Refused(11, "BadLine", line.number)
-    return Instruction(line.number, *line.parts, path)
+    return Instruction(line.number, *parts, path)
 
 
 def block_of(line: Line, path: str) -> Opened:
