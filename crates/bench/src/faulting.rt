@@ -178,8 +178,8 @@ fn ask(
 /// At how many positions two lists of bits differ, as far as both go.
 fn differing(one: &[bool], other: &[bool]) -> usize {
     let mut count: usize = 0;
-    for place in 0..one.len().min(other.len()) {
-        count = count.wrapping_add(usize::from(one[place] != other[place]));
+    for index in 0..one.len().min(other.len()) {
+        count = count.wrapping_add(usize::from(one[index] != other[index]));
     }
     count
 }

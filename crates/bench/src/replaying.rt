@@ -126,30 +126,30 @@ fn print_edits<R: CpuClock + AllocGlobal + Print>(
     Ok(())
 }
 
-/// Prints what edits of four kinds take at a place.
+/// Prints what edits of four kinds take at a position.
 fn print_edits_at<R: CpuClock + AllocGlobal + Print>(
     rt: &R,
     session: &mut Session<SeedCoins>,
-    place: usize,
+    position: usize,
     flip: &str,
     whole: Whole,
 ) -> Result<(), Failure> {
-    print_edit(rt, session, place, "I 1", whole)?;
-    print_edit(rt, session, place, flip, whole)?;
-    print_edit(rt, session, place, "M 1", whole)?;
-    print_edit(rt, session, place, "H 1", whole)
+    print_edit(rt, session, position, "I 1", whole)?;
+    print_edit(rt, session, position, flip, whole)?;
+    print_edit(rt, session, position, "M 1", whole)?;
+    print_edit(rt, session, position, "H 1", whole)
 }
 
 /// Prints what putting the item of a line in at a place takes.
 fn print_edit<R: CpuClock + AllocGlobal + Print>(
     rt: &R,
     session: &mut Session<SeedCoins>,
-    place: usize,
+    position: usize,
     line: &str,
     whole: Whole,
 ) -> Result<(), Failure> {
-    let cost = best_edit(rt, session, Path::new(&[place]), line)?;
-    print!(rt; "{place:>10}  {line:<6}")?;
+    let cost = best_edit(rt, session, Path::new(&[position]), line)?;
+    print!(rt; "{position:>10}  {line:<6}")?;
     print_cost(rt, cost, whole)
 }
 

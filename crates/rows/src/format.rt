@@ -46,12 +46,12 @@ pub fn read_rows(alloc: Global, text: &str) -> Result<Vec<WorkedRow>, Unread>
     ensures with_words { IfOk result (λ rows. All (λ row. 0 < vec_len row.words) rows.items) }
 {
     let mut rows = Vec::new(alloc);
-    let mut place = Section::Between;
+    let mut section = Section::Between;
     let mut number: usize = 0;
     for line in text.lines() {
         number = number.saturating_add(1);
-        match take_line(alloc, &mut rows, place, number, line) {
-            Ok(next) => place = next,
+        match take_line(alloc, &mut rows, section, number, line) {
+            Ok(next) => section = next,
             Err(wrong) => return Err(Unread {
                 line: number,
                 wrong,
@@ -78,7 +78,7 @@ fn with_words(rows: Vec<WorkedRow>) -> Result<Vec<WorkedRow>, Unread>
 fn take_line(
     alloc: Global,
     rows: &mut Vec<WorkedRow>,
-    place: Section,
+    section: Section,
     number: usize,
     line: &str,
 ) -> Result<Section, Wrong> {
@@ -86,14 +86,14 @@ fn take_line(
         return Ok(Section::Between);
     }
     if line.starts_with('#') {
-        return Ok(place);
+        return Ok(section);
     }
     if let Some(name) = line.strip_prefix("row ") {
         rows.push(WorkedRow::new(alloc, number, String::from_str(alloc, name)?))?;
         return Ok(Section::WorkedRow);
     }
     match rows.last_mut() {
-        Some(row) if place != Section::Between => take_into(alloc, row, place, line),
+        Some(row) if section != Section::Between => take_into(alloc, row, section, line),
         _ => Err(Wrong("a row begins with `row` and its name")),
     }
 }
@@ -102,12 +102,12 @@ fn take_line(
 fn take_into(
     alloc: Global,
     row: &mut WorkedRow,
-    place: Section,
+    section: Section,
     line: &str,
 ) -> Result<Section, Wrong> {
     if let Some(text) = line.strip_prefix("    ") {
-        push_text(alloc, row, place, text)?;
-        return Ok(place);
+        push_text(alloc, row, section, text)?;
+        return Ok(section);
     }
     let (field, value) = line.split_once(' ').unwrap_or((line, ""));
     let next = take_field(alloc, row, field, value)?;
@@ -179,8 +179,13 @@ fn on_failing(value: &str) -> Result<bool, Wrong> {
 }
 
 /// Puts a line after the text that is open.
-fn push_text(alloc: Global, row: &mut WorkedRow, place: Section, line: &str) -> Result<(), Wrong> {
-    match place {
+fn push_text(
+    alloc: Global,
+    row: &mut WorkedRow,
+    section: Section,
+    line: &str,
+) -> Result<(), Wrong> {
+    match section {
         Section::Circuit => match row.circuits.last_mut() {
             Some(circuit) => push_line(alloc, circuit, line),
             None => Err(Wrong("an indented line belongs to no text")),

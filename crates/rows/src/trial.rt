@@ -112,39 +112,36 @@ impl<'a, 'b> Trial<'a, 'b> {
     fn try_failing(self) -> Result<(), Failure> {
         let whole = self.run_over(self.good())?;
         let written = whole.out.bytes().len().max(whole.err.bytes().len());
-        let places = self.circuit.len().max(written).saturating_add(1);
-        for place in 0..=places {
-            self.try_failing_at(place, &whole)?;
+        let calls = self.circuit.len().max(written).saturating_add(1);
+        for call in 0..=calls {
+            self.try_failing_at(call, &whole)?;
         }
         Ok(())
     }
 
     /// The runs over devices that fail after this many bytes, if a run over good ones ends in this way.
-    fn try_failing_at(self, place: usize, whole: &Ended) -> Result<(), Failure> {
+    fn try_failing_at(self, call: usize, whole: &Ended) -> Result<(), Failure> {
         let reads = self.circuit.len().saturating_add(1);
-        let reads_fail = place <= reads && !whole.is_refused();
+        let reads_fail = call <= reads && !whole.is_refused();
         let good = Devices {
             script_fails: u64::from(self.row.script.is_empty()),
             ..self.good()
         };
         for devices in [
+            Devices { room: call, ..good },
             Devices {
-                room: place,
-                ..good
-            },
-            Devices {
-                error_room: place,
+                error_room: call,
                 flush_fails: true,
                 ..good
             },
             Devices {
-                piece: place.max(1),
-                error_room: place,
+                piece: call.max(1),
+                error_room: call,
                 ..good
             },
             Devices {
                 piece: 1,
-                circuit_fails: if reads_fail { place as u64 } else { 0 },
+                circuit_fails: if reads_fail { call as u64 } else { 0 },
                 ..good
             },
         ] {

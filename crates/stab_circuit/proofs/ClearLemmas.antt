@@ -14,14 +14,14 @@ module _ {A : Type 0} (known : List OneItem → A) (plus : A → A → A) (parts
   known-cleared : (bs : List ℕ) (at : Path) (ys zs : List OneItem) → edited_in (Delete at) bs ys ≡ Ok zs → taken_in (Delete at) bs ys ≡ Some x → known ys ≡ known zs
   known-cleared [] at ys zs e h =
       let s = changed_split (Delete at) ys zs e in
-      ap known (got_split ys at.place x h)
-      ∙ parts (take at.place ys) (x ∷ drop (suc at.place) ys)
-      ∙ ap (plus (known (take at.place ys))) (parts (x ∷ []) (drop (suc at.place) ys) ∙ adds_nothing (known (drop (suc at.place) ys)))
-      ∙ sym (parts (take at.place ys) (drop (suc at.place) ys))
-      ∙ ap (λ n. known (take at.place ys ++ drop n ys)) next
+      ap known (got_split ys at.position x h)
+      ∙ parts (take at.position ys) (x ∷ drop (suc at.position) ys)
+      ∙ ap (plus (known (take at.position ys))) (parts (x ∷ []) (drop (suc at.position) ys) ∙ adds_nothing (known (drop (suc at.position) ys)))
+      ∙ sym (parts (take at.position ys) (drop (suc at.position) ys))
+      ∙ ap (λ n. known (take at.position ys ++ drop n ys)) next
       ∙ sym (ap known s.1)
     where
-      next : suc at.place ≡ at.place + 1
+      next : suc at.position ≡ at.position + 1
       next = omega arith
   known-cleared (b ∷ bs) at ys zs e h =
       let edit = edited_in (Delete at) bs in
@@ -97,7 +97,7 @@ alike_inside x bs at b xs (Some (operation op)) f = inr (NotABlock, refl, refl)
 alike_inside x bs at b xs (Some (repeat count tag body)) f = alike_rebuilt b count tag xs _ _ (f (entries body))
 
 alike : (x : OneItem) (bs : List ℕ) (at : Path) (xs : List OneItem) → Alike (edited_in (Replace at x) bs xs) (edited_in (Delete at) bs xs)
-alike x [] at xs = alike_if (nat_lt at.place (length xs)) (set xs at.place x) (remove xs at.place)
+alike x [] at xs = alike_if (nat_lt at.position (length xs)) (set xs at.position x) (remove xs at.position)
 alike x (b ∷ bs) at xs = alike_inside x bs at b xs (slice_get xs b) (alike x bs at)
 
 -- an item that replaced another is deleted as the other would have been
@@ -109,13 +109,13 @@ if_true false a b e = absurd (cc)
 deleted_instead : (x : OneItem) (at : Path) (xs ys : List OneItem) → changed (Replace at x) xs ≡ Ok ys → changed (Delete at) ys ≡ changed (Delete at) xs
 deleted_instead x at xs ys e =
     let s = changed_split (Replace at x) xs ys e in
-    let h = if_ok (nat_lt at.place (length xs)) (set xs at.place x) ys PlaceOutOfRange e in
+    let h = if_ok (nat_lt at.position (length xs)) (set xs at.position x) ys PlaceOutOfRange e in
     ap (changed (Delete at)) s.1
-    ∙ deleted (take at.place xs) x (drop (at.place + 1) xs) at (length-take-le at.place xs s.0)
-    ∙ ap (λ n. Ok (take at.place xs ++ drop n xs)) next
-    ∙ sym (if_true (nat_lt at.place (length xs)) (Ok (remove xs at.place)) (Err PlaceOutOfRange) h.0)
+    ∙ deleted (take at.position xs) x (drop (at.position + 1) xs) at (length-take-le at.position xs s.0)
+    ∙ ap (λ n. Ok (take at.position xs ++ drop n xs)) next
+    ∙ sym (if_true (nat_lt at.position (length xs)) (Ok (remove xs at.position)) (Err PlaceOutOfRange) h.0)
   where
-    next : at.place + 1 ≡ suc at.place
+    next : at.position + 1 ≡ suc at.position
     next = omega arith
 
 delete-instead_in : (x : OneItem) (bs : List ℕ) (at : Path) (xs ys : List OneItem) → edited_in (Replace at x) bs xs ≡ Ok ys → edited_in (Delete at) bs ys ≡ edited_in (Delete at) bs xs

@@ -1,5 +1,5 @@
 -- An edit changes each round: what it takes out, and what it puts in, come before the same pieces.
-use Rattle.stab_circuit.proofs.Names.{◌≡◌, ◌<◌, refl, ap, sym, ◌∙◌, subst, ℕ, ◌+◌, ◌-◌, suc, zero, List, [], ◌∷◌, ◌++◌, length, take, drop, arith, append_assoc, append-nil, Some, Ok, length-append, length-take-le, take_at, drop_at, take-take, drop-set-lt, slice_get, Edit, Insert, Replace, Delete, OneItem, repeat, listed, entries, Step, unroll, Path, edit_path, edited_in, edited, inner, taken_at, taken_in, put_item, steps_in, steps_before, first_changed, after_taken, after_put, outermost, interleaved, rounds_in, round_pieces, pieces_in, pieces, HaveRounds, item_steps, steps_between, ChangesEachRound, block_pieces, steps-append, steps_split, put_in, changed_split, changed_before, changed_after, after_put_is, Rebuilds, rebuilds, next_place, found, front_size, new_parts, new_inner, old_inner, Stands, steps-pieces, nothing_left, got_taken, pieces-outer, pieces-block}
+use Rattle.stab_circuit.proofs.Names.{◌≡◌, ◌<◌, refl, ap, sym, ◌∙◌, subst, ℕ, ◌+◌, ◌-◌, suc, zero, List, [], ◌∷◌, ◌++◌, length, take, drop, arith, append_assoc, append-nil, Some, Ok, length-append, length-take-le, take_at, drop_at, take-take, drop-set-lt, slice_get, Edit, Insert, Replace, Delete, OneItem, repeat, listed, entries, Step, unroll, Path, edit_path, edited_in, edited, inner, taken_at, taken_in, put_item, steps_in, steps_before, first_changed, after_taken, after_put, outermost, interleaved, rounds_in, round_pieces, pieces_in, pieces, HaveRounds, item_steps, steps_between, ChangesEachRound, block_pieces, steps-append, steps_split, put_in, changed_split, changed_before, changed_after, after_put_is, Rebuilds, rebuilds, next_position, found, front_size, new_parts, new_inner, old_inner, Stands, steps-pieces, nothing_left, got_taken, pieces-outer, pieces-block}
 
 -- the steps of a list
 abbrev steps : List OneItem → List Step
@@ -18,16 +18,16 @@ up_to_suc (x ∷ xs) (suc p) =
     ∙ ap (λ l. l ++ item_steps (slice_get xs p)) (sym (steps-append (x ∷ []) (take p xs)))
 
 up_to_item : (xs : List OneItem) (p : ℕ) → steps (take (p + 1) xs) ≡ steps (take p xs) ++ item_steps (slice_get xs p)
-up_to_item xs p = ap (λ n. steps (take n xs)) (sym (next_place p)) ∙ up_to_suc xs p
+up_to_item xs p = ap (λ n. steps (take n xs)) (sym (next_position p)) ∙ up_to_suc xs p
 
 -- what an edit takes out is at its place
 
-taken_stands : (edit : Edit) (xs : List OneItem) → steps (take (after_taken edit) xs) ≡ steps (take (edit_path edit).place xs) ++ item_steps (taken_at edit xs)
-taken_stands (Insert at x) xs = sym (append-nil (steps (take at.place xs)))
-taken_stands (Replace at x) xs = up_to_item xs at.place
-taken_stands (Delete at) xs = up_to_item xs at.place
+taken_stands : (edit : Edit) (xs : List OneItem) → steps (take (after_taken edit) xs) ≡ steps (take (edit_path edit).position xs) ++ item_steps (taken_at edit xs)
+taken_stands (Insert at x) xs = sym (append-nil (steps (take at.position xs)))
+taken_stands (Replace at x) xs = up_to_item xs at.position
+taken_stands (Delete at) xs = up_to_item xs at.position
 
-stands_before : (edit : Edit) (bs : List ℕ) (xs : List OneItem) → HaveRounds bs xs → Stands (item_steps (taken_in edit bs xs)) (after_taken edit) bs (edit_path edit).place xs
+stands_before : (edit : Edit) (bs : List ℕ) (xs : List OneItem) → HaveRounds bs xs → Stands (item_steps (taken_in edit bs xs)) (after_taken edit) bs (edit_path edit).position xs
 stands_before edit [] xs h = taken_stands edit xs
 stands_before edit (b ∷ bs) xs h = (h.0, stands_before edit bs (inner (slice_get xs b)) h.1)
 
@@ -38,18 +38,18 @@ steps_put (Insert at x) = refl
 steps_put (Replace at x) = refl
 steps_put (Delete at) = refl
 
-put_stands : (edit : Edit) (xs ys : List OneItem) → edited_in edit [] xs ≡ Ok ys → steps (take (after_put edit) ys) ≡ steps (take (edit_path edit).place ys) ++ item_steps (put_item edit)
+put_stands : (edit : Edit) (xs ys : List OneItem) → edited_in edit [] xs ≡ Ok ys → steps (take (after_put edit) ys) ≡ steps (take (edit_path edit).position ys) ++ item_steps (put_item edit)
 put_stands edit xs ys e =
     let s = changed_split edit xs ys e in
-    let front = take (edit_path edit).place xs in
+    let front = take (edit_path edit).position xs in
     let rest = drop (after_taken edit) xs in
     let long : length (front ++ put_in edit) ≡ after_put edit =
-    length-append front (put_in edit) ∙ ap (λ n. n + length (put_in edit)) (length-take-le (edit_path edit).place xs s.0) ∙ sym (after_put_is edit) in
+    length-append front (put_in edit) ∙ ap (λ n. n + length (put_in edit)) (length-take-le (edit_path edit).position xs s.0) ∙ sym (after_put_is edit) in
     ap (λ l. steps (take (after_put edit) l)) (s.1 ∙ sym (append_assoc front (put_in edit) rest))
     ∙ ap steps (take_at (front ++ put_in edit) rest (after_put edit) long)
     ∙ steps-append front (put_in edit)
     ∙ ap (λ l. steps l ++ steps (put_in edit)) (sym (changed_before edit xs ys e))
-    ∙ ap (λ l. steps (take (edit_path edit).place ys) ++ l) (steps_put edit)
+    ∙ ap (λ l. steps (take (edit_path edit).position ys) ++ l) (steps_put edit)
 
 -- around the block that was rebuilt
 module _ (edit : Edit) (b : ℕ) (bs : List ℕ) (xs ys : List OneItem) (r : Rebuilds (edited_in edit bs) b xs ys) where
@@ -71,24 +71,24 @@ module _ (edit : Edit) (b : ℕ) (bs : List ℕ) (xs ys : List OneItem) (r : Reb
 
 -- what an edit puts in is in each round, before what was there
 
-stands_after : (edit : Edit) (bs : List ℕ) (xs ys : List OneItem) → edited_in edit bs xs ≡ Ok ys → HaveRounds bs xs → Stands (item_steps (put_item edit)) (after_put edit) bs (edit_path edit).place ys
+stands_after : (edit : Edit) (bs : List ℕ) (xs ys : List OneItem) → edited_in edit bs xs ≡ Ok ys → HaveRounds bs xs → Stands (item_steps (put_item edit)) (after_put edit) bs (edit_path edit).position ys
 stands_after edit [] xs ys e h = put_stands edit xs ys e
 stands_after edit (b ∷ bs) xs ys e h =
     let r = rebuilds (edited_in edit bs) b xs ys (slice_get xs b) refl e in
     let within = stands_after edit bs (entries r.body) r.within r.edited (subst (HaveRounds bs) (old_inner (edited_in edit bs) b xs ys r) h.1) in (
       subst (λ n. 0 < n) (sym (same_rounds edit b bs xs ys r)) h.0,
-      subst (Stands (item_steps (put_item edit)) (after_put edit) bs (edit_path edit).place) (sym (new_inner (edited_in edit bs) b xs ys r)) within,
+      subst (Stands (item_steps (put_item edit)) (after_put edit) bs (edit_path edit).position) (sym (new_inner (edited_in edit bs) b xs ys r)) within,
     )
 
-pub same_lead : (edit : Edit) (bs : List ℕ) (xs ys : List OneItem) → edited_in edit bs xs ≡ Ok ys → steps_in bs (edit_path edit).place ys ≡ steps_in bs (edit_path edit).place xs
+pub same_lead : (edit : Edit) (bs : List ℕ) (xs ys : List OneItem) → edited_in edit bs xs ≡ Ok ys → steps_in bs (edit_path edit).position ys ≡ steps_in bs (edit_path edit).position xs
 same_lead edit [] xs ys e = ap steps (changed_before edit xs ys e)
 same_lead edit (b ∷ bs) xs ys e =
     let r = rebuilds (edited_in edit bs) b xs ys (slice_get xs b) refl e in
-    let place = (edit_path edit).place in
-    ap (λ l. steps l ++ steps_in bs place (inner (slice_get ys b))) (same_front edit b bs xs ys r)
-    ∙ ap (λ l. steps (take b xs) ++ steps_in bs place l) (new_inner (edited_in edit bs) b xs ys r)
+    let position = (edit_path edit).position in
+    ap (λ l. steps l ++ steps_in bs position (inner (slice_get ys b))) (same_front edit b bs xs ys r)
+    ∙ ap (λ l. steps (take b xs) ++ steps_in bs position l) (new_inner (edited_in edit bs) b xs ys r)
     ∙ ap (λ l. steps (take b xs) ++ l) (same_lead edit bs (entries r.body) r.within r.edited)
-    ∙ ap (λ l. steps (take b xs) ++ steps_in bs place l) (sym (old_inner (edited_in edit bs) b xs ys r))
+    ∙ ap (λ l. steps (take b xs) ++ steps_in bs position l) (sym (old_inner (edited_in edit bs) b xs ys r))
 
 -- rounds of pieces that are the same
 same_round : (n m : ℕ) (f g : List Step → List (List Step)) (lead other : List Step) → n ≡ m → ((b : List Step) → f b ≡ g b) → lead ≡ other → (following : List Step)
@@ -101,29 +101,29 @@ same_round n m f g lead other e h l following = ap (λ k. round_pieces k f lead 
     each (suc (suc k)) = ap (λ t. t ++ round_pieces (suc k) f other following) (h other) ∙ ap (λ t. g other ++ t) (each (suc k))
 
 same_in_block : (edit : Edit) (b : ℕ) (bs : List ℕ) (xs ys : List OneItem) (r : Rebuilds (edited_in edit bs) b xs ys)
-    → ((t : List Step) → pieces_in (after_put edit) bs (edit_path edit).place r.within t ≡ pieces_in (after_taken edit) bs (edit_path edit).place (entries r.body) t) → (following : List Step)
-    → block_pieces (after_put edit) bs (edit_path edit).place (slice_get ys b) following ≡ block_pieces (after_taken edit) bs (edit_path edit).place (slice_get xs b) following
+    → ((t : List Step) → pieces_in (after_put edit) bs (edit_path edit).position r.within t ≡ pieces_in (after_taken edit) bs (edit_path edit).position (entries r.body) t) → (following : List Step)
+    → block_pieces (after_put edit) bs (edit_path edit).position (slice_get ys b) following ≡ block_pieces (after_taken edit) bs (edit_path edit).position (slice_get xs b) following
 same_in_block edit b bs xs ys r same following =
-    let place = (edit_path edit).place in
-    let lead = ap (steps_in bs place) (new_inner (edited_in edit bs) b xs ys r) ∙ same_lead edit bs (entries r.body) r.within r.edited ∙ ap (steps_in bs place) (sym (old_inner (edited_in edit bs) b xs ys r)) in
-    let round : (t : List Step) → pieces_in (after_put edit) bs place (inner (slice_get ys b)) t ≡ pieces_in (after_taken edit) bs place (inner (slice_get xs b)) t =
-    λ t. ap (λ l. pieces_in (after_put edit) bs place l t) (new_inner (edited_in edit bs) b xs ys r) ∙ same t ∙ ap (λ l. pieces_in (after_taken edit) bs place l t) (sym (old_inner (edited_in edit bs) b xs ys r)) in
-    same_round (rounds_in (slice_get ys b)) (rounds_in (slice_get xs b)) (pieces_in (after_put edit) bs place (inner (slice_get ys b))) (pieces_in (after_taken edit) bs place (inner (slice_get xs b)))
-    (steps_in bs place (inner (slice_get ys b))) (steps_in bs place (inner (slice_get xs b))) (same_rounds edit b bs xs ys r) round lead following
+    let position = (edit_path edit).position in
+    let lead = ap (steps_in bs position) (new_inner (edited_in edit bs) b xs ys r) ∙ same_lead edit bs (entries r.body) r.within r.edited ∙ ap (steps_in bs position) (sym (old_inner (edited_in edit bs) b xs ys r)) in
+    let round : (t : List Step) → pieces_in (after_put edit) bs position (inner (slice_get ys b)) t ≡ pieces_in (after_taken edit) bs position (inner (slice_get xs b)) t =
+    λ t. ap (λ l. pieces_in (after_put edit) bs position l t) (new_inner (edited_in edit bs) b xs ys r) ∙ same t ∙ ap (λ l. pieces_in (after_taken edit) bs position l t) (sym (old_inner (edited_in edit bs) b xs ys r)) in
+    same_round (rounds_in (slice_get ys b)) (rounds_in (slice_get xs b)) (pieces_in (after_put edit) bs position (inner (slice_get ys b))) (pieces_in (after_taken edit) bs position (inner (slice_get xs b)))
+    (steps_in bs position (inner (slice_get ys b))) (steps_in bs position (inner (slice_get xs b))) (same_rounds edit b bs xs ys r) round lead following
 
 same_in_list : (edit : Edit) (bs : List ℕ) (xs ys : List OneItem) → edited_in edit bs xs ≡ Ok ys → (following : List Step)
-    → pieces_in (after_put edit) bs (edit_path edit).place ys following ≡ pieces_in (after_taken edit) bs (edit_path edit).place xs following
+    → pieces_in (after_put edit) bs (edit_path edit).position ys following ≡ pieces_in (after_taken edit) bs (edit_path edit).position xs following
 same_in_list edit [] xs ys e following = ap (λ l. (steps l ++ following) ∷ []) (sym (changed_after edit xs ys e))
 same_in_list edit (b ∷ bs) xs ys e following =
     let r = rebuilds (edited_in edit bs) b xs ys (slice_get xs b) refl e in
     same_in_block edit b bs xs ys r (same_in_list edit bs (entries r.body) r.within r.edited) (steps (drop (b + 1) ys) ++ following)
-    ∙ ap (λ l. block_pieces (after_taken edit) bs (edit_path edit).place (slice_get xs b) (steps l ++ following)) (same_back edit b bs xs ys r)
+    ∙ ap (λ l. block_pieces (after_taken edit) bs (edit_path edit).position (slice_get xs b) (steps l ++ following)) (same_back edit b bs xs ys r)
 
 same_pieces : (edit : Edit) (xs ys : List OneItem) → edited edit xs ≡ Ok ys → pieces (edit_path edit) (after_put edit) ys ≡ pieces (edit_path edit) (after_taken edit) xs
 same_pieces edit xs ys e = by_blocks (edit_path edit).blocks refl
   where
     in_block : (b : ℕ) (bs : List ℕ) (r : Rebuilds (edited_in edit bs) b xs ys)
-        → block_pieces (after_put edit) bs (edit_path edit).place (slice_get ys b) [] ≡ block_pieces (after_taken edit) bs (edit_path edit).place (slice_get xs b) []
+        → block_pieces (after_put edit) bs (edit_path edit).position (slice_get ys b) [] ≡ block_pieces (after_taken edit) bs (edit_path edit).position (slice_get xs b) []
     in_block b bs r = same_in_block edit b bs xs ys r (same_in_list edit bs (entries r.body) r.within r.edited) []
 
     by_blocks : (bs : List ℕ) → (edit_path edit).blocks ≡ bs → pieces (edit_path edit) (after_put edit) ys ≡ pieces (edit_path edit) (after_taken edit) xs
@@ -135,21 +135,21 @@ same_pieces edit xs ys e = by_blocks (edit_path edit).blocks refl
 
 -- the steps up to the end of the outermost item
 
-up_to_end : (gates : List Step) (end : ℕ) (bs : List ℕ) (place : ℕ) (xs : List OneItem) → Stands gates end bs place xs
-    → steps (take (outermost end bs) xs) ≡ steps_in bs place xs ++ interleaved gates (pieces_in end bs place (take (outermost end bs) xs) [])
-up_to_end gates end [] place xs stands =
+up_to_end : (gates : List Step) (end : ℕ) (bs : List ℕ) (position : ℕ) (xs : List OneItem) → Stands gates end bs position xs
+    → steps (take (outermost end bs) xs) ≡ steps_in bs position xs ++ interleaved gates (pieces_in end bs position (take (outermost end bs) xs) [])
+up_to_end gates end [] position xs stands =
     stands
-    ∙ ap (λ l. steps (take place xs) ++ l) (sym (append-nil gates))
-    ∙ ap (λ l. steps (take place xs) ++ interleaved gates ((steps l ++ []) ∷ [])) (sym (nothing_left end xs))
-up_to_end gates end (b ∷ bs) place xs stands =
+    ∙ ap (λ l. steps (take position xs) ++ l) (sym (append-nil gates))
+    ∙ ap (λ l. steps (take position xs) ++ interleaved gates ((steps l ++ []) ∷ [])) (sym (nothing_left end xs))
+up_to_end gates end (b ∷ bs) position xs stands =
     let some = take (b + 1) xs in
     let x = got_taken xs b in
-    let all = pieces_in end (b ∷ bs) place some [] in
-    let within = subst (λ o. (0 < rounds_in o) × Stands gates end bs place (inner o)) (sym x) stands in
+    let all = pieces_in end (b ∷ bs) position some [] in
+    let within = subst (λ o. (0 < rounds_in o) × Stands gates end bs position (inner o)) (sym x) stands in
     sym (append-nil (steps some))
-    ∙ steps-pieces gates end (b ∷ bs) place some within []
-    ∙ ap (λ l. (steps l ++ steps_in bs place (inner (slice_get some b))) ++ interleaved gates all) (take-take b (b + 1) xs (omega arith))
-    ∙ ap (λ o. (steps (take b xs) ++ steps_in bs place (inner o)) ++ interleaved gates all) x
+    ∙ steps-pieces gates end (b ∷ bs) position some within []
+    ∙ ap (λ l. (steps l ++ steps_in bs position (inner (slice_get some b))) ++ interleaved gates all) (take-take b (b + 1) xs (omega arith))
+    ∙ ap (λ o. (steps (take b xs) ++ steps_in bs position (inner o)) ++ interleaved gates all) x
 
 between_ends : (first end : ℕ) (all front middle back : List Step) → all ≡ (front ++ middle) ++ back → first ≡ length front → end ≡ length (front ++ middle) → steps_between first end all ≡ middle
 between_ends first end all front middle back e f g =
@@ -158,11 +158,11 @@ between_ends first end all front middle back e f g =
     ∙ ap (take (end - first)) (drop_at front (middle ++ back) first (sym f))
     ∙ take_at middle back (end - first) long
 
-stands_between : (gates : List Step) (end first : ℕ) (path : Path) (xs : List OneItem) → Stands gates end path.blocks path.place xs → first ≡ length (steps_before path xs)
+stands_between : (gates : List Step) (end first : ℕ) (path : Path) (xs : List OneItem) → Stands gates end path.blocks path.position xs → first ≡ length (steps_before path xs)
     → steps_between first (length (steps (take (outermost end path.blocks) xs))) (steps xs) ≡ interleaved gates (pieces path end xs)
 stands_between gates end first path xs stands f =
     let o = outermost end path.blocks in
-    let up_to = up_to_end gates end path.blocks path.place xs stands in
+    let up_to = up_to_end gates end path.blocks path.position xs stands in
     between_ends first (length (steps (take o xs))) (steps xs) (steps_before path xs) (interleaved gates (pieces path end xs)) (steps (drop o xs))
     (steps_split o xs ∙ ap (λ l. l ++ steps (drop o xs)) up_to) f (ap length up_to)
 

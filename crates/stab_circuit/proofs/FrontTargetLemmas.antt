@@ -66,15 +66,15 @@ some_long : (word : List ℕ) → is_some_word word ≡ true → 0 < length word
 some_long [] h = cc
 some_long (b ∷ bs) h = omega arith
 
-end_place : (word rest : List ℕ) → Lacks is_spacing word → is_word_end rest ≡ true → position_or_len is_spacing (word ++ rest) ≡ length word
-end_place word [] f e = ap (position_or_len is_spacing) (append-nil word) ∙ lacks_position is_spacing word f
-end_place word (y ∷ ys) f e = position_front is_spacing word y ys f e
+word_end : (word rest : List ℕ) → Lacks is_spacing word → is_word_end rest ≡ true → position_or_len is_spacing (word ++ rest) ≡ length word
+word_end word [] f e = ap (position_or_len is_spacing) (append-nil word) ∙ lacks_position is_spacing word f
+word_end word (y ∷ ys) f e = position_front is_spacing word y ys f e
 
 -- a word in front, and what follows it
 pub word_begins : (bs front word rest : List ℕ) → front ≡ trimmed_front bs → front ≡ word ++ rest → Lacks is_spacing word → is_some_word word ≡ true → is_word_end rest ≡ true → words bs ≡ word ∷ words rest
 word_begins bs front word rest e same lacks some end =
-    let place : length word ≡ position_or_len is_spacing front = sym (ap (position_or_len is_spacing) same ∙ end_place word rest lacks end) in
-    one_word bs front (length word) e (omega (arith, ap length same, length-append word rest, some_long word some)) place
+    let position : length word ≡ position_or_len is_spacing front = sym (ap (position_or_len is_spacing) same ∙ word_end word rest lacks end) in
+    one_word bs front (length word) e (omega (arith, ap length same, length-append word rest, some_long word some)) position
     ∙ ap (λ l. l ∷ words (drop (length word) front)) (ap (take (length word)) same ∙ take_front word rest)
     ∙ ap (λ l. word ∷ words l) (ap (drop (length word)) same ∙ drop_front word rest)
 

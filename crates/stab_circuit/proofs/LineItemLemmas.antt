@@ -120,7 +120,7 @@ edited_meant edit [] xs ys e puts g =
     let s = changed_split edit xs ys e in
     let n = after_taken edit in
     subst (Each IsMeant) (sym s.1)
-    (each-append IsMeant (take (edit_path edit).place xs) (put_in edit ++ drop n xs) (each_take IsMeant (edit_path edit).place xs g) (each-append IsMeant (put_in edit) (drop n xs) puts (each_drop IsMeant n xs g)))
+    (each-append IsMeant (take (edit_path edit).position xs) (put_in edit ++ drop n xs) (each_take IsMeant (edit_path edit).position xs g) (each-append IsMeant (put_in edit) (drop n xs) puts (each_drop IsMeant n xs g)))
 edited_meant edit (b ∷ bs) xs ys e puts g = block_meant (edited_in edit bs) b xs ys e (λ us vs f h. edited_meant edit bs us vs f puts h) g
 
 put_meant : (edit : Edit) → PutsLines edit → Each IsMeant (put_in edit)
@@ -183,8 +183,8 @@ inner_ones xs b (Some (repeat count tag body)) f e =
 
 taken_one : (edit : Edit) (bs : List ℕ) (xs : List OneItem) (x : OneItem) → taken_in edit bs xs ≡ Some x → Each IsOne xs → IsOne x
 taken_one (Insert at y) [] xs x e g = absurd (cc)
-taken_one (Replace at y) [] xs x e g = got_one xs at.place x e g
-taken_one (Delete at) [] xs x e g = got_one xs at.place x e g
+taken_one (Replace at y) [] xs x e g = got_one xs at.position x e g
+taken_one (Delete at) [] xs x e g = got_one xs at.position x e g
 taken_one edit (b ∷ bs) xs x e g = taken_one edit bs (inner (slice_get xs b)) x e (inner_ones xs b (slice_get xs b) refl g)
 
 pub taken_of_lines : (edit : Edit) (old : List OneItem) (item : OneItem) → AreOfLines (listed old) → taken edit old ≡ Some item → AreOfLines (before item done)

@@ -95,7 +95,7 @@ pub use Rattle.stab_items.specs.declared.edit.Edit.{Edit}
 pub use Rattle.stab_items.specs.declared.edit.Edit.TheVariants.{Insert, Replace, Delete}
 pub use Rattle.stab_items.specs.inner.Gaps.{block_pieces}
 pub use Rattle.stab_items.proofs.LineDistinctLemmas.{each_left, each_right, joined_distinct}
-pub use Rattle.stab_items.proofs.EditLemmas.{steps-append, steps_split, put_in, changed_split, changed_before, changed_after, after_put_is, Rebuilds, rebuilds, next_place, listed-entries, got_split, if_ok, lt_holds, edits_leave}
+pub use Rattle.stab_items.proofs.EditLemmas.{steps-append, steps_split, put_in, changed_split, changed_before, changed_after, after_put_is, Rebuilds, rebuilds, next_position, listed-entries, got_split, if_ok, lt_holds, edits_leave}
 pub use Rattle.stab_items.proofs.UndoLemmas.{found, front_size, new_parts, new_inner, old_inner, around, old_parts, edited_new, edited_old, deleted, replace-retaken}
 pub use Rattle.stab_items.proofs.PieceLemmas.{Stands, steps-pieces}
 pub use Rattle.stab_items.proofs.GapPartLemmas.{nothing_left, got_taken, pieces-outer, pieces-block}

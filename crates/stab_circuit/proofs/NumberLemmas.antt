@@ -16,8 +16,8 @@ passes_at p xs k true lt e h = refl
 passes_at p xs k false lt e h = sym (list_all_at p xs k 0 lt e) ∙ h
 
 -- digits up to the end of a word are before the first spacing
-number_place : (bs : List ℕ) (n : ℕ) → n ≤ length bs → list_all is_digit (take n bs) ≡ true → is_word_end (drop n bs) ≡ true → n ≡ position_or_len is_spacing bs
-number_place bs n within digits end =
+number_end : (bs : List ℕ) (n : ℕ) → n ≤ length bs → list_all is_digit (take n bs) ≡ true → is_word_end (drop n bs) ≡ true → n ≡ position_or_len is_spacing bs
+number_end bs n within digits end =
     sym (position_or_len_is is_spacing bs n 0 within (λ k lt. digit_solid (get_or bs k 0) (at k lt)) (λ lt. end_spacing bs n lt end))
   where
     at : (k : ℕ) → k < n → is_digit (get_or bs k 0) ≡ true
@@ -31,9 +31,9 @@ some_taken (b ∷ bs) n h within = let one = length-take n (b ∷ bs) in grind (
 pub number_begins : (bs front rest : List ℕ) (n number : ℕ) → front ≡ trimmed_front bs → 0 < n → n ≤ length front → list_all is_digit (take n front) ≡ true
     → number ≡ value (take n front) → IsAfterWord (drop n front) rest → BeginsWithNumber bs number rest
 number_begins bs front rest n number e some within digits same following =
-    let place = number_place front n within digits following.0 in (
+    let position = number_end front n within digits following.0 in (
       take n front,
-      one_word bs front n e (omega (arith, some, within)) place ∙ ap (λ ws. take n front ∷ ws) (sym following.1),
+      one_word bs front n e (omega (arith, some, within)) position ∙ ap (λ ws. take n front ∷ ws) (sym following.1),
       both (is_some_word (take n front)) _ (some_taken front n some within) digits,
       sym same,
     )
@@ -41,7 +41,7 @@ number_begins bs front rest n number e some within digits same following =
 -- what follows a number in front is shorter
 pub number_ends : (bs front rest : List ℕ) (n : ℕ) → front ≡ trimmed_front bs → 0 < n → n ≤ length front → list_all is_digit (take n front) ≡ true → IsAfterWord (drop n front) rest → length rest < length bs
 number_ends bs front rest n e some within digits following =
-    let shorter = rest_shorter bs front n e (omega (arith, some, within)) (number_place front n within digits following.0) in
+    let shorter = rest_shorter bs front n e (omega (arith, some, within)) (number_end front n within digits following.0) in
     omega (arith, shorter, following.2)
 
 -- there is no spacing before digits

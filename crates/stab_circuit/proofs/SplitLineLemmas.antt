@@ -23,25 +23,25 @@ parts_meant round count tag body lt g =
     (rounds_meant round count tag body (omega (arith, lt)) g) (one, rounds_meant (count - (round + 1)) count tag body (omega arith) g)
 
 -- the parts that replace an item
-there_meant : (round place : ℕ) (xs ys : List OneItem) (o : Option OneItem) → slice_get xs place ≡ o → with_parts place xs (parts_of_item round o) ≡ Ok ys → Each IsMeant xs → Each IsMeant ys
-there_meant round place xs ys None found e g = absurd (cc)
-there_meant round place xs ys (Some (operation op)) found e g = absurd (cc)
-there_meant round place xs ys (Some (repeat count tag body)) found e g = by_test (nat_lt round count) refl e
+there_meant : (round position : ℕ) (xs ys : List OneItem) (o : Option OneItem) → slice_get xs position ≡ o → with_parts position xs (parts_of_item round o) ≡ Ok ys → Each IsMeant xs → Each IsMeant ys
+there_meant round position xs ys None found e g = absurd (cc)
+there_meant round position xs ys (Some (operation op)) found e g = absurd (cc)
+there_meant round position xs ys (Some (repeat count tag body)) found e g = by_test (nat_lt round count) refl e
   where
-    by_test : (b : Bool) → nat_lt round count ≡ b → with_parts place xs (if b then Ok (parts_of_block round count tag body) else Err PlaceOutOfRange) ≡ Ok ys → Each IsMeant ys
+    by_test : (b : Bool) → nat_lt round count ≡ b → with_parts position xs (if b then Ok (parts_of_block round count tag body) else Err PlaceOutOfRange) ≡ Ok ys → Each IsMeant ys
     by_test false t e = absurd (cc)
     by_test true t e =
-        let new : take place xs ++ (parts_of_block round count tag body ++ drop (place + 1) xs) ≡ ys = cc in
-        let parts = parts_meant round count tag body (lt_holds round count t) (got_meant xs place (repeat count tag body) found g) in
+        let new : take position xs ++ (parts_of_block round count tag body ++ drop (position + 1) xs) ≡ ys = cc in
+        let parts = parts_meant round count tag body (lt_holds round count t) (got_meant xs position (repeat count tag body) found g) in
         subst (Each IsMeant) new
-        (each-append IsMeant (take place xs) (parts_of_block round count tag body ++ drop (place + 1) xs) (each_take IsMeant place xs g)
-        (each-append IsMeant (parts_of_block round count tag body) (drop (place + 1) xs) parts (each_drop IsMeant (place + 1) xs g)))
+        (each-append IsMeant (take position xs) (parts_of_block round count tag body ++ drop (position + 1) xs) (each_take IsMeant position xs g)
+        (each-append IsMeant (parts_of_block round count tag body) (drop (position + 1) xs) parts (each_drop IsMeant (position + 1) xs g)))
 
-split_meant : (round : ℕ) (bs : List ℕ) (place : ℕ) (xs ys : List OneItem) → split_in round bs place xs ≡ Ok ys → Each IsMeant xs → Each IsMeant ys
-split_meant round [] place xs ys e g = there_meant round place xs ys (slice_get xs place) refl e g
-split_meant round (b ∷ bs) place xs ys e g = block_meant (split_in round bs place) b xs ys e (λ us vs f h. split_meant round bs place us vs f h) g
+split_meant : (round : ℕ) (bs : List ℕ) (position : ℕ) (xs ys : List OneItem) → split_in round bs position xs ≡ Ok ys → Each IsMeant xs → Each IsMeant ys
+split_meant round [] position xs ys e g = there_meant round position xs ys (slice_get xs position) refl e g
+split_meant round (b ∷ bs) position xs ys e g = block_meant (split_in round bs position) b xs ys e (λ us vs f h. split_meant round bs position us vs f h) g
 
 pub split_of_lines : (path : Path) (round : ℕ) (old new : List OneItem) → AreOfLines (listed old) → split path round old ≡ Ok new → AreOfLines (listed new)
 split_of_lines path round old new s e =
-    let alike = split_alike round path.blocks path.place old new e in
-    of_lines (listed new) (listed_meant new (split_meant round path.blocks path.place old new e (each_meant old (meant_of (listed old) s)))) (omega (arith, alike.depth, shallow_of (listed old) s))
+    let alike = split_alike round path.blocks path.position old new e in
+    of_lines (listed new) (listed_meant new (split_meant round path.blocks path.position old new e (each_meant old (meant_of (listed old) s)))) (omega (arith, alike.depth, shallow_of (listed old) s))

@@ -106,7 +106,7 @@ fn explanation_of_item<'a>(
     item: &RefusedItem,
     refusal: Refusal,
 ) -> Result<(Part<'a>, String), AllocError> {
-    let place = item.place.as_str();
+    let path = item.path.as_str();
     if refusal == Refusal::LookbackTooFar {
         let part = find_lookback(alloc, line, item.records)?;
         let records = match item.records {
@@ -115,7 +115,7 @@ fn explanation_of_item<'a>(
             records => format!(in alloc; "{records} records are")?,
         };
         let text = format!(in alloc;
-            "This looks back past the first record: {records} before item {place}.\n{}",
+            "This looks back past the first record: {records} before item {path}.\n{}",
             sentences::LOOK_BACK_LESS
         )?;
         return Ok((part, text));
@@ -126,7 +126,7 @@ fn explanation_of_item<'a>(
         ""
     };
     let text = format!(in alloc;
-        "There are more than 1048576 steps up to the end of item {place}.\n\
+        "There are more than 1048576 steps up to the end of item {path}.\n\
         The whole circuit has {least}{} steps.\n{}",
         item.steps_of_text,
         sentences::MAKE_SHORTER

@@ -16,8 +16,8 @@ impl<'a> FaultyLine<'a> {
             Some(Instruction::Swap | Instruction::Controlled(_))
         );
         let words = words(self.alloc, self.parts.targets)?;
-        for (place, word) in words.iter().enumerate() {
-            let is_second = takes_pairs && place % 2 == 1;
+        for (index, word) in words.iter().enumerate() {
+            let is_second = takes_pairs && index % 2 == 1;
             if self.refusal_of_target(word.bytes(), is_second)? == Some(refusal) {
                 return self.find_in_target(*word, is_second, refusal);
             }

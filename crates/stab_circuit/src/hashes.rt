@@ -66,18 +66,18 @@ pub(crate) fn stretch_hash(text: &[u8]) -> Hash {
 
 /// The eight bytes from a position on, as one number.
 #[inline(always)]
-fn word_at(bytes: &[u8], place: usize) -> u64
-    requires inside { place + 8 ≤ length bytes.now }
+fn word_at(bytes: &[u8], position: usize) -> u64
+    requires inside { position + 8 ≤ length bytes.now }
 {
     u64::from_le_bytes([
-        bytes[place],
-        bytes[place + 1],
-        bytes[place + 2],
-        bytes[place + 3],
-        bytes[place + 4],
-        bytes[place + 5],
-        bytes[place + 6],
-        bytes[place + 7],
+        bytes[position],
+        bytes[position + 1],
+        bytes[position + 2],
+        bytes[position + 3],
+        bytes[position + 4],
+        bytes[position + 5],
+        bytes[position + 6],
+        bytes[position + 7],
     ])
 }
 

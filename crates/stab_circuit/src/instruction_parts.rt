@@ -82,7 +82,7 @@ fn bracketed<'a>(
 /// The first brace in a part, if it can't be there.
 fn without_brace<'a>(part: Part<'a>) -> Result<(), Finding<'a>> {
     match part.bytes().iter().position(|b| is_brace(*b)) {
-        Some(place) => Err((part.split(place).1.split(1).0, sentences::BRACE_WITHIN)),
+        Some(position) => Err((part.split(position).1.split(1).0, sentences::BRACE_WITHIN)),
         None => Ok(()),
     }
 }

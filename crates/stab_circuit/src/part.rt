@@ -34,10 +34,10 @@ impl<'a> Part<'a> {
 
     /// Its first bytes, this many, and what follows them.
     pub(crate) fn split(self, count: usize) -> (Part<'a>, Part<'a>) {
-        let place = self.start.saturating_add(count).min(self.end);
+        let position = self.start.saturating_add(count).min(self.end);
         (
-            self.between(self.start, place),
-            self.between(place, self.end),
+            self.between(self.start, position),
+            self.between(position, self.end),
         )
     }
 
@@ -48,8 +48,8 @@ impl<'a> Part<'a> {
 
     /// Its first bytes that are no ASCII, up to the next of the line that is.
     pub(crate) fn beyond_ascii(self) -> Option<Part<'a>> {
-        let place = self.bytes().iter().position(|b| !b.is_ascii())?;
-        let start = self.start.saturating_add(place);
+        let position = self.bytes().iter().position(|b| !b.is_ascii())?;
+        let start = self.start.saturating_add(position);
         let rest = self.between(start, self.line.len());
         let length = rest.bytes().iter().take_while(|b| !b.is_ascii()).count();
         Some(rest.split(length).0)
@@ -72,9 +72,9 @@ pub(crate) fn pieces<'a>(
 ) -> Result<Vec<Part<'a>>, AllocError> {
     let mut pieces = Vec::new(alloc);
     let mut start = part.start;
-    for (place, byte) in part.bytes().iter().enumerate() {
+    for (position, byte) in part.bytes().iter().enumerate() {
         if separators.contains(byte) {
-            let end = part.start.saturating_add(place);
+            let end = part.start.saturating_add(position);
             pieces.push(part.between(start, end))?;
             start = end.saturating_add(1);
         }

@@ -19,7 +19,7 @@ pub(crate) struct RefusedItem {
     /// Its line, or that of its opening.
     pub(crate) line: u64,
     /// Its path, as scripts of edits have it, and the round if it is in a block.
-    pub(crate) place: String,
+    pub(crate) path: String,
     /// How many records are before it.
     pub(crate) records: u64,
     /// How many steps the whole text has, or 2^64 - 1 if there are more.
@@ -29,7 +29,7 @@ pub(crate) struct RefusedItem {
 /// An item's position in the innermost block around it, and how many steps and records are before it.
 #[derive(Clone, Copy)]
 struct Before {
-    place: u64,
+    position: u64,
     steps: u64,
     records: u64,
 }
@@ -64,7 +64,7 @@ pub(crate) fn find_item(
         refusal,
         blocks: Vec::new(alloc),
         now: Before {
-            place: 0,
+            position: 0,
             steps: 0,
             records: 0,
         },
@@ -107,7 +107,7 @@ impl ItemSearch {
             count,
             before,
         })?;
-        self.now.place = 0;
+        self.now.position = 0;
         Ok(())
     }
 
@@ -119,7 +119,7 @@ impl ItemSearch {
         let before = block.before;
         let rounds = block.count.number();
         self.now = Before {
-            place: before.place,
+            position: before.position,
             steps: after_rounds(before.steps, self.now.steps, rounds),
             records: after_rounds(before.records, self.now.records, rounds),
         };
@@ -145,7 +145,7 @@ impl ItemSearch {
         if self.refusal == Refusal::TooManySteps && self.now.steps > MOST_STEPS {
             self.note(line)?;
         }
-        self.now.place = self.now.place.saturating_add(1);
+        self.now.position = self.now.position.saturating_add(1);
         Ok(())
     }
 
@@ -154,17 +154,17 @@ impl ItemSearch {
         if self.found.is_some() {
             return Ok(());
         }
-        let mut place = String::new(self.alloc);
+        let mut path = String::new(self.alloc);
         for block in self.blocks.iter() {
-            write!(place, "{}/", block.before.place)?;
+            write!(path, "{}/", block.before.position)?;
         }
-        write!(place, "{}", self.now.place)?;
+        write!(path, "{}", self.now.position)?;
         if !self.blocks.is_empty() {
-            place.push_str(", in the first round of its block")?;
+            path.push_str(", in the first round of its block")?;
         }
         self.found = Some(RefusedItem {
             line,
-            place,
+            path,
             records: self.now.records,
             steps_of_text: 0,
         });
@@ -175,8 +175,8 @@ impl ItemSearch {
 /// How far back an instruction looks, or 0.
 pub(crate) fn furthest_lookback(kind: &Kind) -> u64 {
     let mut furthest = 0;
-    for place in 0..step_count(kind) {
-        if let Some(step) = step_at(kind, place) {
+    for index in 0..step_count(kind) {
+        if let Some(step) = step_at(kind, index) {
             furthest = furthest_of(furthest, step);
         }
     }

@@ -43,12 +43,16 @@ fn cut_if(cut: bool) -> &'static str {
 }
 
 /// What is shown of a line: all of it, or this many bytes with a part's beginning.
-fn window_round<'a>(line: &'a [u8], place: usize) -> Part<'a> {
+fn window_round<'a>(line: &'a [u8], position: usize) -> Part<'a> {
     let whole = Part::whole(line);
     if line.len() <= MOST_WHOLE {
         return whole;
     }
-    whole.split(place.saturating_sub(BEFORE)).1.split(WINDOW).0
+    whole
+        .split(position.saturating_sub(BEFORE))
+        .1
+        .split(WINDOW)
+        .0
 }
 
 fn shown_byte(byte: u8) -> char {

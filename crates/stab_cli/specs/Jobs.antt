@@ -37,7 +37,7 @@ RefusesNone ends r = (answer : Result (Unit {0}) Fault) × ends answer × (r ≡
 abbrev pub NamesNone : (Result (Unit {0}) Fault → Type 0) → Result Bool Fault → Option Random → Type 0
 NamesNone ends r random = (random ≡ None) × RefusesNone ends r
 
--- how the call of a command ends, with coins from the source, and words for a place and a string if it takes them: whether a line of the script was refused, and which bit, if any, was named as not deterministic
+-- how the call of a command ends, with coins from the source, and words for where and for a string if it takes them: whether a line of the script was refused, and which bit, if any, was named as not deterministic
 abbrev pub EndsCommand : Command → Source → (at word : List ℕ) → InputView → InputView → InputView → InputView → OutputView → OutputView → Result Bool Fault → Option Random → Type 0
 EndsCommand (Sample format shots) source at word i i' s s' o o' r random = NamesNone (EndsRun (sample_of format shots.first shots.number source) i i' o o') r random
 EndsCommand (Detect format shots append) source at word i i' s s' o o' r random = NamesNone (EndsRun (detect_of format append shots.first shots.number source) i i' o o') r random

@@ -1,10 +1,10 @@
 -- Usages: how words that are no job are reported.
 -- Source: this project's own.
 use Rattle.std.specs.Prelude.{◌≡◌, ℕ, ◌⊎◌, string_bytes}
-use Rattle.stab_io.specs.Devices.{OutputView}
+use Rattle.stab_io.specs.Devices.{OutputView, TookAndFlushed}
 use Rattle.stab_io.specs.declared.refusal.Refusal.TheVariants.{WriteFault, OutOfMemory}
 use Rattle.stab_io.specs.Refusals.{whole}
-use Rattle.stab_report.specs.Endings.{TookAndFlushed, FailsToSend}
+use Rattle.stab_report.specs.Endings.{FailsToSend}
 use Rattle.stab_report.specs.FaultLines.{ReportsFault, TookOrFailed}
 use Rattle.stab_args.specs.declared.words.Usage.{Usage}
 use Rattle.stab_args.specs.declared.words.Usage.TheVariants.{Help, Fault as Wrong, Memory}

@@ -2,7 +2,8 @@
 ghost use Rattle.std.specs.Prelude.{◌≡◌, MatchResult};
 ghost use Rattle.stab_io.specs.Refusals.{whole};
 ghost use Rattle.stab_io.specs.declared.refusal.Refusal.TheVariants.{WriteFault};
-ghost use Rattle.stab_report.specs.Endings.{FailsToSend, TookAndFlushed};
+ghost use Rattle.stab_io.specs.Devices.{TookAndFlushed};
+ghost use Rattle.stab_report.specs.Endings.{FailsToSend};
 ghost use Rattle.stab_report.specs.FaultLines.{ReportsFault};
 ghost use Rattle.stab_cli.specs.Usages.{ReportsUsage};
 

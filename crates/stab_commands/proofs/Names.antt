@@ -60,7 +60,7 @@ pub use Rattle.std.specs.Global.{Vec}
 pub use Rattle.stab_items.proofs.EditLemmas.{entries-listed}
 pub use Rattle.stab_items.specs.StepValues.{step_shown, steps_shown, lookbacks_of}
 pub use Rattle.stab_items.specs.Paths.{Path, path_text}
-pub use Rattle.stab_items.specs.Places.{item_at}
+pub use Rattle.stab_items.specs.ItemsAt.{item_at}
 pub use Rattle.stab_items.specs.declared.steps.Steps.{Steps}
 pub use Rattle.stab_items.specs.declared.steps.Steps.TheVariants.{Gates, Pairs, Measurements, Detectors, Single}
 pub use Rattle.stab_frames.proofs.RepeatedStepLemmas.{pivot-conjugated}
@@ -90,7 +90,7 @@ pub use Rattle.stab_tableau.specs.Conjugations.{IsConjugated}
 pub use Rattle.stab_tableau.specs.Traces.{member}
 pub use lib.Seq.{take-nil, get_or-drop}
 pub use Rattle.stab_report.specs.Coins.{ShotBits, flips_of, coin_flipped, shot_bits_of, inverted, CoinsHaveRows, CoinRow, row_by, table_of, with_rows, IsCoinTable}
-pub use Rattle.stab_report.specs.Places.{step_of_coin, steps_before_coin, path_at, bit_of, path_of_bit, steps_before_bit}
+pub use Rattle.stab_report.specs.ItemPaths.{step_of_coin, steps_before_coin, path_at, bit_of, path_of_bit, steps_before_bit}
 pub use Rattle.stab_commands.specs.CoinRuns.{AreCoinRuns, deciding_coins, LaneHasBits}
 pub use Rattle.stab_commands.specs.declared.coin_runs.CoinRuns.{CoinRuns}
 pub use Rattle.stab_circuit.specs.Explanations.{AppendsSome}

@@ -12,7 +12,7 @@ use Rattle.stab_sampler.specs.References.{IsReference}
 use Rattle.stab_sampler.specs.declared.shots.Shots.{Shots}
 use Rattle.stab_report.specs.Coins.{ShotBits, IsCoinTable, table_of}
 use Rattle.stab_run.specs.Coins.{zero_coins}
-use Rattle.stab_report.specs.Places.{step_of_coin}
+use Rattle.stab_report.specs.ItemPaths.{step_of_coin}
 use Rattle.stab_commands.specs.declared.coin_runs.CoinRuns.{CoinRuns}
 
 -- the numbers of the coins that decide an outcome

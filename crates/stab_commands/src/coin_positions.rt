@@ -6,7 +6,7 @@ ghost use Rattle.stab_items.specs.StepValues.{step_shown};
 ghost use Rattle.stab_items.specs.Views.{circuit_items};
 ghost use Rattle.stab_run.specs.Points.{all_coins_of, coins_of};
 ghost use Rattle.stab_results.specs.Formats.{one_positions, one_positions_from};
-ghost use Rattle.stab_report.specs.Places.{step_of_coin};
+ghost use Rattle.stab_report.specs.ItemPaths.{step_of_coin};
 ghost use Rattle.stab_commands.specs.inner.Groups.{coins_together};
 
 use stab_circuit::{Circuit, Cursor, Step};

@@ -9,7 +9,7 @@ ghost use Rattle.stab_items.specs.Views.{circuit_items};
 ghost use Rattle.stab_results.specs.Formats.{detector_bits_of, entry, one_positions};
 ghost use Rattle.stab_sampler.specs.Lanes.{lane_bits};
 ghost use Rattle.stab_sampler.specs.Words.{word_bit};
-ghost use Rattle.stab_report.specs.Places.{step_of_coin, path_of_coin};
+ghost use Rattle.stab_report.specs.ItemPaths.{step_of_coin, path_of_coin};
 ghost use Rattle.stab_commands.specs.CoinRuns.{AreCoinRuns};
 ghost use Rattle.stab_report.specs.CoinTables.{coin_line, coin_entry, whole_kinds};
 ghost use Rattle.stab_report.specs.Endings.{SendsUnflushed};

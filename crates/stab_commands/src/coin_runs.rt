@@ -8,7 +8,7 @@ ghost use Rattle.stab_items.specs.Views.{circuit_items};
 ghost use Rattle.stab_run.specs.Points.{all_coins_of};
 ghost use Rattle.stab_results.specs.Formats.{one_positions};
 ghost use Rattle.stab_sampler.specs.References.{IsReference};
-ghost use Rattle.stab_report.specs.Places.{step_of_coin};
+ghost use Rattle.stab_report.specs.ItemPaths.{step_of_coin};
 ghost use Rattle.stab_report.specs.Coins.{flips_of};
 ghost use Rattle.stab_run.specs.Coins.{zero_coins};
 ghost use Rattle.stab_commands.specs.CoinRuns.{AreCoinRuns, LaneHasBits, deciding_coins};

@@ -11,7 +11,7 @@ ghost use Rattle.stab_report.specs.declared.random.Bit.TheVariants.{Detector, Ob
 ghost use Rattle.stab_jobs.specs.declared.job.FaultLayout.TheVariants.{Lines, Shots};
 ghost use Rattle.stab_report.specs.SingleErrorTables.{EndsFaults, GoesOnWithItems, IsFirstDecider, IsFirstRandom, IsTableText, fault_of, table_text, random_of};
 ghost use Rattle.stab_report.specs.DoubtLines.{Warns};
-ghost use Rattle.stab_report.specs.Places.{adds_to, bit_of, path_of_bit, steps_before_bit};
+ghost use Rattle.stab_report.specs.ItemPaths.{adds_to, bit_of, path_of_bit, steps_before_bit};
 ghost use Rattle.stab_commands.specs.inner.Faults.{PassesStep, SendsAtOnce};
 
 use crate::coin_rows::placed_coin;

@@ -1,8 +1,8 @@
 -- What devices handed over or took in one call after another.
-use Rattle.std.proofs.Common.{ℕ, take, drop, ◌≡◌, refl, sym, ap, ◌∙◌, subst, List, [], ◌++◌, append_assoc, append-nil, Result, Ok, Err}
+use Rattle.std.proofs.Common.{ℕ, Bool, take, drop, ◌≡◌, refl, sym, ap, ◌∙◌, subst, List, [], ◌++◌, append_assoc, append-nil, Result, Ok, Err}
 use Rattle.std.specs.Result.{IsErrAnd}
 use Rattle.std.proofs.lemmas.List.{take-append-drop}
-use Rattle.stab_io.specs.Devices.{InputView, OutputView, Gave, GaveAndFailed, Took, TookAndFailed, WritesAll, counted_up}
+use Rattle.stab_io.specs.Devices.{InputView, OutputView, Gave, GaveAndFailed, Leaves, Took, TookAndFailed, WritesAll, counted_up, counted_if}
 use Rattle.stab_io.specs.declared.refusal.Refusal.{Refusal}
 use Rattle.stab_io.specs.declared.refusal.Refusal.TheVariants.{WriteFault}
 
@@ -28,38 +28,26 @@ gave_and_failed {a} {b} {c} xs p q = record {
 -- outputs
 
 pub took_none : (o : OutputView) → Took o o []
-took_none o = record { as_honest = λ h. h; preserved = refl; no_flush = refl; moved = λ h. sym (append-nil o.written) }
+took_none o = record { as_honest = λ h. h; failures = refl; flushes = refl; moved = λ h. sym (append-nil o.written) }
 
-pub took_more : {a b c : OutputView} (xs ys : List ℕ) → Took a b xs → Took b c ys → Took a c (xs ++ ys)
-took_more {a} {b} {c} xs ys p q = record {
+-- bytes are taken, and then what a call leaves is left
+pub left_more : {flushed failed : Bool} {a b c : OutputView} (xs ys : List ℕ) → Took a b xs → Leaves flushed failed b c ys → Leaves flushed failed a c (xs ++ ys)
+left_more {flushed} {failed} {a} {b} {c} xs ys p q = record {
   as_honest = λ h. q.as_honest (p.as_honest h);
-  preserved = q.preserved ∙ p.preserved;
-  no_flush = q.no_flush ∙ p.no_flush;
+  failures = q.failures ∙ ap (counted_if failed) p.failures;
+  flushes = q.flushes ∙ ap (counted_if flushed) p.flushes;
   moved = λ h. q.moved (p.as_honest h) ∙ ap (λ l. l ++ ys) (p.moved h) ∙ append_assoc a.written xs ys;
 }
 
+pub took_more : {a b c : OutputView} (xs ys : List ℕ) → Took a b xs → Took b c ys → Took a c (xs ++ ys)
+took_more xs ys p q = left_more xs ys p q
+
 pub took_and_failed : {a b c : OutputView} (xs ys : List ℕ) → Took a b xs → TookAndFailed b c ys → TookAndFailed a c (xs ++ ys)
-took_and_failed {a} {b} {c} xs ys p q = record {
-  as_honest = λ h. q.as_honest (p.as_honest h);
-  failed = q.failed ∙ ap counted_up p.preserved;
-  no_flush = q.no_flush ∙ p.no_flush;
-  moved = λ h.
-      let m = q.moved (p.as_honest h) in (
-        xs ++ m.0,
-        m.1,
-        ap (λ l. xs ++ l) m.2 ∙ sym (append_assoc xs m.0 m.1),
-        m.3 ∙ ap (λ l. l ++ m.0) (p.moved h) ∙ append_assoc a.written xs m.0,
-      );
-}
+took_and_failed xs ys p (front, rest, is, failed) = (xs ++ front, rest, ap (λ l. xs ++ l) is ∙ sym (append_assoc xs front rest), left_more xs front p failed)
 
 -- what is a prefix of the front is a prefix of the whole
 pub failed_within : {a b : OutputView} (xs ys : List ℕ) → TookAndFailed a b xs → TookAndFailed a b (xs ++ ys)
-failed_within {a} {b} xs ys p = record {
-  as_honest = p.as_honest;
-  failed = p.failed;
-  no_flush = p.no_flush;
-  moved = λ h. let m = p.moved h in (m.0, m.1 ++ ys, ap (λ l. l ++ ys) m.2 ∙ append_assoc m.0 m.1 ys, m.3);
-}
+failed_within xs ys (front, rest, is, failed) = (front, rest ++ ys, ap (λ l. l ++ ys) is ∙ append_assoc front rest ys, failed)
 
 -- all bytes except the rest were written
 abbrev pub WroteUpTo : OutputView → OutputView → List ℕ → List ℕ → Type 0

@@ -49,24 +49,24 @@ edit_changed e (b ∷ bs) xs = by_item (slice_get xs b) (λ ys. edit_changed e b
     by_item (Some (repeat count tag body)) same = ap (λ c. with_item b xs (rebuilt count tag c)) (same (entries body))
 
 -- one part
-one_part : (place : Path) (x : OneItem) (xs : List OneItem) → changed (Replace place x) xs ≡ parts_at place.place (x ∷ []) xs
-one_part place x xs = by_test (nat_lt place.place (length xs)) refl
+one_part : (place : Path) (x : OneItem) (xs : List OneItem) → changed (Replace place x) xs ≡ parts_at place.position (x ∷ []) xs
+one_part place x xs = by_test (nat_lt place.position (length xs)) refl
   where
-    by_test : (b : Bool) → nat_lt place.place (length xs) ≡ b
-        → (if b then Ok (set xs place.place x) else Err PlaceOutOfRange) ≡ (if b then Ok (take place.place xs ++ (x ∷ drop (place.place + 1) xs)) else Err PlaceOutOfRange)
+    by_test : (b : Bool) → nat_lt place.position (length xs) ≡ b
+        → (if b then Ok (set xs place.position x) else Err PlaceOutOfRange) ≡ (if b then Ok (take place.position xs ++ (x ∷ drop (place.position + 1) xs)) else Err PlaceOutOfRange)
     by_test false t = refl
-    by_test true t = ap Ok (set_split xs place.place x (lt_holds place.place (length xs) t) ∙ ap (λ n. take place.place xs ++ x ∷ drop n xs) {x = suc place.place} {y = place.place + 1} (omega arith))
+    by_test true t = ap Ok (set_split xs place.position x (lt_holds place.position (length xs) t) ∙ ap (λ n. take place.position xs ++ x ∷ drop n xs) {x = suc place.position} {y = place.position + 1} (omega arith))
 
 le_true : (m n : ℕ) → m ≤ n → nat_le m n ≡ true
 le_true m n le = grind arith
 
-within_parts : (place : ℕ) (xs rest : List OneItem) → place ≤ length xs → nat_le place (length (take place xs ++ rest)) ≡ true
-within_parts place xs rest le = le_true place (length (take place xs ++ rest)) (omega (arith, length-append (take place xs) rest, length-take-le place xs le))
+within_parts : (position : ℕ) (xs rest : List OneItem) → position ≤ length xs → nat_le position (length (take position xs ++ rest)) ≡ true
+within_parts position xs rest le = le_true position (length (take position xs ++ rest)) (omega (arith, length-append (take position xs) rest, length-take-le position xs le))
 
 -- one part more in front of others
-part_more : (place : Path) (x : OneItem) (parts xs ys : List OneItem) → parts_at place.place parts xs ≡ Ok ys → changed (Insert place x) ys ≡ parts_at place.place (x ∷ parts) xs
+part_more : (place : Path) (x : OneItem) (parts xs ys : List OneItem) → parts_at place.position parts xs ≡ Ok ys → changed (Insert place x) ys ≡ parts_at place.position (x ∷ parts) xs
 part_more place x parts xs ys e =
-    let p = place.place in
+    let p = place.position in
     let rest = parts ++ drop (p + 1) xs in
     let h = if_ok (nat_lt p (length xs)) (take p xs ++ rest) ys PlaceOutOfRange e in
     let lt = lt_holds p (length xs) h.0 in
@@ -84,42 +84,42 @@ got_within xs p x e = let lt = slice_get_within xs p x e in lt_true p (length xs
     lt_true : (m n : ℕ) → m < n → nat_lt m n ≡ true
     lt_true m n lt = grind arith
 
--- a split puts the parts of the block at the place there
-split_parts : (round : ℕ) (bs : List ℕ) (place : ℕ) (xs : List OneItem) (count : ℕ) (tag : List ℕ) (body : Items) → item_in bs place xs ≡ Ok (repeat count tag body) → nat_lt round count ≡ true
-    → split_in round bs place xs ≡ changed_in (parts_at place (parts_of_block round count tag body)) bs xs
-split_parts round [] place xs count tag body found lt = by_item (slice_get xs place) refl found
+-- a split puts the parts of the block at the position there
+split_parts : (round : ℕ) (bs : List ℕ) (position : ℕ) (xs : List OneItem) (count : ℕ) (tag : List ℕ) (body : Items) → item_in bs position xs ≡ Ok (repeat count tag body) → nat_lt round count ≡ true
+    → split_in round bs position xs ≡ changed_in (parts_at position (parts_of_block round count tag body)) bs xs
+split_parts round [] position xs count tag body found lt = by_item (slice_get xs position) refl found
   where
     parts : List OneItem
     parts = parts_of_block round count tag body
 
-    by_item : (o : Option OneItem) → slice_get xs place ≡ o → item_there o ≡ Ok (repeat count tag body)
-        → with_parts place xs (parts_of_item round o) ≡ (if nat_lt place (length xs) then Ok (take place xs ++ (parts ++ drop (place + 1) xs)) else Err PlaceOutOfRange)
+    by_item : (o : Option OneItem) → slice_get xs position ≡ o → item_there o ≡ Ok (repeat count tag body)
+        → with_parts position xs (parts_of_item round o) ≡ (if nat_lt position (length xs) then Ok (take position xs ++ (parts ++ drop (position + 1) xs)) else Err PlaceOutOfRange)
     by_item None e f = absurd (cc)
     by_item (Some x) e f =
         let same : x ≡ repeat count tag body = cc in
-        ap (λ (y : OneItem). with_parts place xs (parts_of_item round (Some y))) same
-        ∙ ap (λ b. with_parts place xs (if b then Ok parts else Err PlaceOutOfRange)) lt
-        ∙ sym (ap (λ b. if b then Ok (take place xs ++ (parts ++ drop (place + 1) xs)) else Err PlaceOutOfRange) (got_within xs place x e))
-split_parts round (b ∷ bs) place xs count tag body found lt = by_item (slice_get xs b) found (λ ys f. split_parts round bs place ys count tag body f lt)
+        ap (λ (y : OneItem). with_parts position xs (parts_of_item round (Some y))) same
+        ∙ ap (λ b. with_parts position xs (if b then Ok parts else Err PlaceOutOfRange)) lt
+        ∙ sym (ap (λ b. if b then Ok (take position xs ++ (parts ++ drop (position + 1) xs)) else Err PlaceOutOfRange) (got_within xs position x e))
+split_parts round (b ∷ bs) position xs count tag body found lt = by_item (slice_get xs b) found (λ ys f. split_parts round bs position ys count tag body f lt)
   where
-    by_item : (o : Option OneItem) → found_inside (item_in bs place) o ≡ Ok (repeat count tag body)
-        → ((ys : List OneItem) → item_in bs place ys ≡ Ok (repeat count tag body) → split_in round bs place ys ≡ changed_in (parts_at place (parts_of_block round count tag body)) bs ys)
-        → with_item b xs (edited_inside (split_in round bs place) o) ≡ with_item b xs (edited_inside (changed_in (parts_at place (parts_of_block round count tag body)) bs) o)
+    by_item : (o : Option OneItem) → found_inside (item_in bs position) o ≡ Ok (repeat count tag body)
+        → ((ys : List OneItem) → item_in bs position ys ≡ Ok (repeat count tag body) → split_in round bs position ys ≡ changed_in (parts_at position (parts_of_block round count tag body)) bs ys)
+        → with_item b xs (edited_inside (split_in round bs position) o) ≡ with_item b xs (edited_inside (changed_in (parts_at position (parts_of_block round count tag body)) bs) o)
     by_item None f same = absurd (cc)
     by_item (Some (operation op)) f same = absurd (cc)
     by_item (Some (repeat c t inside)) f same = ap (λ r. with_item b xs (rebuilt c t r)) (same (entries inside) f)
 
 -- the last part, which replaces the block, and each part before it, put in there, are a split
-pub replaced_by_last : (place : Path) (x : OneItem) (xs ys : List OneItem) → edited (Replace place x) xs ≡ Ok ys → changed_in (parts_at place.place (x ∷ [])) place.blocks xs ≡ Ok ys
+pub replaced_by_last : (place : Path) (x : OneItem) (xs ys : List OneItem) → edited (Replace place x) xs ≡ Ok ys → changed_in (parts_at place.position (x ∷ [])) place.blocks xs ≡ Ok ys
 replaced_by_last place x xs ys e =
-    sym (same_changed (changed (Replace place x)) (parts_at place.place (x ∷ [])) (λ l. one_part place x l) place.blocks xs) ∙ (sym (edit_changed (Replace place x) place.blocks xs) ∙ e)
+    sym (same_changed (changed (Replace place x)) (parts_at place.position (x ∷ [])) (λ l. one_part place x l) place.blocks xs) ∙ (sym (edit_changed (Replace place x) place.blocks xs) ∙ e)
 
-pub inserted_before : (place : Path) (x : OneItem) (parts xs ys zs : List OneItem) → changed_in (parts_at place.place parts) place.blocks xs ≡ Ok ys → edited (Insert place x) ys ≡ Ok zs
-    → changed_in (parts_at place.place (x ∷ parts)) place.blocks xs ≡ Ok zs
+pub inserted_before : (place : Path) (x : OneItem) (parts xs ys zs : List OneItem) → changed_in (parts_at place.position parts) place.blocks xs ≡ Ok ys → edited (Insert place x) ys ≡ Ok zs
+    → changed_in (parts_at place.position (x ∷ parts)) place.blocks xs ≡ Ok zs
 inserted_before place x parts xs ys zs e f =
-    sym (then_changed (parts_at place.place parts) (changed (Insert place x)) (parts_at place.place (x ∷ parts)) (λ l m g. part_more place x parts l m g) place.blocks xs ys e)
+    sym (then_changed (parts_at place.position parts) (changed (Insert place x)) (parts_at place.position (x ∷ parts)) (λ l m g. part_more place x parts l m g) place.blocks xs ys e)
     ∙ (sym (edit_changed (Insert place x) place.blocks ys) ∙ f)
 
-pub are_split : (place : Path) (round : ℕ) (xs ys : List OneItem) (count : ℕ) (tag : List ℕ) (body : Items) → item_in place.blocks place.place xs ≡ Ok (repeat count tag body) → nat_lt round count ≡ true
-    → changed_in (parts_at place.place (parts_of_block round count tag body)) place.blocks xs ≡ Ok ys → split place round xs ≡ Ok ys
-are_split place round xs ys count tag body found lt e = split_parts round place.blocks place.place xs count tag body found lt ∙ e
+pub are_split : (place : Path) (round : ℕ) (xs ys : List OneItem) (count : ℕ) (tag : List ℕ) (body : Items) → item_in place.blocks place.position xs ≡ Ok (repeat count tag body) → nat_lt round count ≡ true
+    → changed_in (parts_at place.position (parts_of_block round count tag body)) place.blocks xs ≡ Ok ys → split place round xs ≡ Ok ys
+are_split place round xs ys count tag body found lt e = split_parts round place.blocks place.position xs count tag body found lt ∙ e

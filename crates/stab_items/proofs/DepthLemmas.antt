@@ -36,9 +36,9 @@ there : (o : Option OneItem) (y : OneItem) → item_there o ≡ Ok y → o ≡ S
 there None y e = absurd (cc)
 there (Some z) y e = ap Some {x = z} {y = y} (cc)
 
-insert_at : (at : Path) (x y : OneItem) (us : List OneItem) → slice_get us at.place ≡ Some y → depth_of x ≤ depth_of y → IsNoDeeper (changed (Insert at x) us) us
+insert_at : (at : Path) (x y : OneItem) (us : List OneItem) → slice_get us at.position ≡ Some y → depth_of x ≤ depth_of y → IsNoDeeper (changed (Insert at x) us) us
 insert_at at x y us e h =
-    let p = at.place in
+    let p = at.position in
     let rest = drop (suc p) us in
     let old : us ≡ take p us ++ y ∷ rest = got_split us p y e in
     let within : p < length us = slice_get_within us p y e in
@@ -57,9 +57,9 @@ insert_at at x y us e h =
           );
     }
 
-replace_at : (at : Path) (x y : OneItem) (us : List OneItem) → slice_get us at.place ≡ Some y → depth_of x ≤ depth_of y → IsNoDeeper (changed (Replace at x) us) us
+replace_at : (at : Path) (x y : OneItem) (us : List OneItem) → slice_get us at.position ≡ Some y → depth_of x ≤ depth_of y → IsNoDeeper (changed (Replace at x) us) us
 replace_at at x y us e h =
-    let p = at.place in
+    let p = at.position in
     let within : p < length us = slice_get_within us p y e in
     record {
       new = set us p x;
@@ -68,14 +68,14 @@ replace_at at x y us e h =
     }
 
 -- the edit is none deeper along each path
-in_blocks : (edit : Edit) (place : ℕ) (x : OneItem)
-    → ((us : List OneItem) (y : OneItem) → slice_get us place ≡ Some y → depth_of x ≤ depth_of y → IsNoDeeper (changed edit us) us)
-    → (bs : List ℕ) (xs : List OneItem) (y : OneItem) → item_in bs place xs ≡ Ok y → depth_of x ≤ depth_of y → IsNoDeeper (edited_in edit bs xs) xs
-in_blocks edit place x base [] xs y e h = base xs y (there (slice_get xs place) y e) h
-in_blocks edit place x base (b ∷ bs) xs y e h = by_item (slice_get xs b) refl e (λ us f. in_blocks edit place x base bs us y f h)
+in_blocks : (edit : Edit) (position : ℕ) (x : OneItem)
+    → ((us : List OneItem) (y : OneItem) → slice_get us position ≡ Some y → depth_of x ≤ depth_of y → IsNoDeeper (changed edit us) us)
+    → (bs : List ℕ) (xs : List OneItem) (y : OneItem) → item_in bs position xs ≡ Ok y → depth_of x ≤ depth_of y → IsNoDeeper (edited_in edit bs xs) xs
+in_blocks edit position x base [] xs y e h = base xs y (there (slice_get xs position) y e) h
+in_blocks edit position x base (b ∷ bs) xs y e h = by_item (slice_get xs b) refl e (λ us f. in_blocks edit position x base bs us y f h)
   where
-    by_item : (o : Option OneItem) → slice_get xs b ≡ o → found_inside (item_in bs place) o ≡ Ok y
-        → ((us : List OneItem) → item_in bs place us ≡ Ok y → IsNoDeeper (edited_in edit bs us) us)
+    by_item : (o : Option OneItem) → slice_get xs b ≡ o → found_inside (item_in bs position) o ≡ Ok y
+        → ((us : List OneItem) → item_in bs position us ≡ Ok y → IsNoDeeper (edited_in edit bs us) us)
         → IsNoDeeper (with_item b xs (edited_inside (edited_in edit bs) o)) xs
     by_item None f g inside = absurd (cc)
     by_item (Some (operation op)) f g inside = absurd (cc)
@@ -89,10 +89,10 @@ in_blocks edit place x base (b ∷ bs) xs y e h = by_item (slice_get xs b) refl 
         }
 
 insert_no_deeper : (at : Path) (x y : OneItem) (xs : List OneItem) → item_at at xs ≡ Ok y → depth_of x ≤ depth_of y → IsNoDeeper (edited (Insert at x) xs) xs
-insert_no_deeper at x y xs e h = in_blocks (Insert at x) at.place x (λ us z f g. insert_at at x z us f g) at.blocks xs y e h
+insert_no_deeper at x y xs e h = in_blocks (Insert at x) at.position x (λ us z f g. insert_at at x z us f g) at.blocks xs y e h
 
 replace_no_deeper : (at : Path) (x y : OneItem) (xs : List OneItem) → item_at at xs ≡ Ok y → depth_of x ≤ depth_of y → IsNoDeeper (edited (Replace at x) xs) xs
-replace_no_deeper at x y xs e h = in_blocks (Replace at x) at.place x (λ us z f g. replace_at at x z us f g) at.blocks xs y e h
+replace_no_deeper at x y xs e h = in_blocks (Replace at x) at.position x (λ us z f g. replace_at at x z us f g) at.blocks xs y e h
 
 -- what leaves a list that is nested at most 16 deep is not refused
 not_deep : (n : ℕ) → n ≤ 16 → nat_lt 16 n ≡ false
@@ -111,20 +111,20 @@ pub replace_allowed : (at : Path) (x y : OneItem) (xs : List OneItem) → item_a
 replace_allowed at x y xs e d h = no_deeper_allowed (edited (Replace at x) xs) xs (replace_no_deeper at x y xs e (omega (arith, d))) h
 
 -- what an edit puts in is at its place
-put_in_blocks : (edit : Edit) (place : ℕ) (x : OneItem)
-    → ((us vs : List OneItem) → changed edit us ≡ Ok vs → slice_get vs place ≡ Some x)
-    → (bs : List ℕ) (xs ys : List OneItem) → edited_in edit bs xs ≡ Ok ys → item_in bs place ys ≡ Ok x
-put_in_blocks edit place x base [] xs ys e = ap item_there (base xs ys e)
-put_in_blocks edit place x base (b ∷ bs) xs ys e =
+put_in_blocks : (edit : Edit) (position : ℕ) (x : OneItem)
+    → ((us vs : List OneItem) → changed edit us ≡ Ok vs → slice_get vs position ≡ Some x)
+    → (bs : List ℕ) (xs ys : List OneItem) → edited_in edit bs xs ≡ Ok ys → item_in bs position ys ≡ Ok x
+put_in_blocks edit position x base [] xs ys e = ap item_there (base xs ys e)
+put_in_blocks edit position x base (b ∷ bs) xs ys e =
     let r = rebuilds (edited_in edit bs) b xs ys (slice_get xs b) refl e in
     let new = repeat r.count r.tag (listed r.within) in
     let found : slice_get ys b ≡ Some new = ap (λ l. slice_get l b) r.same ∙ got_set xs b (repeat r.count r.tag r.body) new r.found in
-    ap (found_inside (item_in bs place)) found
-    ∙ ap (item_in bs place) (entries-listed r.within)
-    ∙ put_in_blocks edit place x base bs (entries r.body) r.within r.edited
+    ap (found_inside (item_in bs position)) found
+    ∙ ap (item_in bs position) (entries-listed r.within)
+    ∙ put_in_blocks edit position x base bs (entries r.body) r.within r.edited
 
 pub inserted_there : (at : Path) (x : OneItem) (xs ys : List OneItem) → edited (Insert at x) xs ≡ Ok ys → item_at at ys ≡ Ok x
-inserted_there at x xs ys e = put_in_blocks (Insert at x) at.place x (put_at at x) at.blocks xs ys e
+inserted_there at x xs ys e = put_in_blocks (Insert at x) at.position x (put_at at x) at.blocks xs ys e
 
 pub replaced_there : (at : Path) (x : OneItem) (xs ys : List OneItem) → edited (Replace at x) xs ≡ Ok ys → item_at at ys ≡ Ok x
-replaced_there at x xs ys e = put_in_blocks (Replace at x) at.place x (replaced_at at x) at.blocks xs ys e
+replaced_there at x xs ys e = put_in_blocks (Replace at x) at.position x (replaced_at at x) at.blocks xs ys e

@@ -35,7 +35,7 @@ put_in (Insert at x) = x ∷ []
 put_in (Replace at x) = x ∷ []
 put_in (Delete at) = []
 
-pub after_put_is : (edit : Edit) → after_put edit ≡ (edit_path edit).place + length (put_in edit)
+pub after_put_is : (edit : Edit) → after_put edit ≡ (edit_path edit).position + length (put_in edit)
 after_put_is (Insert at x) = refl
 after_put_is (Replace at x) = refl
 after_put_is (Delete at) = omega arith
@@ -50,36 +50,36 @@ le_holds m n e = grind arith
 pub lt_holds : (m n : ℕ) → nat_lt m n ≡ true → m < n
 lt_holds m n e = grind arith
 
-pub next_place : (p : ℕ) → suc p ≡ p + 1
-next_place p = omega arith
+pub next_position : (p : ℕ) → suc p ≡ p + 1
+next_position p = omega arith
 
 -- a list that is changed, in parts
 pub changed_split : (edit : Edit) (xs ys : List OneItem) → changed edit xs ≡ Ok ys
-    → ((edit_path edit).place ≤ length xs) × (ys ≡ take (edit_path edit).place xs ++ (put_in edit ++ drop (after_taken edit) xs))
+    → ((edit_path edit).position ≤ length xs) × (ys ≡ take (edit_path edit).position xs ++ (put_in edit ++ drop (after_taken edit) xs))
 changed_split (Insert at x) xs ys e =
-    let h = if_ok (nat_le at.place (length xs)) (insert xs at.place x) ys PlaceOutOfRange e in
-    (le_holds at.place (length xs) h.0, sym h.1)
+    let h = if_ok (nat_le at.position (length xs)) (insert xs at.position x) ys PlaceOutOfRange e in
+    (le_holds at.position (length xs) h.0, sym h.1)
 changed_split (Replace at x) xs ys e =
-    let h = if_ok (nat_lt at.place (length xs)) (set xs at.place x) ys PlaceOutOfRange e in
-    let within = lt_holds at.place (length xs) h.0 in
-    (omega arith, sym h.1 ∙ set_split xs at.place x within ∙ ap (λ n. take at.place xs ++ x ∷ drop n xs) (next_place at.place))
+    let h = if_ok (nat_lt at.position (length xs)) (set xs at.position x) ys PlaceOutOfRange e in
+    let within = lt_holds at.position (length xs) h.0 in
+    (omega arith, sym h.1 ∙ set_split xs at.position x within ∙ ap (λ n. take at.position xs ++ x ∷ drop n xs) (next_position at.position))
 changed_split (Delete at) xs ys e =
-    let h = if_ok (nat_lt at.place (length xs)) (remove xs at.place) ys PlaceOutOfRange e in
-    let within = lt_holds at.place (length xs) h.0 in
-    (omega arith, sym h.1 ∙ ap (λ n. take at.place xs ++ drop n xs) (next_place at.place))
+    let h = if_ok (nat_lt at.position (length xs)) (remove xs at.position) ys PlaceOutOfRange e in
+    let within = lt_holds at.position (length xs) h.0 in
+    (omega arith, sym h.1 ∙ ap (λ n. take at.position xs ++ drop n xs) (next_position at.position))
 
-pub changed_before : (edit : Edit) (xs ys : List OneItem) → changed edit xs ≡ Ok ys → take (edit_path edit).place ys ≡ take (edit_path edit).place xs
+pub changed_before : (edit : Edit) (xs ys : List OneItem) → changed edit xs ≡ Ok ys → take (edit_path edit).position ys ≡ take (edit_path edit).position xs
 changed_before edit xs ys e =
     let s = changed_split edit xs ys e in
-    ap (take (edit_path edit).place) s.1 ∙ take_at (take (edit_path edit).place xs) (put_in edit ++ drop (after_taken edit) xs) (edit_path edit).place (length-take-le (edit_path edit).place xs s.0)
+    ap (take (edit_path edit).position) s.1 ∙ take_at (take (edit_path edit).position xs) (put_in edit ++ drop (after_taken edit) xs) (edit_path edit).position (length-take-le (edit_path edit).position xs s.0)
 
 pub changed_after : (edit : Edit) (xs ys : List OneItem) → changed edit xs ≡ Ok ys → drop (after_taken edit) xs ≡ drop (after_put edit) ys
 changed_after edit xs ys e =
     let s = changed_split edit xs ys e in
-    let front = take (edit_path edit).place xs ++ put_in edit in
+    let front = take (edit_path edit).position xs ++ put_in edit in
     let rest = drop (after_taken edit) xs in
-    let long : length front ≡ after_put edit = length-append (take (edit_path edit).place xs) (put_in edit) ∙ ap (λ n. n + length (put_in edit)) (length-take-le (edit_path edit).place xs s.0) ∙ sym (after_put_is edit) in
-    sym (ap (drop (after_put edit)) (s.1 ∙ sym (append_assoc (take (edit_path edit).place xs) (put_in edit) rest)) ∙ drop_at front rest (after_put edit) long)
+    let long : length front ≡ after_put edit = length-append (take (edit_path edit).position xs) (put_in edit) ∙ ap (λ n. n + length (put_in edit)) (length-take-le (edit_path edit).position xs s.0) ∙ sym (after_put_is edit) in
+    sym (ap (drop (after_put edit)) (s.1 ∙ sym (append_assoc (take (edit_path edit).position xs) (put_in edit) rest)) ∙ drop_at front rest (after_put edit) long)
 
 -- a list with an item rebuilt in it
 pub record Rebuilds (edit : List OneItem → Result (List OneItem) Refusal) (b : ℕ) (xs ys : List OneItem) : Type 0 where
@@ -139,14 +139,14 @@ steps_around : (front back : List OneItem) (x : OneItem) → steps (front ++ x �
 steps_around front back x = steps-append front (x ∷ back)
 
 -- an edit leaves the steps before its place
-edit_same : (edit : Edit) (bs : List ℕ) (xs ys : List OneItem) → edited_in edit bs xs ≡ Ok ys → AreSame (steps_in bs (edit_path edit).place xs) (steps xs) (steps ys)
+edit_same : (edit : Edit) (bs : List ℕ) (xs ys : List OneItem) → edited_in edit bs xs ≡ Ok ys → AreSame (steps_in bs (edit_path edit).position xs) (steps xs) (steps ys)
 edit_same edit [] xs ys e =
-    inr ((steps (drop (edit_path edit).place xs), steps_split (edit_path edit).place xs), (steps (drop (edit_path edit).place ys), steps_split (edit_path edit).place ys ∙ ap (λ l. steps l ++ steps (drop (edit_path edit).place ys)) (changed_before edit xs ys e)))
+    inr ((steps (drop (edit_path edit).position xs), steps_split (edit_path edit).position xs), (steps (drop (edit_path edit).position ys), steps_split (edit_path edit).position ys ∙ ap (λ l. steps l ++ steps (drop (edit_path edit).position ys)) (changed_before edit xs ys e)))
 edit_same edit (b ∷ bs) xs ys e =
     let r = rebuilds (edited_in edit bs) b xs ys (slice_get xs b) refl e in
     let front = steps (take b xs) in
     let back = steps (drop (suc b) xs) in
-    let within = steps_in bs (edit_path edit).place (entries r.body) in
+    let within = steps_in bs (edit_path edit).position (entries r.body) in
     let inside : AreSame within (steps (entries r.body)) (steps r.within) = edit_same edit bs (entries r.body) r.within r.edited in
     let body : steps (entries r.body) ≡ unroll r.body = ap unroll (listed-entries r.body) in
     let turns = same_rounds r.count within (unroll r.body) (steps r.within) (subst (λ l. AreSame within l (steps r.within)) body inside) in
@@ -154,7 +154,7 @@ edit_same edit (b ∷ bs) xs ys e =
     let new : steps ys ≡ front ++ (rounds r.count (steps r.within) ++ back) =
     ap steps (r.same ∙ set_split xs b (repeat r.count r.tag (listed r.within)) (slice_get_within xs b (repeat r.count r.tag r.body) r.found))
     ∙ steps_around (take b xs) (drop (suc b) xs) (repeat r.count r.tag (listed r.within)) in
-    let first : steps_in (b ∷ bs) (edit_path edit).place xs ≡ front ++ within = ap (λ g. front ++ steps_in bs (edit_path edit).place (inner g)) r.found in
+    let first : steps_in (b ∷ bs) (edit_path edit).position xs ≡ front ++ within = ap (λ g. front ++ steps_in bs (edit_path edit).position (inner g)) r.found in
     same_as _ _ _ _ _ _ first old new (same_around front back within (rounds r.count (unroll r.body)) (rounds r.count (steps r.within)) turns)
   where
     same_as : (s t old other new later : List Step) → s ≡ t → old ≡ other → new ≡ later → AreSame t other later → AreSame s old new

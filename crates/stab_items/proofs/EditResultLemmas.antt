@@ -14,10 +14,10 @@ on_ok (Err e) h = tt
 
 -- where what is put in ends
 after_at : (edit : Edit) (n : ℕ) (s : Splice) → splice_at edit n ≡ Ok s → after_put edit ≡ s.first + length s.put
-after_at (Insert at x) n s e = ap (λ t. t.first + length t.put) (if_ok (nat_le at.place n) (record { first = at.place; following = at.place; put = x ∷ [] }) s PlaceOutOfRange e).1
-after_at (Replace at x) n s e = ap (λ t. t.first + length t.put) (if_ok (nat_lt at.place n) (record { first = at.place; following = at.place + 1; put = x ∷ [] }) s PlaceOutOfRange e).1
+after_at (Insert at x) n s e = ap (λ t. t.first + length t.put) (if_ok (nat_le at.position n) (record { first = at.position; following = at.position; put = x ∷ [] }) s PlaceOutOfRange e).1
+after_at (Replace at x) n s e = ap (λ t. t.first + length t.put) (if_ok (nat_lt at.position n) (record { first = at.position; following = at.position + 1; put = x ∷ [] }) s PlaceOutOfRange e).1
 after_at (Delete at) n s e =
-    let same = ap (λ t. t.first + length t.put) (if_ok (nat_lt at.place n) (record { first = at.place; following = at.place + 1; put = [] }) s PlaceOutOfRange e).1 in
+    let same = ap (λ t. t.first + length t.put) (if_ok (nat_lt at.position n) (record { first = at.position; following = at.position + 1; put = [] }) s PlaceOutOfRange e).1 in
     omega (arith, same)
 
 after_block : (b : ℕ) (r : Result OneItem Refusal) (s : Splice) → splice_block b r ≡ Ok s → b + 1 ≡ s.first + length s.put
@@ -36,15 +36,15 @@ front_of xs s w =
     ap (take (s.first + length s.put)) (sym (append_assoc (take s.first xs) s.put (drop s.following xs))) ∙ take_at (take s.first xs ++ s.put) (drop s.following xs) (s.first + length s.put) long
 
 -- where what is taken out ends
-taken_at : (edit : Edit) (n : ℕ) (s : Splice) → splice_at edit n ≡ Ok s → (after_taken edit ≡ s.following) × ((edit_path edit).place ≡ s.first)
+taken_at : (edit : Edit) (n : ℕ) (s : Splice) → splice_at edit n ≡ Ok s → (after_taken edit ≡ s.following) × ((edit_path edit).position ≡ s.first)
 taken_at (Insert at x) n s e =
-    let same = (if_ok (nat_le at.place n) (record { first = at.place; following = at.place; put = x ∷ [] }) s PlaceOutOfRange e).1 in
+    let same = (if_ok (nat_le at.position n) (record { first = at.position; following = at.position; put = x ∷ [] }) s PlaceOutOfRange e).1 in
     (ap (λ t. t.following) same, ap (λ t. t.first) same)
 taken_at (Replace at x) n s e =
-    let same = (if_ok (nat_lt at.place n) (record { first = at.place; following = at.place + 1; put = x ∷ [] }) s PlaceOutOfRange e).1 in
+    let same = (if_ok (nat_lt at.position n) (record { first = at.position; following = at.position + 1; put = x ∷ [] }) s PlaceOutOfRange e).1 in
     (ap (λ t. t.following) same, ap (λ t. t.first) same)
 taken_at (Delete at) n s e =
-    let same = (if_ok (nat_lt at.place n) (record { first = at.place; following = at.place + 1; put = [] }) s PlaceOutOfRange e).1 in
+    let same = (if_ok (nat_lt at.position n) (record { first = at.position; following = at.position + 1; put = [] }) s PlaceOutOfRange e).1 in
     (ap (λ t. t.following) same, ap (λ t. t.first) same)
 
 taken_block : (b : ℕ) (r : Result OneItem Refusal) (s : Splice) → splice_block b r ≡ Ok s → (b + 1 ≡ s.following) × (b ≡ s.first)
@@ -57,18 +57,18 @@ pub taken_is : (edit : Edit) (bs : List ℕ) (xs : List OneItem) (s : Splice) �
 taken_is edit [] xs s e = (taken_at edit (length xs) s e).0
 taken_is edit (b ∷ bs) xs s e = (taken_block b (edited_inside (edited_in edit bs) (slice_get xs b)) s e).0
 
--- at most the item at the first place of the path is taken out of the outermost list
-at_most_one : (edit : Edit) → after_taken edit ≤ (edit_path edit).place + 1
+-- at most the item at the first position of the path is taken out of the outermost list
+at_most_one : (edit : Edit) → after_taken edit ≤ (edit_path edit).position + 1
 at_most_one (Insert at x) = omega arith
 at_most_one (Replace at x) = omega arith
 at_most_one (Delete at) = omega arith
 
-first_place : (edit : Edit) (bs : List ℕ) (xs : List OneItem) (s : Splice) (first : ℕ) → splice_of edit bs xs ≡ Ok s → slice_get (bs ++ (edit_path edit).place ∷ []) 0 ≡ Some first → (s.first ≡ first) × (s.following ≤ first + 1)
-first_place edit [] xs s first e f =
+first_position : (edit : Edit) (bs : List ℕ) (xs : List OneItem) (s : Splice) (first : ℕ) → splice_of edit bs xs ≡ Ok s → slice_get (bs ++ (edit_path edit).position ∷ []) 0 ≡ Some first → (s.first ≡ first) × (s.following ≤ first + 1)
+first_position edit [] xs s first e f =
     let at = taken_at edit (length xs) s e in
-    let same : (edit_path edit).place ≡ first = cc in
+    let same : (edit_path edit).position ≡ first = cc in
     (sym at.1 ∙ same, omega (arith, at.0, same, at_most_one edit))
-first_place edit (b ∷ bs) xs s first e f =
+first_position edit (b ∷ bs) xs s first e f =
     let at = taken_block b (edited_inside (edited_in edit bs) (slice_get xs b)) s e in
     let same : b ≡ first = cc in
     (sym at.1 ∙ same, omega (arith, at.0, same))
@@ -81,13 +81,13 @@ pub were_stretches : (ss : List Stretch) (edit : Edit) (xs ys : List OneItem) (f
 were_stretches ss edit xs ys first are e f =
     let bs = (edit_path edit).blocks in
     let found = spliced_ok xs ys (splice_of edit bs xs) (sym (edited_spliced edit bs xs) ∙ e) in
-    let lies = first_place edit bs xs found.0 first found.1 f in
+    let lies = first_position edit bs xs found.0 first found.1 f in
     record { old = xs; are = are; long = refl; splice = found.0; within = splice_within edit bs xs found.0 found.1; first = lies.0; one = lies.1; left = found.2 }
 
--- the steps before the place are those before what leaves the list, and those within that
-first_is : (edit : Edit) (bs : List ℕ) (xs : List OneItem) (s : Splice) → splice_of edit bs xs ≡ Ok s → steps_in bs (edit_path edit).place xs ≡ unroll (listed (take s.first xs)) ++ steps_within bs (edit_path edit).place xs
+-- the steps before the position are those before what leaves the list, and those within that
+first_is : (edit : Edit) (bs : List ℕ) (xs : List OneItem) (s : Splice) → splice_of edit bs xs ≡ Ok s → steps_in bs (edit_path edit).position xs ≡ unroll (listed (take s.first xs)) ++ steps_within bs (edit_path edit).position xs
 first_is edit [] xs s e = ap (λ n. unroll (listed (take n xs))) (taken_at edit (length xs) s e).1 ∙ sym (append-nil (unroll (listed (take s.first xs))))
-first_is edit (b ∷ bs) xs s e = ap (λ n. unroll (listed (take n xs)) ++ steps_within (b ∷ bs) (edit_path edit).place xs) (taken_block b (edited_inside (edited_in edit bs) (slice_get xs b)) s e).1
+first_is edit (b ∷ bs) xs s e = ap (λ n. unroll (listed (take n xs)) ++ steps_within (b ∷ bs) (edit_path edit).position xs) (taken_block b (edited_inside (edited_in edit bs) (slice_get xs b)) s e).1
 
 -- a judgement is that of a splice
 judged_splice : (q : Result Splice Refusal) (w : ℕ) (j : Judgement) → Ok j ≡ judgement_of w q → (s : Splice) × (q ≡ Ok s) × (j ≡ record { first = s.first; following = s.following; put = summary_of (listed s.put); within = w })
@@ -106,11 +106,11 @@ count_append xs ys = length-append xs ys
 
 -- the ends of an edit
 ends_first : (edit : Edit) (blocks : List ℕ) (xs front : List OneItem) (s : Splice) (n w k : ℕ) → splice_of edit blocks xs ≡ Ok s → front ≡ take s.first xs
-    → n ≡ min (length (unroll (listed front))) 1048577 → w ≡ min (length (steps_within blocks (edit_path edit).place xs)) 1048577 → k ≡ min (n + w) 1048577 → k ≡ min (length (steps_in blocks (edit_path edit).place xs)) 1048577
+    → n ≡ min (length (unroll (listed front))) 1048577 → w ≡ min (length (steps_within blocks (edit_path edit).position xs)) 1048577 → k ≡ min (n + w) 1048577 → k ≡ min (length (steps_in blocks (edit_path edit).position xs)) 1048577
 ends_first edit blocks xs front s n w k e f h i g =
-    sum_of (length (unroll (listed front))) (length (steps_within blocks (edit_path edit).place xs)) n w k h i g
+    sum_of (length (unroll (listed front))) (length (steps_within blocks (edit_path edit).position xs)) n w k h i g
     ∙ ap (λ m. min m 1048577) (sym (
-    ap length (first_is edit blocks xs s e ∙ ap (λ l. unroll (listed l) ++ steps_within blocks (edit_path edit).place xs) (sym f)) ∙ count_append (unroll (listed front)) (steps_within blocks (edit_path edit).place xs)
+    ap length (first_is edit blocks xs s e ∙ ap (λ l. unroll (listed l) ++ steps_within blocks (edit_path edit).position xs) (sym f)) ∙ count_append (unroll (listed front)) (steps_within blocks (edit_path edit).position xs)
     ))
 
 ends_old : (edit : Edit) (blocks : List ℕ) (xs front gone : List OneItem) (s : Splice) (n m k : ℕ) → splice_of edit blocks xs ≡ Ok s → take s.following xs ≡ front ++ gone
@@ -152,9 +152,9 @@ edited_left edit blocks xs s e = edited_spliced edit blocks xs ∙ ap (spliced x
 
 -- what a list comes to by an edit that is judged
 pub edit_result_is : (edit : Edit) (blocks : List ℕ) (xs : List OneItem) (j : Judgement) (before of following : Summary) (o : EditResult)
-    → Ok j ≡ judgement_of (min (length (steps_within blocks (edit_path edit).place xs)) 1048577) (splice_of edit blocks xs)
+    → Ok j ≡ judgement_of (min (length (steps_within blocks (edit_path edit).position xs)) 1048577) (splice_of edit blocks xs)
     → IsSummary j.put
-    → BeginsWith (steps_in blocks (edit_path edit).place xs) (unroll (listed xs))
+    → BeginsWith (steps_in blocks (edit_path edit).position xs) (unroll (listed xs))
     → IfOk (splice_of edit blocks xs) PutsGood
     → IsSumOf (listed (take j.first xs)) before
     → IsSumOf (listed (drop j.first (take j.following xs))) of
@@ -165,7 +165,7 @@ pub edit_result_is : (edit : Edit) (blocks : List ℕ) (xs : List OneItem) (j : 
     → IsSummary o.total
     → IsEditResult edit blocks xs o
 edit_result_is edit blocks xs j before of following o e small begins puts f g b put_long gone_long is all =
-    let w = min (length (steps_within blocks (edit_path edit).place xs)) 1048577 in
+    let w = min (length (steps_within blocks (edit_path edit).position xs)) 1048577 in
     let front = take j.first xs in
     let gone = drop j.first (take j.following xs) in
     let back = drop j.following xs in

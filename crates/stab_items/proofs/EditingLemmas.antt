@@ -13,16 +13,16 @@ result_shallow (Err r) t e deep = absurd (cc)
 taken_there : (edit : Edit) (xs : List OneItem) (s : Splice) → splice_at edit (length xs) ≡ Ok s → taken_at edit xs ≡ None → IsInsert edit
 taken_there (Insert at x) xs s e f = tt
 taken_there (Replace at x) xs s e f =
-    let h = if_ok (nat_lt at.place (length xs)) (record { first = at.place; following = at.place + 1; put = x ∷ [] }) s PlaceOutOfRange e in
-    let found : slice_get xs at.place ≡ Some (get_or xs at.place x) = slice_get-get_or xs at.place x (lt_holds at.place (length xs) h.0) in
+    let h = if_ok (nat_lt at.position (length xs)) (record { first = at.position; following = at.position + 1; put = x ∷ [] }) s PlaceOutOfRange e in
+    let found : slice_get xs at.position ≡ Some (get_or xs at.position x) = slice_get-get_or xs at.position x (lt_holds at.position (length xs) h.0) in
     absurd (cc)
 taken_there (Delete at) [] s e f =
-    let h = if_ok (nat_lt at.place 0) (record { first = at.place; following = at.place + 1; put = [] }) s PlaceOutOfRange e in
-    let none : at.place < 0 = lt_holds at.place 0 h.0 in
+    let h = if_ok (nat_lt at.position 0) (record { first = at.position; following = at.position + 1; put = [] }) s PlaceOutOfRange e in
+    let none : at.position < 0 = lt_holds at.position 0 h.0 in
     absurd (omega arith)
 taken_there (Delete at) (x ∷ xs) s e f =
-    let h = if_ok (nat_lt at.place (length (x ∷ xs))) (record { first = at.place; following = at.place + 1; put = [] }) s PlaceOutOfRange e in
-    let found : slice_get (x ∷ xs) at.place ≡ Some (get_or (x ∷ xs) at.place x) = slice_get-get_or (x ∷ xs) at.place x (lt_holds at.place (length (x ∷ xs)) h.0) in
+    let h = if_ok (nat_lt at.position (length (x ∷ xs))) (record { first = at.position; following = at.position + 1; put = [] }) s PlaceOutOfRange e in
+    let found : slice_get (x ∷ xs) at.position ≡ Some (get_or (x ∷ xs) at.position x) = slice_get-get_or (x ∷ xs) at.position x (lt_holds at.position (length (x ∷ xs)) h.0) in
     absurd (cc)
 
 ok_splice : (q : Result Splice Refusal) (xs ys : List OneItem) → spliced xs q ≡ Ok ys → (s : Splice) × (q ≡ Ok s) × (ys ≡ take s.first xs ++ (s.put ++ drop s.following xs))

@@ -34,11 +34,11 @@ judged_err edit b n w bs blocks tag xs body r e f h =
     sym (ap (judgement_of w) (splice_inside edit b n bs blocks tag xs body e f) ∙ err_rebuilt n b w tag (edited_in edit bs body) r h)
 
 pub judged_ok : (edit : Edit) (b n w : ℕ) (bs blocks tag : List ℕ) (xs body : List OneItem) (s : Summary) → blocks ≡ b ∷ bs → slice_get xs b ≡ Some (repeat n tag (listed body)) → 0 < n → Ok s ≡ summed (edited_in edit bs body)
-    → w ≡ min (length (steps_in bs (edit_path edit).place body)) 1048577
-    → Ok (record { first = b; following = b + 1; put = repeated n s; within = w }) ≡ judgement_of (min (length (steps_within blocks (edit_path edit).place xs)) 1048577) (splice_of edit blocks xs)
+    → w ≡ min (length (steps_in bs (edit_path edit).position body)) 1048577
+    → Ok (record { first = b; following = b + 1; put = repeated n s; within = w }) ≡ judgement_of (min (length (steps_within blocks (edit_path edit).position xs)) 1048577) (splice_of edit blocks xs)
 judged_ok edit b n w bs blocks tag xs body s e f pos h v =
     sym (
-    ap (λ l. judgement_of (min (length l) 1048577) (splice_of edit blocks xs)) (within_block b (edit_path edit).place n bs blocks tag xs body e f)
+    ap (λ l. judgement_of (min (length l) 1048577) (splice_of edit blocks xs)) (within_block b (edit_path edit).position n bs blocks tag xs body e f)
     ∙ ap (λ m. judgement_of m (splice_of edit blocks xs)) (sym v)
     ∙ ap (judgement_of w) (splice_inside edit b n bs blocks tag xs body e f)
     ∙ ok_rebuilt n b w tag (edited_in edit bs body) s pos (sym h)

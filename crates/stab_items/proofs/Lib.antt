@@ -21,7 +21,7 @@ mod EditResultLemmas
 mod CommitLemmas
 mod StretchLemmas
 mod PathLemmas
-pub mod PlaceLemmas
+pub mod ItemAtLemmas
 pub mod StepPathLemmas
 mod StepsLeftLemmas
 pub mod EditingLemmas

@@ -65,7 +65,7 @@ pub use Rattle.stab_instructions.specs.contracts.axis.Axis.{the_type}
 pub use Rattle.stab_instructions.specs.declared.control.ControlledPair.TheVariants.{Qubits, Record}
 pub use denote.Enum.Bare.{same_true, sameb}
 pub use Rattle.stab_items.specs.Paths.{Path, numbers, slash, path_text}
-pub use Rattle.stab_items.specs.Places.{item_there, found_inside, item_in, item_at, FindsItem}
+pub use Rattle.stab_items.specs.ItemsAt.{item_there, found_inside, item_in, item_at, FindsItem}
 pub use Rattle.stab_items.specs.Repeats.{IsRepeat, AreRepeats, repeated_blocks}
 pub use Rattle.stab_items.specs.Rounds.{interleaved, rounds_in, round_pieces, pieces_in, pieces, HaveRounds, item_steps, AreGaps}
 pub use Rattle.stab_items.specs.Splits.{parts_of_block, parts_of_item, with_parts, split_in, split, rounds_as_block, refused_by, split_refusal, AreAlike}

@@ -62,35 +62,35 @@ rebuilt_refused : (b count : ℕ) (tag : List ℕ) (xs : List OneItem) (r : Resu
 rebuilt_refused b count tag xs (Ok ys) = refl
 rebuilt_refused b count tag xs (Err r) = refl
 
-parts_refused : (place : ℕ) (xs : List OneItem) (r : Result (List OneItem) Refusal) → refused_by (with_parts place xs r) ≡ refused_by r
-parts_refused place xs (Ok ys) = refl
-parts_refused place xs (Err r) = refl
+parts_refused : (position : ℕ) (xs : List OneItem) (r : Result (List OneItem) Refusal) → refused_by (with_parts position xs r) ≡ refused_by r
+parts_refused position xs (Ok ys) = refl
+parts_refused position xs (Err r) = refl
 
 -- what the item comes to, or what its path is refused by
 abbrev refusal_there : ℕ → Result OneItem Refusal → Option Refusal
 refusal_there round (Ok x) = refused_by (parts_of_item round (Some x))
 refusal_there round (Err r) = Some r
 
-refused_there : (round : ℕ) (bs : List ℕ) (place : ℕ) (xs : List OneItem) → refused_by (split_in round bs place xs) ≡ refusal_there round (item_in bs place xs)
-refused_there round [] place xs = parts_refused place xs (parts_of_item round (slice_get xs place)) ∙ by_item (slice_get xs place)
+refused_there : (round : ℕ) (bs : List ℕ) (position : ℕ) (xs : List OneItem) → refused_by (split_in round bs position xs) ≡ refusal_there round (item_in bs position xs)
+refused_there round [] position xs = parts_refused position xs (parts_of_item round (slice_get xs position)) ∙ by_item (slice_get xs position)
   where
     by_item : (o : Option OneItem) → refused_by (parts_of_item round o) ≡ refusal_there round (item_there o)
     by_item None = refl
     by_item (Some x) = refl
-refused_there round (b ∷ bs) place xs = by_item (slice_get xs b) (λ ys. refused_there round bs place ys)
+refused_there round (b ∷ bs) position xs = by_item (slice_get xs b) (λ ys. refused_there round bs position ys)
   where
-    by_item : (o : Option OneItem) → ((ys : List OneItem) → refused_by (split_in round bs place ys) ≡ refusal_there round (item_in bs place ys))
-        → refused_by (with_item b xs (edited_inside (split_in round bs place) o)) ≡ refusal_there round (found_inside (item_in bs place) o)
+    by_item : (o : Option OneItem) → ((ys : List OneItem) → refused_by (split_in round bs position ys) ≡ refusal_there round (item_in bs position ys))
+        → refused_by (with_item b xs (edited_inside (split_in round bs position) o)) ≡ refusal_there round (found_inside (item_in bs position) o)
     by_item None inside = refl
     by_item (Some (operation op)) inside = refl
-    by_item (Some (repeat count tag body)) inside = rebuilt_refused b count tag xs (split_in round bs place (entries body)) ∙ inside (entries body)
+    by_item (Some (repeat count tag body)) inside = rebuilt_refused b count tag xs (split_in round bs position (entries body)) ∙ inside (entries body)
 
 pub path_refused : (path : Path) (round : ℕ) (xs : List OneItem) (r : Refusal) (f : Fault) → item_at path xs ≡ Err r → f ≡ whole r → IsCallFault (split_refusal path round xs) f
-path_refused path round xs r f e h = subst (λ v. IsCallFault v f) (sym (refused_there round path.blocks path.place xs ∙ ap (refusal_there round) e)) h
+path_refused path round xs r f e h = subst (λ v. IsCallFault v f) (sym (refused_there round path.blocks path.position xs ∙ ap (refusal_there round) e)) h
 
 pub item_refused : (path : Path) (round : ℕ) (xs : List OneItem) (item : OneItem) (f : Fault) → item_at path xs ≡ Ok item
     → IsCallFault (refused_by (parts_of_item round (Some item))) f → IsCallFault (split_refusal path round xs) f
-item_refused path round xs item f e h = subst (λ v. IsCallFault v f) (sym (refused_there round path.blocks path.place xs ∙ ap (refusal_there round) e)) h
+item_refused path round xs item f e h = subst (λ v. IsCallFault v f) (sym (refused_there round path.blocks path.position xs ∙ ap (refusal_there round) e)) h
 
 pub memory_refused : (path : Path) (round : ℕ) (xs : List OneItem) (item : OneItem) (parts : List OneItem) (f : Fault) → item_at path xs ≡ Ok item
     → parts_of_item round (Some item) ≡ Ok parts → f ≡ whole OutOfMemory → IsCallFault (split_refusal path round xs) f

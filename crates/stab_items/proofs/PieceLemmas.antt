@@ -1,6 +1,6 @@
 -- Pieces: the steps of a list, as those before an item in blocks, and then the item's before each piece.
 use Rattle.stab_items.proofs.Names.{◌≡◌, ◌≤◌, ◌<◌, refl, ap, sym, ◌∙◌, ℕ, ◌+◌, ◌*◌, suc, zero, List, [], ◌∷◌, ◌++◌, length, take, drop, map, All, arith, append_assoc, append-nil, Option, Some, None, length-append, take-take, length-map, All-nil, All-cons, slice_get, OneItem, operation, repeat, listed, Step, unroll, rounds, inner, steps_in, interleaved, rounds_in, round_pieces, pieces_in, HaveRounds, with_more, round_gaps, block_pieces}
-use Rattle.stab_items.proofs.EditLemmas.{steps-append, steps_split, got_split, listed-entries, next_place}
+use Rattle.stab_items.proofs.EditLemmas.{steps-append, steps_split, got_split, listed-entries, next_position}
 use Rattle.stab_items.proofs.GapLemmas.{more-twice, more-none, length-more, length-rounds, lengths-rounds}
 
 -- the steps of a list
@@ -30,9 +30,9 @@ rounds-pieces (suc (suc n)) gates body lead round h some following =
     ∙ ap (λ l. lead ++ l) (sym (interleaved-append gates (round lead) rest))
 
 -- in the last of these blocks, which all have rounds, these steps are between a position and an end
-abbrev pub Stands : List Step → (end : ℕ) → List ℕ → (place : ℕ) → List OneItem → Type 0
-Stands gates end [] place xs = steps (take end xs) ≡ steps (take place xs) ++ gates
-Stands gates end (b ∷ bs) place xs = (0 < rounds_in (slice_get xs b)) × Stands gates end bs place (inner (slice_get xs b))
+abbrev pub Stands : List Step → (end : ℕ) → List ℕ → (position : ℕ) → List OneItem → Type 0
+Stands gates end [] position xs = steps (take end xs) ≡ steps (take position xs) ++ gates
+Stands gates end (b ∷ bs) position xs = (0 < rounds_in (slice_get xs b)) × Stands gates end bs position (inner (slice_get xs b))
 
 -- a list around one of its blocks
 around_block : (xs : List OneItem) (b : ℕ) (x : Option OneItem) → slice_get xs b ≡ x → 0 < rounds_in x
@@ -42,78 +42,78 @@ around_block xs b (Some (operation op)) e some = absurd (omega (arith, some))
 around_block xs b (Some (repeat count tag body)) e some =
     ap steps (got_split xs b (repeat count tag body) e)
     ∙ steps-append (take b xs) (repeat count tag body ∷ drop (suc b) xs)
-    ∙ ap (λ n. steps (take b xs) ++ (rounds count (unroll body) ++ steps (drop n xs))) (next_place b)
+    ∙ ap (λ n. steps (take b xs) ++ (rounds count (unroll body) ++ steps (drop n xs))) (next_position b)
     ∙ ap (λ l. steps (take b xs) ++ (rounds count (unroll l) ++ steps (drop (b + 1) xs))) (sym (listed-entries body))
 
 -- the steps of a list, and some after them, by the pieces
-pub steps-pieces : (gates : List Step) (end : ℕ) (bs : List ℕ) (place : ℕ) (xs : List OneItem) → Stands gates end bs place xs
-    → (following : List Step) → steps xs ++ following ≡ steps_in bs place xs ++ interleaved gates (pieces_in end bs place xs following)
-steps-pieces gates end [] place xs stands following =
-    let front = steps (take place xs) in
+pub steps-pieces : (gates : List Step) (end : ℕ) (bs : List ℕ) (position : ℕ) (xs : List OneItem) → Stands gates end bs position xs
+    → (following : List Step) → steps xs ++ following ≡ steps_in bs position xs ++ interleaved gates (pieces_in end bs position xs following)
+steps-pieces gates end [] position xs stands following =
+    let front = steps (take position xs) in
     let back = steps (drop end xs) in
     ap (λ l. l ++ following) (steps_split end xs ∙ ap (λ l. l ++ back) stands)
     ∙ append_assoc (front ++ gates) back following
     ∙ append_assoc front gates (back ++ following)
     ∙ ap (λ l. front ++ (gates ++ l)) (sym (append-nil (back ++ following)))
-steps-pieces gates end (b ∷ bs) place xs stands following =
+steps-pieces gates end (b ∷ bs) position xs stands following =
     let x = slice_get xs b in
     let front = steps (take b xs) in
     let all = rounds (rounds_in x) (steps (inner x)) in
     let back = steps (drop (b + 1) xs) in
-    let lead = steps_in bs place (inner x) in
-    let round = pieces_in end bs place (inner x) in
+    let lead = steps_in bs position (inner x) in
+    let round = pieces_in end bs position (inner x) in
     ap (λ l. l ++ following) (around_block xs b x refl stands.0)
     ∙ append_assoc front (all ++ back) following
     ∙ ap (λ l. front ++ l) (append_assoc all back following)
-    ∙ ap (λ l. front ++ l) (rounds-pieces (rounds_in x) gates (steps (inner x)) lead round (steps-pieces gates end bs place (inner x) stands.1) stands.0 (back ++ following))
+    ∙ ap (λ l. front ++ l) (rounds-pieces (rounds_in x) gates (steps (inner x)) lead round (steps-pieces gates end bs position (inner x) stands.1) stands.0 (back ++ following))
     ∙ sym (append_assoc front lead (interleaved gates (round_pieces (rounds_in x) round lead (back ++ following))))
 
 -- the lengths of pieces, if more steps are after the last
-pub lengths-pieces : (end : ℕ) (bs : List ℕ) (place : ℕ) (xs : List OneItem) (following : List Step)
-    → map length (pieces_in end bs place xs following) ≡ with_more (length following) (map length (pieces_in end bs place xs []))
-lengths-pieces end [] place xs following =
+pub lengths-pieces : (end : ℕ) (bs : List ℕ) (position : ℕ) (xs : List OneItem) (following : List Step)
+    → map length (pieces_in end bs position xs following) ≡ with_more (length following) (map length (pieces_in end bs position xs []))
+lengths-pieces end [] position xs following =
     let back = steps (drop end xs) in
     ap (λ n. n ∷ []) (length-append back following ∙ ap (λ n. n + length following) (sym (ap length (append-nil back))))
-lengths-pieces end (b ∷ bs) place xs following =
+lengths-pieces end (b ∷ bs) position xs following =
     let x = slice_get xs b in
     let back = steps (drop (b + 1) xs) in
-    let lead = steps_in bs place (inner x) in
-    let round = pieces_in end bs place (inner x) in
+    let lead = steps_in bs position (inner x) in
+    let round = pieces_in end bs position (inner x) in
     let gaps = round_gaps (rounds_in x) (length lead) (map length (round [])) in
-    let each = lengths-pieces end bs place (inner x) in
+    let each = lengths-pieces end bs position (inner x) in
     lengths-rounds (rounds_in x) round lead (back ++ following) each
     ∙ ap (λ n. with_more n gaps) (length-append back following ∙ ap (λ n. n + length following) (sym (ap length (append-nil back))))
     ∙ sym (more-twice (length following) (length (back ++ [])) gaps)
     ∙ ap (with_more (length following)) (sym (lengths-rounds (rounds_in x) round lead (back ++ []) each))
 
 -- the lengths of the pieces in a block
-pub lengths-block : (end : ℕ) (bs : List ℕ) (place : ℕ) (x : Option OneItem) (following : List Step)
-    → map length (block_pieces end bs place x following) ≡ with_more (length following) (round_gaps (rounds_in x) (length (steps_in bs place (inner x))) (map length (pieces_in end bs place (inner x) [])))
-lengths-block end bs place x following = lengths-rounds (rounds_in x) (pieces_in end bs place (inner x)) (steps_in bs place (inner x)) following (lengths-pieces end bs place (inner x))
+pub lengths-block : (end : ℕ) (bs : List ℕ) (position : ℕ) (x : Option OneItem) (following : List Step)
+    → map length (block_pieces end bs position x following) ≡ with_more (length following) (round_gaps (rounds_in x) (length (steps_in bs position (inner x))) (map length (pieces_in end bs position (inner x) [])))
+lengths-block end bs position x following = lengths-rounds (rounds_in x) (pieces_in end bs position (inner x)) (steps_in bs position (inner x)) following (lengths-pieces end bs position (inner x))
 
-pub lengths-block_end : (end : ℕ) (bs : List ℕ) (place : ℕ) (x : Option OneItem)
-    → map length (block_pieces end bs place x []) ≡ round_gaps (rounds_in x) (length (steps_in bs place (inner x))) (map length (pieces_in end bs place (inner x) []))
-lengths-block_end end bs place x =
-    lengths-block end bs place x [] ∙ more-none (round_gaps (rounds_in x) (length (steps_in bs place (inner x))) (map length (pieces_in end bs place (inner x) [])))
+pub lengths-block_end : (end : ℕ) (bs : List ℕ) (position : ℕ) (x : Option OneItem)
+    → map length (block_pieces end bs position x []) ≡ round_gaps (rounds_in x) (length (steps_in bs position (inner x))) (map length (pieces_in end bs position (inner x) []))
+lengths-block_end end bs position x =
+    lengths-block end bs position x [] ∙ more-none (round_gaps (rounds_in x) (length (steps_in bs position (inner x))) (map length (pieces_in end bs position (inner x) [])))
 
-pub lengths-block_after : (end : ℕ) (bs : List ℕ) (place : ℕ) (x : Option OneItem) (following : List Step)
-    → map length (block_pieces end bs place x following) ≡ with_more (length following) (map length (block_pieces end bs place x []))
-lengths-block_after end bs place x following = lengths-block end bs place x following ∙ ap (with_more (length following)) (sym (lengths-block_end end bs place x))
+pub lengths-block_after : (end : ℕ) (bs : List ℕ) (position : ℕ) (x : Option OneItem) (following : List Step)
+    → map length (block_pieces end bs position x following) ≡ with_more (length following) (map length (block_pieces end bs position x []))
+lengths-block_after end bs position x following = lengths-block end bs position x following ∙ ap (with_more (length following)) (sym (lengths-block_end end bs position x))
 
 -- how many pieces there are in a block
-pub count-block : (end : ℕ) (bs : List ℕ) (place : ℕ) (x : Option OneItem) → length (block_pieces end bs place x []) ≡ rounds_in x * length (pieces_in end bs place (inner x) [])
-count-block end bs place x =
-    sym (length-map (block_pieces end bs place x []) length)
-    ∙ ap length (lengths-block_end end bs place x)
-    ∙ length-rounds (rounds_in x) (length (steps_in bs place (inner x))) (map length (pieces_in end bs place (inner x) []))
-    ∙ ap (λ n. rounds_in x * n) (length-map (pieces_in end bs place (inner x) []) length)
+pub count-block : (end : ℕ) (bs : List ℕ) (position : ℕ) (x : Option OneItem) → length (block_pieces end bs position x []) ≡ rounds_in x * length (pieces_in end bs position (inner x) [])
+count-block end bs position x =
+    sym (length-map (block_pieces end bs position x []) length)
+    ∙ ap length (lengths-block_end end bs position x)
+    ∙ length-rounds (rounds_in x) (length (steps_in bs position (inner x))) (map length (pieces_in end bs position (inner x) []))
+    ∙ ap (λ n. rounds_in x * n) (length-map (pieces_in end bs position (inner x) []) length)
 
-pub count-block_after : (end : ℕ) (bs : List ℕ) (place : ℕ) (x : Option OneItem) (following : List Step) → length (block_pieces end bs place x following) ≡ length (block_pieces end bs place x [])
-count-block_after end bs place x following =
-    sym (length-map (block_pieces end bs place x following) length)
-    ∙ ap length (lengths-block_after end bs place x following)
-    ∙ length-more (length following) (map length (block_pieces end bs place x []))
-    ∙ length-map (block_pieces end bs place x []) length
+pub count-block_after : (end : ℕ) (bs : List ℕ) (position : ℕ) (x : Option OneItem) (following : List Step) → length (block_pieces end bs position x following) ≡ length (block_pieces end bs position x [])
+count-block_after end bs position x following =
+    sym (length-map (block_pieces end bs position x following) length)
+    ∙ ap length (lengths-block_after end bs position x following)
+    ∙ length-more (length following) (map length (block_pieces end bs position x []))
+    ∙ length-map (block_pieces end bs position x []) length
 
 -- no piece is longer than the steps that they are of
 
@@ -125,26 +125,26 @@ short_pieces m gates (p ∷ ps) h =
     let within = length-append p rest in
     All-cons (λ g. g ≤ m) (length p) (map length ps) (omega (arith, h, outer, within)) (short_pieces m gates ps (omega (arith, h, outer, within)))
 
-any_stand : (bs : List ℕ) (place : ℕ) (xs : List OneItem) → HaveRounds bs xs → (gates : List Step) × Stands gates (place + 1) bs place xs
-any_stand [] place xs h =
-    let some = take (place + 1) xs in
-    (steps (drop place some), steps_split place some ∙ ap (λ l. steps l ++ steps (drop place some)) (take-take place (place + 1) xs (omega arith)))
-any_stand (b ∷ bs) place xs h =
-    let r = any_stand bs place (inner (slice_get xs b)) h.1 in
+any_stand : (bs : List ℕ) (position : ℕ) (xs : List OneItem) → HaveRounds bs xs → (gates : List Step) × Stands gates (position + 1) bs position xs
+any_stand [] position xs h =
+    let some = take (position + 1) xs in
+    (steps (drop position some), steps_split position some ∙ ap (λ l. steps l ++ steps (drop position some)) (take-take position (position + 1) xs (omega arith)))
+any_stand (b ∷ bs) position xs h =
+    let r = any_stand bs position (inner (slice_get xs b)) h.1 in
     (r.0, (h.0, r.1))
 
-pub lead_short : (bs : List ℕ) (place m : ℕ) (xs : List OneItem) → HaveRounds bs xs → length (steps xs) ≤ m → length (steps_in bs place xs) ≤ m
-lead_short bs place m xs h few =
-    let r = any_stand bs place xs h in
-    let lead = steps_in bs place xs in
-    let ps = pieces_in (place + 1) bs place xs [] in
-    let whole = ap length (sym (append-nil (steps xs)) ∙ steps-pieces r.0 (place + 1) bs place xs r.1 []) in
+pub lead_short : (bs : List ℕ) (position m : ℕ) (xs : List OneItem) → HaveRounds bs xs → length (steps xs) ≤ m → length (steps_in bs position xs) ≤ m
+lead_short bs position m xs h few =
+    let r = any_stand bs position xs h in
+    let lead = steps_in bs position xs in
+    let ps = pieces_in (position + 1) bs position xs [] in
+    let whole = ap length (sym (append-nil (steps xs)) ∙ steps-pieces r.0 (position + 1) bs position xs r.1 []) in
     omega (arith, few, whole, length-append lead (interleaved r.0 ps))
 
-pub gaps_short : (bs : List ℕ) (place m : ℕ) (xs : List OneItem) → HaveRounds bs xs → length (steps xs) ≤ m → All (λ g. g ≤ m) (map length (pieces_in (place + 1) bs place xs []))
-gaps_short bs place m xs h few =
-    let r = any_stand bs place xs h in
-    let lead = steps_in bs place xs in
-    let ps = pieces_in (place + 1) bs place xs [] in
-    let whole = ap length (sym (append-nil (steps xs)) ∙ steps-pieces r.0 (place + 1) bs place xs r.1 []) in
+pub gaps_short : (bs : List ℕ) (position m : ℕ) (xs : List OneItem) → HaveRounds bs xs → length (steps xs) ≤ m → All (λ g. g ≤ m) (map length (pieces_in (position + 1) bs position xs []))
+gaps_short bs position m xs h few =
+    let r = any_stand bs position xs h in
+    let lead = steps_in bs position xs in
+    let ps = pieces_in (position + 1) bs position xs [] in
+    let whole = ap length (sym (append-nil (steps xs)) ∙ steps-pieces r.0 (position + 1) bs position xs r.1 []) in
     short_pieces m r.0 ps (omega (arith, few, whole, length-append lead (interleaved r.0 ps)))

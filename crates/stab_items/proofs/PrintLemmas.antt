@@ -42,9 +42,9 @@ items_at xs i x h e =
     ∙ sym (listed-append (take i xs) (drop i xs))
     ∙ ap listed (take-append-drop i xs)
 
-pub printed_place : (d : ℕ) (xs : List OneItem) (i : ℕ) (x : OneItem) → i < length xs → x ≡ get_or xs i x
+pub printed_position : (d : ℕ) (xs : List OneItem) (i : ℕ) (x : OneItem) → i < length xs → x ≡ get_or xs i x
     → printed_in d (listed (take i xs)) ++ (printed_in d (before x done) ++ printed_in d (listed (drop (i + 1) xs))) ≡ printed_in d (listed xs)
-printed_place d xs i x h e =
+printed_position d xs i x h e =
     ap (λ l. printed_in d (listed (take i xs)) ++ l) (sym (printed_in-join d (before x done) (listed (drop (i + 1) xs))))
     ∙ sym (printed_in-join d (listed (take i xs)) (join (before x done) (listed (drop (i + 1) xs))))
     ∙ ap (printed_in d) (items_at xs i x h e)

@@ -83,37 +83,37 @@ block_alike count tag old new a = record {
 }
 
 -- a list with parts instead of an item
-parts_in_place : (place : ℕ) (round : ℕ) (xs ys : List OneItem) (g : Option OneItem) → slice_get xs place ≡ g → with_parts place xs (parts_of_item round g) ≡ Ok ys → AreAlike (listed xs) (listed ys)
-parts_in_place place round xs ys None found e = absurd (cc)
-parts_in_place place round xs ys (Some (operation op)) found e = absurd (cc)
-parts_in_place place round xs ys (Some (repeat count tag body)) found e = by_test (nat_lt round count) refl e
+parts_there : (position : ℕ) (round : ℕ) (xs ys : List OneItem) (g : Option OneItem) → slice_get xs position ≡ g → with_parts position xs (parts_of_item round g) ≡ Ok ys → AreAlike (listed xs) (listed ys)
+parts_there position round xs ys None found e = absurd (cc)
+parts_there position round xs ys (Some (operation op)) found e = absurd (cc)
+parts_there position round xs ys (Some (repeat count tag body)) found e = by_test (nat_lt round count) refl e
   where
     front : List OneItem
-    front = take place xs
+    front = take position xs
 
     back : List OneItem
-    back = drop (suc place) xs
+    back = drop (suc position) xs
 
     old : xs ≡ front ++ ((repeat count tag body ∷ []) ++ back)
-    old = got_split xs place (repeat count tag body) found
+    old = got_split xs position (repeat count tag body) found
 
-    by_test : (b : Bool) → nat_lt round count ≡ b → with_parts place xs (if b then Ok (parts_of_block round count tag body) else Err PlaceOutOfRange) ≡ Ok ys → AreAlike (listed xs) (listed ys)
+    by_test : (b : Bool) → nat_lt round count ≡ b → with_parts position xs (if b then Ok (parts_of_block round count tag body) else Err PlaceOutOfRange) ≡ Ok ys → AreAlike (listed xs) (listed ys)
     by_test false t e = absurd (cc)
     by_test true t e =
         let new : front ++ (parts_of_block round count tag body ++ back) ≡ ys =
-        ap (λ n. front ++ (parts_of_block round count tag body ++ drop n xs)) {x = suc place} {y = place + 1} (omega arith) ∙ cc in
+        ap (λ n. front ++ (parts_of_block round count tag body ++ drop n xs)) {x = suc position} {y = position + 1} (omega arith) ∙ cc in
         subst (λ l. AreAlike (listed l) (listed ys)) (sym old)
         (subst (λ l. AreAlike (listed (front ++ ((repeat count tag body ∷ []) ++ back))) (listed l)) new
         (alike_around front back (repeat count tag body ∷ []) (parts_of_block round count tag body) (parts_alike round count tag body (lt_holds round count t))))
 
 -- a split leaves items that are like those before
-pub split_alike : (round : ℕ) (bs : List ℕ) (place : ℕ) (xs ys : List OneItem) → split_in round bs place xs ≡ Ok ys → AreAlike (listed xs) (listed ys)
-split_alike round [] place xs ys e = parts_in_place place round xs ys (slice_get xs place) refl e
-split_alike round (b ∷ bs) place xs ys e =
-    let r = rebuilds (split_in round bs place) b xs ys (slice_get xs b) refl e in
+pub split_alike : (round : ℕ) (bs : List ℕ) (position : ℕ) (xs ys : List OneItem) → split_in round bs position xs ≡ Ok ys → AreAlike (listed xs) (listed ys)
+split_alike round [] position xs ys e = parts_there position round xs ys (slice_get xs position) refl e
+split_alike round (b ∷ bs) position xs ys e =
+    let r = rebuilds (split_in round bs position) b xs ys (slice_get xs b) refl e in
     let front = take b xs in
     let back = drop (suc b) xs in
-    let within : AreAlike r.body (listed r.within) = subst (λ (i : Items). AreAlike i (listed r.within)) (listed-entries r.body) (split_alike round bs place (entries r.body) r.within r.edited) in
+    let within : AreAlike r.body (listed r.within) = subst (λ (i : Items). AreAlike i (listed r.within)) (listed-entries r.body) (split_alike round bs position (entries r.body) r.within r.edited) in
     let old : xs ≡ front ++ ((repeat r.count r.tag r.body ∷ []) ++ back) = got_split xs b (repeat r.count r.tag r.body) r.found in
     let new : ys ≡ front ++ ((repeat r.count r.tag (listed r.within) ∷ []) ++ back) =
     r.same ∙ set_split xs b (repeat r.count r.tag (listed r.within)) (slice_get_within xs b (repeat r.count r.tag r.body) r.found) in

@@ -7,16 +7,16 @@ cut (suc n) [] = refl
 cut (suc n) (x ∷ xs) = ap (λ ys. x ∷ ys) (cut n xs)
 
 -- the steps of targets from a position on begin with those of a part of the targets
-pub part-steps : {X : Type 0} (f : X → Step) (xs seen part : List X) (place most : ℕ) (steps : List Step) → steps ≡ map f xs → seen ≡ xs → part ≡ take most (drop place seen)
-    → drop place steps ≡ map f part ++ drop (place + length (map f part)) steps
-part-steps f xs seen part place most steps is same e =
-    let ys = drop place (map f xs) in
+pub part-steps : {X : Type 0} (f : X → Step) (xs seen part : List X) (position most : ℕ) (steps : List Step) → steps ≡ map f xs → seen ≡ xs → part ≡ take most (drop position seen)
+    → drop position steps ≡ map f part ++ drop (position + length (map f part)) steps
+part-steps f xs seen part position most steps is same e =
+    let ys = drop position (map f xs) in
     let front : take most ys ≡ map f part =
-    ap (take most) (drop-map f place xs) ∙ take-map f most (drop place xs) ∙ ap (map f) (sym (e ∙ ap (λ zs. take most (drop place zs)) same)) in
-    subst (λ zs. drop place zs ≡ map f part ++ drop (place + length (map f part)) zs) (sym is)
+    ap (take most) (drop-map f position xs) ∙ take-map f most (drop position xs) ∙ ap (map f) (sym (e ∙ ap (λ zs. take most (drop position zs)) same)) in
+    subst (λ zs. drop position zs ≡ map f part ++ drop (position + length (map f part)) zs) (sym is)
     (cut most ys
     ∙ ap (λ p. p ++ drop (length p) ys) front
-    ∙ ap (λ rest. map f part ++ rest) (drop-drop (length (map f part)) place (map f xs)))
+    ∙ ap (λ rest. map f part ++ rest) (drop-drop (length (map f part)) position (map f xs)))
 
 -- the steps of an instruction from a position on
 pub none_given : (l : List Step) (n : ℕ) → None ≡ slice_get l n → drop n l ≡ []

@@ -12,30 +12,30 @@ length-path_rounds (suc n) ps =
     let more : length ps + n * length ps ≡ suc n * length ps = omega arith in
     length-append ps (path_rounds n ps) ∙ ap (λ m. length ps + m) (length-path_rounds n ps) ∙ more
 
-pub length-paths : (place : ℕ) (items : Items) → length (paths_from place items) ≡ length (unroll items)
-length-paths place done = refl
-length-paths place (next op rest) =
+pub length-paths : (position : ℕ) (items : Items) → length (paths_from position items) ≡ length (unroll items)
+length-paths position done = refl
+length-paths position (next op rest) =
     let n = length (steps_of op.kind) in
-    length-append (replicate n (outside place)) (paths_from (place + 1) rest)
-    ∙ ap (λ m. m + length (paths_from (place + 1) rest)) (length-replicate n (outside place))
-    ∙ ap (λ m. n + m) (length-paths (place + 1) rest)
+    length-append (replicate n (outside position)) (paths_from (position + 1) rest)
+    ∙ ap (λ m. m + length (paths_from (position + 1) rest)) (length-replicate n (outside position))
+    ∙ ap (λ m. n + m) (length-paths (position + 1) rest)
     ∙ sym (length-append (steps_of op.kind) (unroll rest))
-length-paths place (block count tag body rest) =
+length-paths position (block count tag body rest) =
     let inside = paths_from 0 body in
-    length-append (path_rounds count (map (within place) inside)) (paths_from (place + 1) rest)
-    ∙ ap (λ m. m + length (paths_from (place + 1) rest)) (length-path_rounds count (map (within place) inside) ∙ ap (λ m. count * m) (length-map inside (within place) ∙ length-paths 0 body) ∙ sym (length-rounds count (unroll body)))
-    ∙ ap (λ m. length (rounds count (unroll body)) + m) (length-paths (place + 1) rest)
+    length-append (path_rounds count (map (within position) inside)) (paths_from (position + 1) rest)
+    ∙ ap (λ m. m + length (paths_from (position + 1) rest)) (length-path_rounds count (map (within position) inside) ∙ ap (λ m. count * m) (length-map inside (within position) ∙ length-paths 0 body) ∙ sym (length-rounds count (unroll body)))
+    ∙ ap (λ m. length (rounds count (unroll body)) + m) (length-paths (position + 1) rest)
     ∙ sym (length-append (rounds count (unroll body)) (unroll rest))
 
 -- the items before a position, and those from it on
 
-paths_before : (place : ℕ) (x : OneItem) (rest : Items) → paths_from place (before x rest) ≡ paths_from place (before x done) ++ paths_from (place + 1) rest
-paths_before place (operation op) rest =
-    let own = replicate (length (steps_of op.kind)) (outside place) in
-    ap (λ l. l ++ paths_from (place + 1) rest) (sym (append-nil own))
-paths_before place (repeat count tag body) rest =
-    let own = path_rounds count (map (within place) (paths_from 0 body)) in
-    ap (λ l. l ++ paths_from (place + 1) rest) (sym (append-nil own))
+paths_before : (position : ℕ) (x : OneItem) (rest : Items) → paths_from position (before x rest) ≡ paths_from position (before x done) ++ paths_from (position + 1) rest
+paths_before position (operation op) rest =
+    let own = replicate (length (steps_of op.kind)) (outside position) in
+    ap (λ l. l ++ paths_from (position + 1) rest) (sym (append-nil own))
+paths_before position (repeat count tag body) rest =
+    let own = path_rounds count (map (within position) (paths_from 0 body)) in
+    ap (λ l. l ++ paths_from (position + 1) rest) (sym (append-nil own))
 
 pub steps_split : (n : ℕ) (xs : List OneItem) → length (unroll (listed xs)) ≡ length (unroll (listed (take n xs))) + length (unroll (listed (drop n xs)))
 steps_split zero xs = omega arith
@@ -50,28 +50,28 @@ steps_split (suc n) (x ∷ xs) =
       steps_split n xs,
     )
 
-paths-append : (place : ℕ) (xs ys : List OneItem) → paths_from place (listed (xs ++ ys)) ≡ paths_from place (listed xs) ++ paths_from (place + length xs) (listed ys)
-paths-append place [] ys = let same : place ≡ place + 0 = omega arith in ap (λ p. paths_from p (listed ys)) same
-paths-append place (x ∷ xs) ys =
-    let following = paths_from (place + suc (length xs)) (listed ys) in
-    let further : place + 1 + length xs ≡ place + suc (length xs) = omega arith in
-    paths_before place x (listed (xs ++ ys))
-    ∙ ap (λ l. paths_from place (before x done) ++ l) (paths-append (place + 1) xs ys ∙ ap (λ p. paths_from (place + 1) (listed xs) ++ paths_from p (listed ys)) further)
-    ∙ sym (append_assoc (paths_from place (before x done)) (paths_from (place + 1) (listed xs)) following)
-    ∙ ap (λ l. l ++ following) (sym (paths_before place x (listed xs)))
+paths-append : (position : ℕ) (xs ys : List OneItem) → paths_from position (listed (xs ++ ys)) ≡ paths_from position (listed xs) ++ paths_from (position + length xs) (listed ys)
+paths-append position [] ys = let same : position ≡ position + 0 = omega arith in ap (λ p. paths_from p (listed ys)) same
+paths-append position (x ∷ xs) ys =
+    let following = paths_from (position + suc (length xs)) (listed ys) in
+    let further : position + 1 + length xs ≡ position + suc (length xs) = omega arith in
+    paths_before position x (listed (xs ++ ys))
+    ∙ ap (λ l. paths_from position (before x done) ++ l) (paths-append (position + 1) xs ys ∙ ap (λ p. paths_from (position + 1) (listed xs) ++ paths_from p (listed ys)) further)
+    ∙ sym (append_assoc (paths_from position (before x done)) (paths_from (position + 1) (listed xs)) following)
+    ∙ ap (λ l. l ++ following) (sym (paths_before position x (listed xs)))
 
 -- the paths from a step on, by the items from a position on
-pub paths_from_place : (xs : List OneItem) (place rest step : ℕ) → place ≤ length xs → length (unroll (listed (take place xs))) + rest ≡ step
-    → drop rest (paths_from place (listed (drop place xs))) ≡ drop step (paths_of (listed xs))
-paths_from_place xs place rest step h e =
-    let front = paths_from 0 (listed (take place xs)) in
-    let at : step ≡ length front + rest = omega (arith, e, length-paths 0 (listed (take place xs))) in
-    let begin : 0 + length (take place xs) ≡ place = omega (arith, length-take-le place xs h) in
-    sym (ap (λ l. drop step (paths_from 0 (listed l))) (sym (take-append-drop place xs))
-    ∙ ap (drop step) (paths-append 0 (take place xs) (drop place xs))
-    ∙ ap (λ p. drop step (front ++ paths_from p (listed (drop place xs)))) begin
-    ∙ ap (λ n. drop n (front ++ paths_from place (listed (drop place xs)))) at
-    ∙ drop-append-add front (paths_from place (listed (drop place xs))) rest)
+pub paths_from_position : (xs : List OneItem) (position rest step : ℕ) → position ≤ length xs → length (unroll (listed (take position xs))) + rest ≡ step
+    → drop rest (paths_from position (listed (drop position xs))) ≡ drop step (paths_of (listed xs))
+paths_from_position xs position rest step h e =
+    let front = paths_from 0 (listed (take position xs)) in
+    let at : step ≡ length front + rest = omega (arith, e, length-paths 0 (listed (take position xs))) in
+    let begin : 0 + length (take position xs) ≡ position = omega (arith, length-take-le position xs h) in
+    sym (ap (λ l. drop step (paths_from 0 (listed l))) (sym (take-append-drop position xs))
+    ∙ ap (drop step) (paths-append 0 (take position xs) (drop position xs))
+    ∙ ap (λ p. drop step (front ++ paths_from p (listed (drop position xs)))) begin
+    ∙ ap (λ n. drop n (front ++ paths_from position (listed (drop position xs)))) at
+    ∙ drop-append-add front (paths_from position (listed (drop position xs))) rest)
 
 -- the item at a position
 
@@ -170,7 +170,7 @@ item_passed xs p w n x h e is enough =
 
 -- a path in some blocks
 abbrev pub around : List ℕ → Path → Path
-around bs path = record { blocks = bs ++ path.blocks; place = path.place }
+around bs path = record { blocks = bs ++ path.blocks; position = path.position }
 
 around_none : (ps : List Path) → map (around []) ps ≡ ps
 around_none [] = refl
@@ -179,7 +179,7 @@ around_none (p ∷ ps) = ap (λ l. p ∷ l) (around_none ps)
 around_within : (bs : List ℕ) (b : ℕ) (ps : List Path) → map (around bs) (map (within b) ps) ≡ map (around (bs ++ b ∷ [])) ps
 around_within bs b [] = refl
 around_within bs b (p ∷ ps) =
-    let first : around bs (within b p) ≡ around (bs ++ b ∷ []) p = ap (λ l. record { blocks = l; place = p.place }) (sym (append_assoc bs (b ∷ []) p.blocks)) in
+    let first : around bs (within b p) ≡ around (bs ++ b ∷ []) p = ap (λ l. record { blocks = l; position = p.position }) (sym (append_assoc bs (b ∷ []) p.blocks)) in
     λ i. first i ∷ around_within bs b ps i
 
 around_replicate : (bs : List ℕ) (n : ℕ) (path : Path) → map (around bs) (replicate n path) ≡ replicate n (around bs path)
@@ -257,7 +257,7 @@ reached_operation all bs xs p w steps op x path reached h e is few count named =
     let rest = paths_from (b + 1) (listed (drop (p + 1) xs)) in
     let here = around bs (outside b) in
     let others = map (around bs) rest ++ reached.others in
-    let path' : here ≡ path = ap (λ l. record { blocks = l; place = b }) (append-nil bs) ∙ sym (path_is path bs b named) in
+    let path' : here ≡ path = ap (λ l. record { blocks = l; position = b }) (append-nil bs) ∙ sym (path_is path bs b named) in
     let left : drop w (paths_from b (listed (drop p xs))) ≡ replicate (n - w) (outside b) ++ rest =
     ap (λ l. drop w (paths_from b l)) (items_from xs p x h e)
     ∙ ap (λ y. drop w (paths_from b (before y (listed (drop (p + 1) xs))))) is

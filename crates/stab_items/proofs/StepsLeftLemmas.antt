@@ -44,11 +44,11 @@ left_after (x ∷ xs) ys m =
     ∙ ap (item_steps_left (listed (xs ++ ys))) less
     ∙ left_after xs ys m
 
-pub left_from_place : (xs : List OneItem) (place rest step : ℕ) → length (unroll (listed (take place xs))) + rest ≡ step → item_steps_left (listed (drop place xs)) rest ≡ item_steps_left (listed xs) step
-left_from_place xs place rest step e =
-    sym (left_after (take place xs) (drop place xs) rest)
-    ∙ ap (item_steps_left (listed (take place xs ++ drop place xs))) e
-    ∙ ap (λ l. item_steps_left (listed l) step) (take-append-drop place xs)
+pub left_from_position : (xs : List OneItem) (position rest step : ℕ) → length (unroll (listed (take position xs))) + rest ≡ step → item_steps_left (listed (drop position xs)) rest ≡ item_steps_left (listed xs) step
+left_from_position xs position rest step e =
+    sym (left_after (take position xs) (drop position xs) rest)
+    ∙ ap (item_steps_left (listed (take position xs ++ drop position xs))) e
+    ∙ ap (λ l. item_steps_left (listed l) step) (take-append-drop position xs)
 
 -- in a block
 pub left_block : (xs ys : List OneItem) (p w n stored : ℕ) (tag : List ℕ) (x : OneItem) → p < length xs → x ≡ get_or xs p x → x ≡ repeat n tag (listed ys) → InRound n stored (length (unroll (listed ys))) w

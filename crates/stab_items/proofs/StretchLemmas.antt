@@ -17,37 +17,37 @@ sum_joined all xs ys s t r e a b f small =
     sum_is (xs ++ ys) all r (sym e) (f ∙ joined) small (good_append xs ys a.good b.good)
 
 -- the items from a position on, those before another position first
-pub from_joined : (first place : ℕ) (xs : List OneItem) → drop first xs ≡ drop first (take place xs) ++ drop (max first place) xs
-from_joined zero place xs =
-    let same : place ≡ max 0 place = omega arith in
-    sym (take-append-drop place xs) ∙ ap (λ n. take place xs ++ drop n xs) same
+pub from_joined : (first position : ℕ) (xs : List OneItem) → drop first xs ≡ drop first (take position xs) ++ drop (max first position) xs
+from_joined zero position xs =
+    let same : position ≡ max 0 position = omega arith in
+    sym (take-append-drop position xs) ∙ ap (λ n. take position xs ++ drop n xs) same
 from_joined (suc first) zero xs =
     let same : suc first ≡ max (suc first) 0 = omega arith in
     ap (λ n. drop n xs) same
-from_joined (suc first) (suc place) [] = sym (drop-nil (max (suc first) (suc place)))
-from_joined (suc first) (suc place) (x ∷ xs) =
-    let same : suc (max first place) ≡ max (suc first) (suc place) = omega arith in
-    from_joined first place xs ∙ ap (λ n. drop first (take place xs) ++ drop n (x ∷ xs)) same
+from_joined (suc first) (suc position) [] = sym (drop-nil (max (suc first) (suc position)))
+from_joined (suc first) (suc position) (x ∷ xs) =
+    let same : suc (max first position) ≡ max (suc first) (suc position) = omega arith in
+    from_joined first position xs ∙ ap (λ n. drop first (take position xs) ++ drop n (x ∷ xs)) same
 
-pub sum_further : (front : List OneItem) (first place n : ℕ) (s t r : Summary) → IsSumOf (listed (drop first (take place front))) s → IsSumOf (listed (drop (max first place) (take (place + n) front))) t → r ≡ followed_by s t → IsSummary r
-    → IsSumOf (listed (drop first (take (place + n) front))) r
-sum_further front first place n s t r a b e small =
-    let own = take (place + n) front in
-    let all = from_joined first place own ∙ ap (λ l. drop first l ++ drop (max first place) own) (take-take place (place + n) front (omega arith)) in
-    sum_joined (drop first own) (drop first (take place front)) (drop (max first place) own) s t r all a b e small
+pub sum_further : (front : List OneItem) (first position n : ℕ) (s t r : Summary) → IsSumOf (listed (drop first (take position front))) s → IsSumOf (listed (drop (max first position) (take (position + n) front))) t → r ≡ followed_by s t → IsSummary r
+    → IsSumOf (listed (drop first (take (position + n) front))) r
+sum_further front first position n s t r a b e small =
+    let own = take (position + n) front in
+    let all = from_joined first position own ∙ ap (λ l. drop first l ++ drop (max first position) own) (take-take position (position + n) front (omega arith)) in
+    sum_joined (drop first own) (drop first (take position front)) (drop (max first position) own) s t r all a b e small
 
 -- a stretch that is in a front of the list
-pub sum_in_front : (xs front : List OneItem) (end place n : ℕ) (s : Summary) → front ≡ take end xs → IsSumOf (listed (take n (drop place xs))) s → place + n ≤ length front → IsSumOf (listed (take n (drop place front))) s
-sum_in_front xs front end place n s e sum fits =
-    let long : place + n ≤ end = omega (arith, fits, ap length e, length-take end xs) in
-    let same : take n (drop place xs) ≡ take n (drop place front) =
-    sym (drop-take place n xs) ∙ ap (drop place) (sym (take-take (place + n) end xs long) ∙ ap (take (place + n)) (sym e)) ∙ drop-take place n front in
+pub sum_in_front : (xs front : List OneItem) (end position n : ℕ) (s : Summary) → front ≡ take end xs → IsSumOf (listed (take n (drop position xs))) s → position + n ≤ length front → IsSumOf (listed (take n (drop position front))) s
+sum_in_front xs front end position n s e sum fits =
+    let long : position + n ≤ end = omega (arith, fits, ap length e, length-take end xs) in
+    let same : take n (drop position xs) ≡ take n (drop position front) =
+    sym (drop-take position n xs) ∙ ap (drop position) (sym (take-take (position + n) end xs long) ∙ ap (take (position + n)) (sym e)) ∙ drop-take position n front in
     subst (λ l. IsSumOf (listed l) s) same sum
 
-pub sum_whole : (front : List OneItem) (first place n : ℕ) (s : Summary) → first ≤ place → IsSumOf (listed (take n (drop place front))) s → IsSumOf (listed (drop (max first place) (take (place + n) front))) s
-sum_whole front first place n s order sum =
-    let later : place ≡ max first place = omega (arith, order) in
-    let same : take n (drop place front) ≡ drop (max first place) (take (place + n) front) = sym (drop-take place n front) ∙ ap (λ m. drop m (take (place + n) front)) later in
+pub sum_whole : (front : List OneItem) (first position n : ℕ) (s : Summary) → first ≤ position → IsSumOf (listed (take n (drop position front))) s → IsSumOf (listed (drop (max first position) (take (position + n) front))) s
+sum_whole front first position n s order sum =
+    let later : position ≡ max first position = omega (arith, order) in
+    let same : take n (drop position front) ≡ drop (max first position) (take (position + n) front) = sym (drop-take position n front) ∙ ap (λ m. drop m (take (position + n) front)) later in
     subst (λ l. IsSumOf (listed l) s) same sum
 
 -- one stretch more
@@ -83,19 +83,19 @@ take_further zero m xs = let same : 0 + m ≡ m = omega arith in ap (λ k. take 
 take_further (suc n) m [] = none_taken (suc n + m) ∙ sym (none_taken m)
 take_further (suc n) m (x ∷ xs) = let same : suc n + m ≡ suc (n + m) = omega arith in ap (λ k. take k (x ∷ xs)) same ∙ ap (λ l. x ∷ l) (take_further n m xs)
 
-pub steps_further : (xs : List OneItem) (place n steps left step : ℕ) → steps ≡ min (length (unroll (listed (take n (drop place xs))))) 1048577 → steps ≤ left → step ≤ 1048576
-    → length (unroll (listed (take place xs))) + left ≡ step → length (unroll (listed (take (place + n) xs))) + (left - steps) ≡ step
-steps_further xs place n steps left step e enough few counted =
-    let here = unroll (listed (take place xs)) in
-    let more = unroll (listed (take n (drop place xs))) in
-    omega (arith, e, enough, few, counted, ap (λ l. length (unroll (listed l))) (take_further place n xs), ap length (steps-append (take place xs) (take n (drop place xs))), length-append here more)
+pub steps_further : (xs : List OneItem) (position n steps left step : ℕ) → steps ≡ min (length (unroll (listed (take n (drop position xs))))) 1048577 → steps ≤ left → step ≤ 1048576
+    → length (unroll (listed (take position xs))) + left ≡ step → length (unroll (listed (take (position + n) xs))) + (left - steps) ≡ step
+steps_further xs position n steps left step e enough few counted =
+    let here = unroll (listed (take position xs)) in
+    let more = unroll (listed (take n (drop position xs))) in
+    omega (arith, e, enough, few, counted, ap (λ l. length (unroll (listed l))) (take_further position n xs), ap length (steps-append (take position xs) (take n (drop position xs))), length-append here more)
 
 -- the steps from a step on
-pub steps_from_place : (xs : List OneItem) (place rest step : ℕ) → length (unroll (listed (take place xs))) + rest ≡ step → drop rest (unroll (listed (drop place xs))) ≡ drop step (unroll (listed xs))
-steps_from_place xs place rest step e =
-    let front = unroll (listed (take place xs)) in
-    let back = unroll (listed (drop place xs)) in
-    sym (ap (drop step) (steps_split place xs) ∙ ap (λ n. drop n (front ++ back)) (sym e) ∙ drop-append-add front back rest)
+pub steps_from_position : (xs : List OneItem) (position rest step : ℕ) → length (unroll (listed (take position xs))) + rest ≡ step → drop rest (unroll (listed (drop position xs))) ≡ drop step (unroll (listed xs))
+steps_from_position xs position rest step e =
+    let front = unroll (listed (take position xs)) in
+    let back = unroll (listed (drop position xs)) in
+    sym (ap (drop step) (steps_split position xs) ∙ ap (λ n. drop n (front ++ back)) (sym e) ∙ drop-append-add front back rest)
 
 -- how many items are before a stretch, and before the next one
 pub items_next : (ss : List Stretch) (k : ℕ) (s : Stretch) → k < length ss → s ≡ get_or ss k s → items_in (take (k + 1) ss) ≡ items_in (take k ss) + s.items
@@ -146,27 +146,27 @@ renewed (s ∷ ss) (suc k) new xs ys are h same fits sum rest =
     )
 
 -- the items before an edit
-same_before : (ss : List Stretch) (place len some : ℕ) (ys : List OneItem) (were : WereStretches ss place len ys) → some ≤ place → take some ys ≡ take some were.old
-same_before ss place len some ys were before =
+same_before : (ss : List Stretch) (position len some : ℕ) (ys : List OneItem) (were : WereStretches ss position len ys) → some ≤ position → take some ys ≡ take some were.old
+same_before ss position len some ys were before =
     let xs = were.old in
     let cut = were.splice in
     let left : take cut.first xs ++ (cut.put ++ drop cut.following xs) ≡ ys = cc in
     let short : length (take cut.first xs) ≡ cut.first = length-take-le cut.first xs (omega (arith, were.within.order, were.within.end)) in
     ap (take some) (sym left) ∙ take-append-le some (take cut.first xs) (cut.put ++ drop cut.following xs) (omega (arith, short, were.first, before)) ∙ take-take some cut.first xs (omega (arith, were.first, before))
 
-pub stays_after : (ss : List Stretch) (k place len first : ℕ) (ys : List OneItem) → WereStretches ss place len ys → length ss ≤ k → first ≡ items_in (take k ss) → first ≤ place → AreStretches ss ys
-stays_after ss k place len first ys were h at before =
+pub stays_after : (ss : List Stretch) (k position len first : ℕ) (ys : List OneItem) → WereStretches ss position len ys → length ss ≤ k → first ≡ items_in (take k ss) → first ≤ position → AreStretches ss ys
+stays_after ss k position len first ys were h at before =
     let all : items_in (take k ss) ≡ items_in ss = ap items_in (take_all k ss h) in
-    same_stretches ss were.old ys were.are (same_before ss place len (items_in ss) ys were (omega (arith, all, at, before)))
+    same_stretches ss were.old ys were.are (same_before ss position len (items_in ss) ys were (omega (arith, all, at, before)))
 
 -- where a stretch ends
-pub end_within : (ss : List Stretch) (k place len first : ℕ) (s : Stretch) (ys : List OneItem) → WereStretches ss place len ys → k < length ss → s ≡ get_or ss k s → first ≡ items_in (take k ss) → first + s.items ≤ len
-end_within ss k place len first s ys were h e at = omega (arith, items_next ss k s h e, at, were.long, items_before ss (k + 1) were.old were.are)
+pub end_within : (ss : List Stretch) (k position len first : ℕ) (s : Stretch) (ys : List OneItem) → WereStretches ss position len ys → k < length ss → s ≡ get_or ss k s → first ≡ items_in (take k ss) → first + s.items ≤ len
+end_within ss k position len first s ys were h e at = omega (arith, items_next ss k s h e, at, were.long, items_before ss (k + 1) were.old were.are)
 
 -- the stretches of a list in which one was renewed that an edit lies in
-pub renewed_at : (ss : List Stretch) (k place len first : ℕ) (s new : Stretch) (ys own : List OneItem) → WereStretches ss place len ys → k < length ss → s ≡ get_or ss k s → first ≡ items_in (take k ss) → first ≤ place
-    → place < first + s.items → own ≡ drop first (take (length ys - (len - (first + s.items))) ys) → new.items ≡ length own → IsSumOf (listed own) new.summary → AreStretches (set ss k new) ys
-renewed_at ss k place len first s new ys own were h e at before following is items sum =
+pub renewed_at : (ss : List Stretch) (k position len first : ℕ) (s new : Stretch) (ys own : List OneItem) → WereStretches ss position len ys → k < length ss → s ≡ get_or ss k s → first ≡ items_in (take k ss) → first ≤ position
+    → position < first + s.items → own ≡ drop first (take (length ys - (len - (first + s.items))) ys) → new.items ≡ length own → IsSumOf (listed own) new.summary → AreStretches (set ss k new) ys
+renewed_at ss k position len first s new ys own were h e at before following is items sum =
     let xs = were.old in
     let cut = were.splice in
     let front = take cut.first xs ++ cut.put in
@@ -177,7 +177,7 @@ renewed_at ss k place len first s new ys own were h e at before following is ite
     let left : take cut.first xs ++ (cut.put ++ back) ≡ ys = cc in
     let whole : ys ≡ front ++ back = sym left ∙ sym (append_assoc (take cut.first xs) cut.put back) in
     let next : items_in (take (k + 1) ss) ≡ end = omega (arith, items_next ss k s h e, at) in
-    let fits : end ≤ length xs = omega (arith, were.long, end_within ss k place len first s ys were h e at) in
+    let fits : end ≤ length xs = omega (arith, were.long, end_within ss k position len first s ys were h e at) in
     let short : length (take cut.first xs) ≡ cut.first = length-take-le cut.first xs (omega (arith, were.within.order, were.within.end)) in
     let long : length ys ≡ length front + (length xs - cut.following) = ap length whole ∙ length-append front back ∙ ap (λ n. length front + n) (length-drop cut.following xs) in
     let joined : length front ≡ cut.first + length cut.put = length-append (take cut.first xs) cut.put ∙ ap (λ n. n + length cut.put) short in
@@ -186,7 +186,7 @@ renewed_at ss k place len first s new ys own were h e at before following is ite
     let further : cut.following + (end - cut.following) ≡ end = omega (arith, past) in
     let rest : drop preserved ys ≡ drop end xs =
     ap (drop preserved) whole ∙ ap (λ n. drop n (front ++ back)) cut_at ∙ drop-append-add front back (end - cut.following) ∙ drop-drop (end - cut.following) cut.following xs ∙ ap (λ n. drop n xs) further in
-    let same = same_before ss place len some ys were (omega (arith, before, at)) in
+    let same = same_before ss position len some ys were (omega (arith, before, at)) in
     let enough : some + new.items ≡ preserved =
     omega (arith, items, ap length is, length-drop first (take preserved ys), length-take preserved ys, cut_at, joined, long, were.first, before, at, were.within.end, past, fits) in
     let mine : own ≡ take new.items (drop some ys) = is ∙ (λ i. drop (at i) (take (sym enough i) ys)) ∙ drop-take some new.items ys in

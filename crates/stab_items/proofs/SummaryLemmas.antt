@@ -12,25 +12,25 @@ greatest_small [] a = omega arith
 greatest_small (k ∷ ks) a = omega (arith, (All-head IsLookback k ks a).1, greatest_small ks (All-tail IsLookback k ks a))
 
 -- loops over numbers, from the back
-from_place : {A : Type 0} (f : List A → ℕ) (g : A → ℕ) (xs : List A) (i : ℕ) (d : A) → i < length xs → ((x : A) (more : List A) → f (x ∷ more) ≡ max (g x) (f more))
+from_position : {A : Type 0} (f : List A → ℕ) (g : A → ℕ) (xs : List A) (i : ℕ) (d : A) → i < length xs → ((x : A) (more : List A) → f (x ∷ more) ≡ max (g x) (f more))
     → f (drop i xs) ≡ max (g (get_or xs i d)) (f (drop (i + 1) xs))
-from_place f g xs i d h e =
+from_position f g xs i d h e =
     let next' : suc i ≡ i + 1 = omega arith in
     ap f (drop-cons xs i d h) ∙ e (get_or xs i d) (drop (suc i) xs) ∙ ap (λ n. max (g (get_or xs i d)) (f (drop n xs))) next'
 
 pub greatest_dropped : (ks : List ℕ) (i : ℕ) → i < length ks → greatest (drop i ks) ≡ max (get_or ks i 0) (greatest (drop (i + 1) ks))
-greatest_dropped ks i h = from_place greatest (λ k. k) ks i 0 h (λ k more. refl)
+greatest_dropped ks i h = from_position greatest (λ k. k) ks i 0 h (λ k more. refl)
 
 pub past_dropped : (qs : List ℕ) (i d : ℕ) → i < length qs → past (drop i qs) ≡ max (get_or qs i d + 1) (past (drop (i + 1) qs))
-past_dropped qs i d h = from_place past (λ q. q + 1) qs i d h (λ q more. refl)
+past_dropped qs i d h = from_position past (λ q. q + 1) qs i d h (λ q more. refl)
 
 pub past_pairs_dropped : (ps : List (ℕ × ℕ)) (i : ℕ) (d : ℕ × ℕ) → i < length ps
     → past (pair_qubits (drop i ps)) ≡ max (max ((get_or ps i d).0 + 1) ((get_or ps i d).1 + 1)) (past (pair_qubits (drop (i + 1) ps)))
-past_pairs_dropped ps i d h = from_place (λ l. past (pair_qubits l)) (λ p. max (p.0 + 1) (p.1 + 1)) ps i d h (λ p more. omega arith)
+past_pairs_dropped ps i d h = from_position (λ l. past (pair_qubits l)) (λ p. max (p.0 + 1) (p.1 + 1)) ps i d h (λ p more. omega arith)
 
 pub past_targets_dropped : (ts : List MeasureTarget) (i : ℕ) (d : MeasureTarget) → i < length ts
     → past (target_qubits (drop i ts)) ≡ max ((get_or ts i d).qubit + 1) (past (target_qubits (drop (i + 1) ts)))
-past_targets_dropped ts i d h = from_place (λ l. past (target_qubits l)) (λ t. t.qubit + 1) ts i d h (λ t more. refl)
+past_targets_dropped ts i d h = from_position (λ l. past (target_qubits l)) (λ t. t.qubit + 1) ts i d h (λ t more. refl)
 
 past-append : (xs ys : List ℕ) → past (xs ++ ys) ≡ max (past xs) (past ys)
 past-append [] ys = omega arith
@@ -38,11 +38,11 @@ past-append (x ∷ xs) ys = omega (arith, past-append xs ys)
 
 pub past_factors_dropped : (fs : List Factor) (i : ℕ) (d : Factor) → i < length fs
     → past (factor_qubits (drop i fs)) ≡ max ((get_or fs i d).qubit + 1) (past (factor_qubits (drop (i + 1) fs)))
-past_factors_dropped fs i d h = from_place (λ l. past (factor_qubits l)) (λ f. f.qubit + 1) fs i d h (λ f more. refl)
+past_factors_dropped fs i d h = from_position (λ l. past (factor_qubits l)) (λ f. f.qubit + 1) fs i d h (λ f more. refl)
 
 pub past_products_dropped : (ps : List (List Factor)) (i : ℕ) (d : List Factor) → i < length ps
     → past (product_qubits (drop i ps)) ≡ max (past (factor_qubits (get_or ps i d))) (past (product_qubits (drop (i + 1) ps)))
-past_products_dropped ps i d h = from_place (λ l. past (product_qubits l)) (λ fs. past (factor_qubits fs)) ps i d h (λ fs more. past-append (factor_qubits fs) (product_qubits more))
+past_products_dropped ps i d h = from_position (λ l. past (product_qubits l)) (λ fs. past (factor_qubits fs)) ps i d h (λ fs more. past-append (factor_qubits fs) (product_qubits more))
 
 past_pair_more : (p : ControlledPair) (more : List ControlledPair) → past (controlled_qubits (p ∷ more)) ≡ max (past (controlled_qubits (p ∷ []))) (past (controlled_qubits more))
 past_pair_more (pair.Qubits p) more = omega arith
@@ -50,10 +50,10 @@ past_pair_more (pair.Record q k) more = omega arith
 
 pub past_controlled_dropped : (ps : List ControlledPair) (i : ℕ) (d : ControlledPair) → i < length ps
     → past (controlled_qubits (drop i ps)) ≡ max (past (controlled_qubits (get_or ps i d ∷ []))) (past (controlled_qubits (drop (i + 1) ps)))
-past_controlled_dropped ps i d h = from_place (λ l. past (controlled_qubits l)) (λ p. past (controlled_qubits (p ∷ []))) ps i d h past_pair_more
+past_controlled_dropped ps i d h = from_position (λ l. past (controlled_qubits l)) (λ p. past (controlled_qubits (p ∷ []))) ps i d h past_pair_more
 
 pub furthest_dropped : (ps : List ControlledPair) (i : ℕ) (d : ControlledPair) → i < length ps → furthest (drop i ps) ≡ max (looks_back (get_or ps i d)) (furthest (drop (i + 1) ps))
-furthest_dropped ps i d h = from_place furthest looks_back ps i d h (λ p more. refl)
+furthest_dropped ps i d h = from_position furthest looks_back ps i d h (λ p more. refl)
 
 abbrev summary : ℕ → ℕ → ℕ → ℕ → ℕ → ℕ → ℕ → Summary
 summary a b t c q o d = record { steps = a; records = b; detectors = t; window = c; qubits = q; observables = o; depth = d }

@@ -25,7 +25,7 @@ there f x r = lt_is (length f) (length (f ++ x ∷ r)) (omega (arith, length-app
 pub found : (f : List OneItem) (x : OneItem) (r : List OneItem) (b : ℕ) → length f ≡ b → slice_get (f ++ x ∷ r) b ≡ Some x
 found f x r b size = subst (λ n. slice_get (f ++ x ∷ r) n ≡ Some x) size (get-at f x r)
 
-module _ (f : List OneItem) (x : OneItem) (r : List OneItem) (at : Path) (size : length f ≡ at.place) where
+module _ (f : List OneItem) (x : OneItem) (r : List OneItem) (at : Path) (size : length f ≡ at.position) where
   replaced : (z : OneItem) → changed (Replace at z) (f ++ x ∷ r) ≡ Ok (f ++ z ∷ r)
   replaced z =
       subst (λ n. (if nat_lt n (length (f ++ x ∷ r)) then Ok (set (f ++ x ∷ r) n z) else Err PlaceOutOfRange) ≡ Ok (f ++ z ∷ r)) size
@@ -122,12 +122,12 @@ nothing_taken at x (b ∷ bs) xs = nothing_taken at x bs (inner (slice_get xs b)
 insert_undone_at : (at : Path) (x : OneItem) (us vs : List OneItem) → changed (Insert at x) us ≡ Ok vs → changed (Delete at) vs ≡ Ok us
 insert_undone_at at x us vs e =
     let s = changed_split (Insert at x) us vs e in
-    ap (changed (Delete at)) s.1 ∙ deleted (take at.place us) x (drop at.place us) at (length-take-le at.place us s.0) ∙ ap Ok (take-append-drop at.place us)
+    ap (changed (Delete at)) s.1 ∙ deleted (take at.position us) x (drop at.position us) at (length-take-le at.position us s.0) ∙ ap Ok (take-append-drop at.position us)
 
-pub put_at : (at : Path) (x : OneItem) (us vs : List OneItem) → changed (Insert at x) us ≡ Ok vs → slice_get vs at.place ≡ Some x
+pub put_at : (at : Path) (x : OneItem) (us vs : List OneItem) → changed (Insert at x) us ≡ Ok vs → slice_get vs at.position ≡ Some x
 put_at at x us vs e =
     let s = changed_split (Insert at x) us vs e in
-    ap (λ l. slice_get l at.place) s.1 ∙ found (take at.place us) x (drop at.place us) at.place (length-take-le at.place us s.0)
+    ap (λ l. slice_get l at.position) s.1 ∙ found (take at.position us) x (drop at.position us) at.position (length-take-le at.position us s.0)
 
 pub insert-undone : (at : Path) (x : OneItem) (xs ys : List OneItem) → edited (Insert at x) xs ≡ Ok ys → edited (Delete at) ys ≡ Ok xs
 insert-undone at x xs ys e = undone_in (Insert at x) (Delete at) None (λ us vs i h. insert_undone_at at x us vs i) at.blocks xs ys e (nothing_taken at x at.blocks xs)
@@ -137,21 +137,21 @@ insert-retaken at x xs ys e = retaken_in (Insert at x) (Delete at) (Some x) (put
 
 -- a replacement is undone by putting the old item back, which gives the new one back
 
-replace_undone_at : (at : Path) (x old : OneItem) (us vs : List OneItem) → changed (Replace at x) us ≡ Ok vs → slice_get us at.place ≡ Some old → changed (Replace at old) vs ≡ Ok us
+replace_undone_at : (at : Path) (x old : OneItem) (us vs : List OneItem) → changed (Replace at x) us ≡ Ok vs → slice_get us at.position ≡ Some old → changed (Replace at old) vs ≡ Ok us
 replace_undone_at at x old us vs e h =
     let s = changed_split (Replace at x) us vs e in
     ap (changed (Replace at old)) s.1
-    ∙ replaced (take at.place us) x (drop (at.place + 1) us) at (length-take-le at.place us s.0) old
-    ∙ ap (λ n. Ok (take at.place us ++ old ∷ drop n us)) next
-    ∙ ap Ok (sym (got_split us at.place old h))
+    ∙ replaced (take at.position us) x (drop (at.position + 1) us) at (length-take-le at.position us s.0) old
+    ∙ ap (λ n. Ok (take at.position us ++ old ∷ drop n us)) next
+    ∙ ap Ok (sym (got_split us at.position old h))
   where
-    next : at.place + 1 ≡ suc at.place
+    next : at.position + 1 ≡ suc at.position
     next = omega arith
 
-pub replaced_at : (at : Path) (x : OneItem) (us vs : List OneItem) → changed (Replace at x) us ≡ Ok vs → slice_get vs at.place ≡ Some x
+pub replaced_at : (at : Path) (x : OneItem) (us vs : List OneItem) → changed (Replace at x) us ≡ Ok vs → slice_get vs at.position ≡ Some x
 replaced_at at x us vs e =
     let s = changed_split (Replace at x) us vs e in
-    ap (λ l. slice_get l at.place) s.1 ∙ found (take at.place us) x (drop (at.place + 1) us) at.place (length-take-le at.place us s.0)
+    ap (λ l. slice_get l at.position) s.1 ∙ found (take at.position us) x (drop (at.position + 1) us) at.position (length-take-le at.position us s.0)
 
 pub replace-undone : (at : Path) (x old : OneItem) (xs ys : List OneItem)
     → edited (Replace at x) xs ≡ Ok ys → taken (Replace at x) xs ≡ Some old → edited (Replace at old) ys ≡ Ok xs

@@ -34,9 +34,9 @@ edit_path (Delete place) = place
 
 -- the innermost list around an edit's place, after the edit: 12 if the place is past the list
 abbrev pub changed : Edit → List OneItem → Result (List OneItem) Refusal
-changed (Insert place x) xs = if nat_le place.place (length xs) then Ok (insert xs place.place x) else Err PlaceOutOfRange
-changed (Replace place x) xs = if nat_lt place.place (length xs) then Ok (slice_set xs place.place x) else Err PlaceOutOfRange
-changed (Delete place) xs = if nat_lt place.place (length xs) then Ok (remove xs place.place) else Err PlaceOutOfRange
+changed (Insert place x) xs = if nat_le place.position (length xs) then Ok (insert xs place.position x) else Err PlaceOutOfRange
+changed (Replace place x) xs = if nat_lt place.position (length xs) then Ok (slice_set xs place.position x) else Err PlaceOutOfRange
+changed (Delete place) xs = if nat_lt place.position (length xs) then Ok (remove xs place.position) else Err PlaceOutOfRange
 
 -- a list after an edit in the last of these blocks, the outermost first
 abbrev pub edited_in : Edit → List ℕ → List OneItem → Result (List OneItem) Refusal
@@ -74,8 +74,8 @@ inner (Some (repeat count tag body)) = entries body
 -- the item that an edit takes out of the innermost list around its place
 abbrev pub taken_at : Edit → List OneItem → Option OneItem
 taken_at (Insert place x) xs = None
-taken_at (Replace place x) xs = slice_get xs place.place
-taken_at (Delete place) xs = slice_get xs place.place
+taken_at (Replace place x) xs = slice_get xs place.position
+taken_at (Delete place) xs = slice_get xs place.position
 
 -- the item that an edit in the last of these blocks takes out
 abbrev pub taken_in : Edit → List ℕ → List OneItem → Option OneItem
@@ -105,7 +105,7 @@ steps_in (b ∷ bs) p xs = unroll (listed (take b xs)) ++ steps_in bs p (inner (
 
 -- the steps before the place of a path
 abbrev pub steps_before : Path → List OneItem → List Step
-steps_before path xs = steps_in path.blocks path.place xs
+steps_before path xs = steps_in path.blocks path.position xs
 
 -- the first changed step: how many steps are before the place
 abbrev pub first_changed : Edit → List OneItem → ℕ
@@ -113,15 +113,15 @@ first_changed edit xs = length (steps_before (edit_path edit) xs)
 
 -- the place after what an edit takes out of the innermost list: that of an insertion at 5 is 5, and that of a deletion at 5 is 6
 abbrev pub after_taken : Edit → ℕ
-after_taken (Insert place x) = place.place
-after_taken (Replace place x) = place.place + 1
-after_taken (Delete place) = place.place + 1
+after_taken (Insert place x) = place.position
+after_taken (Replace place x) = place.position + 1
+after_taken (Delete place) = place.position + 1
 
 -- the place after what an edit puts into the innermost list: that of an insertion at 5 is 6, and that of a deletion at 5 is 5
 abbrev pub after_put : Edit → ℕ
-after_put (Insert place x) = place.place + 1
-after_put (Replace place x) = place.place + 1
-after_put (Delete place) = place.place
+after_put (Insert place x) = place.position + 1
+after_put (Replace place x) = place.position + 1
+after_put (Delete place) = place.position
 
 -- the same place in the outermost list, from which an edit within a block takes the block, and puts it back: after the item at 5 of
 -- the outermost list it is 6; after the item at 5 of the block at 2 it is 3, after the block

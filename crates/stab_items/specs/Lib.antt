@@ -9,7 +9,7 @@ pub mod inner
 pub mod Views
 pub mod Cursors
 pub mod Paths
-pub mod Places
+pub mod ItemsAt
 pub mod StepPaths
 pub mod Edits
 pub mod Rounds

@@ -7,11 +7,11 @@ use Rattle.std.specs.Fmt.{decimal}
 -- a path: the positions of the blocks around, the outermost first, and a position in the innermost list
 pub record Path : Type 0 where
   pub blocks : List ℕ
-  pub place : ℕ
+  pub position : ℕ
 
 -- the numbers of a path
 abbrev pub numbers : Path → List ℕ
-numbers p = p.blocks ++ p.place ∷ []
+numbers p = p.blocks ++ p.position ∷ []
 
 -- the byte of a slash
 abbrev pub slash : ℕ

@@ -18,7 +18,7 @@ rounds_in None = 0
 rounds_in (Some (operation op)) = 0
 rounds_in (Some (repeat count tag body)) = count
 
--- the pieces of this many rounds, by those of one, which depend on what comes after it: the steps before the place in the next round, and
+-- the pieces of this many rounds, by those of one, which depend on what comes after it: the steps before the position in the next round, and
 -- after the last round these
 abbrev pub round_pieces : ℕ → (List Step → List (List Step)) → (lead : List Step) → (following : List Step) → List (List Step)
 round_pieces zero round lead following = []
@@ -27,16 +27,16 @@ round_pieces (suc (suc n)) round lead following = round lead ++ round_pieces (su
 
 -- the pieces that a list's steps, and these after them, come to after an item in the last of these blocks: where it ends in the
 -- innermost list, and where it begins there
-abbrev pub pieces_in : (end : ℕ) → List ℕ → (place : ℕ) → List OneItem → (following : List Step) → List (List Step)
-pieces_in end [] place xs following = (unroll (listed (drop end xs)) ++ following) ∷ []
-pieces_in end (b ∷ bs) place xs following =
-    round_pieces (rounds_in (slice_get xs b)) (pieces_in end bs place (inner (slice_get xs b))) (steps_in bs place (inner (slice_get xs b)))
+abbrev pub pieces_in : (end : ℕ) → List ℕ → (position : ℕ) → List OneItem → (following : List Step) → List (List Step)
+pieces_in end [] position xs following = (unroll (listed (drop end xs)) ++ following) ∷ []
+pieces_in end (b ∷ bs) position xs following =
+    round_pieces (rounds_in (slice_get xs b)) (pieces_in end bs position (inner (slice_get xs b))) (steps_in bs position (inner (slice_get xs b)))
     (unroll (listed (drop (b + 1) xs)) ++ following)
 
 -- the pieces after each occurrence of an item from a path up to an end in the innermost list, the last up to the end of the outermost
 -- item: after X 0 in H 0, REPEAT 3 { Y 0, X 0, Z 0 } these are Z Y, Z Y and Z
 abbrev pub pieces : Path → (end : ℕ) → List OneItem → List (List Step)
-pieces path end xs = pieces_in end path.blocks path.place (take (outermost end path.blocks) xs) []
+pieces path end xs = pieces_in end path.blocks path.position (take (outermost end path.blocks) xs) []
 
 -- each of these blocks, the outermost first, is one and has a round
 abbrev pub HaveRounds : List ℕ → List OneItem → Type 0
@@ -45,7 +45,7 @@ HaveRounds (b ∷ bs) xs = (0 < rounds_in (slice_get xs b)) × HaveRounds bs (in
 
 -- these are the lengths of the pieces after the item at a path, around which each block has a round
 pub record AreGaps (path : Path) (xs : List OneItem) (gaps : List ℕ) : Type 0 where
-  pub lengths : gaps ≡ map length (pieces path (path.place + 1) xs)
+  pub lengths : gaps ≡ map length (pieces path (path.position + 1) xs)
   pub rounds : HaveRounds path.blocks xs
 
 -- the steps of an item, if there is one

@@ -27,18 +27,18 @@ parts_of_item round (Some (repeat count tag body)) = if nat_lt round count then 
 
 -- a list with an item that became others, unless that was refused
 abbrev pub with_parts : ℕ → List OneItem → Result (List OneItem) Refusal → Result (List OneItem) Refusal
-with_parts place xs (Ok parts) = Ok (take place xs ++ (parts ++ drop (place + 1) xs))
-with_parts place xs (Err r) = Err r
+with_parts position xs (Ok parts) = Ok (take position xs ++ (parts ++ drop (position + 1) xs))
+with_parts position xs (Err r) = Err r
 
--- a list in which a round of the block at a place of the last of these blocks, the outermost first, was split off
+-- a list in which a round of the block at a position of the last of these blocks, the outermost first, was split off
 abbrev pub split_in : (round : ℕ) → List ℕ → ℕ → List OneItem → Result (List OneItem) Refusal
-split_in round [] place xs = with_parts place xs (parts_of_item round (slice_get xs place))
-split_in round (b ∷ bs) place xs = with_item b xs (edited_inside (split_in round bs place) (slice_get xs b))
+split_in round [] position xs = with_parts position xs (parts_of_item round (slice_get xs position))
+split_in round (b ∷ bs) position xs = with_item b xs (edited_inside (split_in round bs position) (slice_get xs b))
 
 -- a list in which round R of the block at a path was split off, counted from 0: 12 if the path goes past a list or the block has no
 -- such round, 17 if it goes into or to an item that is no block
 abbrev pub split : Path → (round : ℕ) → List OneItem → Result (List OneItem) Refusal
-split path round xs = split_in round path.blocks path.place xs
+split path round xs = split_in round path.blocks path.position xs
 
 -- what an outcome is refused by, if it is
 abbrev pub refused_by : Result (List OneItem) Refusal → Option Refusal

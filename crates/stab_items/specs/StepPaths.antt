@@ -7,11 +7,11 @@ use Rattle.stab_items.specs.Paths.{Path}
 
 -- the path of a position in the outermost list
 abbrev pub outside : ℕ → Path
-outside place = record { blocks = []; place = place }
+outside position = record { blocks = []; position = position }
 
 -- a path within the block at a position
 abbrev pub within : ℕ → Path → Path
-within place path = record { blocks = place ∷ path.blocks; place = path.place }
+within position path = record { blocks = position ∷ path.blocks; position = path.position }
 
 -- this many rounds of paths
 abbrev pub path_rounds : ℕ → List Path → List Path
@@ -20,9 +20,9 @@ path_rounds (suc n) paths = paths ++ path_rounds n paths
 
 -- the paths of the items of the steps, if the first item has the given position
 abbrev pub paths_from : ℕ → Items → List Path
-paths_from place done = []
-paths_from place (next op rest) = replicate (length (steps_of op.kind)) (outside place) ++ paths_from (place + 1) rest
-paths_from place (block count tag body rest) = path_rounds count (map (within place) (paths_from 0 body)) ++ paths_from (place + 1) rest
+paths_from position done = []
+paths_from position (next op rest) = replicate (length (steps_of op.kind)) (outside position) ++ paths_from (position + 1) rest
+paths_from position (block count tag body rest) = path_rounds count (map (within position) (paths_from 0 body)) ++ paths_from (position + 1) rest
 
 -- the path of the item of each unrolled step, in order; a block's rounds repeat the same paths
 abbrev pub paths_of : Items → List Path

@@ -6,7 +6,7 @@ pub mod Parts
 pub mod Blocks
 pub mod Margins
 pub mod Walks
-pub mod Places
+pub mod StoredPaths
 pub mod Splices
 pub mod Judgements
 pub mod EditResults

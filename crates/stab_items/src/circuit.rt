@@ -1,6 +1,6 @@
 mod edits;
 mod gaps;
-mod places;
+mod items_at;
 mod repeats;
 mod splits;
 mod step_items;

@@ -17,7 +17,7 @@ fn commit_at(items: &mut Vec<Item>, edit: Edit) -> Result<Option<Item>, Edit>
     ensures unchanged { OnErr result (items.new.items ≡ items.old.items) }
 {
     match edit {
-        Edit::Insert { place, item } => match items.insert(place.place(), item) {
+        Edit::Insert { place, item } => match items.insert(place.position(), item) {
             Ok(()) => Ok(None),
             Err(refused) => Err(Edit::Insert {
                 place,
@@ -25,10 +25,10 @@ fn commit_at(items: &mut Vec<Item>, edit: Edit) -> Result<Option<Item>, Edit>
             }),
         },
         Edit::Replace { place, item } => {
-            let old = mem::replace(&mut items[place.place()], item);
+            let old = mem::replace(&mut items[place.position()], item);
             Ok(Some(old))
         }
-        Edit::Delete { place } => Ok(Some(items.remove(place.place()))),
+        Edit::Delete { place } => Ok(Some(items.remove(place.position()))),
     }
 }
 

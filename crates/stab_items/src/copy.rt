@@ -68,8 +68,8 @@ pub fn push_copies(
     requires order { first ≤ following }
     ensures ok { OnOk result (items.new.items ≡ items.old.items ++ drop first (take following items.old.items)) }
 {
-    for place in first..following {
-        let copy = listed_copy(alloc, &items[place])?;
+    for position in first..following {
+        let copy = listed_copy(alloc, &items[position])?;
         items.push(copy)?;
     }
     Ok(())

@@ -49,7 +49,7 @@ impl<'a> Cursor<'a> {
     ///
     /// Asks that no lookback of the circuit goes too far and that it has no more steps than a
     /// circuit may have. Refusal `OutOfMemory` alone.
-    #[tactic(auto, using(crate::proofs::SummaryLemmas::few_steps, crate::proofs::StretchLemmas::steps_from_place))]
+    #[tactic(auto, using(crate::proofs::SummaryLemmas::few_steps, crate::proofs::StretchLemmas::steps_from_position))]
     pub fn at(alloc: Global, circuit: &'a Circuit, step: usize) -> Result<Cursor<'a>, Refusal>
         requires checked { check_of (circuit_items circuit.now) ≡ None }
         requires in_range { step ≤ length (unroll (circuit_items circuit.now)) }
@@ -59,8 +59,8 @@ impl<'a> Cursor<'a> {
         ensures err { IfErr result (λ r. r ≡ OutOfMemory) }
     {
         let items = circuit.items();
-        let found = circuit.place_before(step as u32);
-        let mut walk = Walk::new(alloc, items, found.place)?;
+        let found = circuit.position_before(step as u32);
+        let mut walk = Walk::new(alloc, items, found.position)?;
         walk.skip(found.steps);
         Ok(Cursor { items, walk })
     }

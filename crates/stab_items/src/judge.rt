@@ -1,7 +1,7 @@
 ghost use Rattle.std.specs.Prelude.{◌≡◌, ◌≤◌, length, min, take, drop, slice_get, Err, OnOk, IfOk, IfErr};
 ghost use Rattle.stab_items.specs.Items.{listed};
 ghost use Rattle.stab_items.specs.Steps.{unroll, steps_cap};
-ghost use Rattle.stab_items.specs.Edits.{edited_in, edited, edit_path, inner, steps_in as steps_of_place};
+ghost use Rattle.stab_items.specs.Edits.{edited_in, edited, edit_path, inner, steps_in as steps_of_position};
 ghost use Rattle.stab_items.specs.inner.Summaries.{IsSummary};
 ghost use Rattle.stab_items.specs.inner.Splices.{splice_of, splice_at};
 ghost use Rattle.stab_items.specs.inner.Judgements.{judgement_of, shown_item, IsBlockAt, BeginsWith};
@@ -17,7 +17,7 @@ use stab_io::Refusal;
 
 /// What an edit comes to in a list of items: which items leave it, from the first up to the one
 /// before `following`, the summary of what replaces them, and how many steps are before the
-/// place within the first, counted up to 1,048,577.
+/// position within the first, counted up to 1,048,577.
 #[derive(Clone, Copy)]
 pub(crate) struct Judgement {
     pub(crate) first: usize,
@@ -29,7 +29,7 @@ pub(crate) struct Judgement {
 /// What a list comes to by an edit: the summary of the items that the edit leaves, and which steps it
 /// changes.
 ///
-/// Steps are counted up to 1,048,577: how many are before the place, before the end of what
+/// Steps are counted up to 1,048,577: how many are before the position, before the end of what
 /// leaves the list, and before the end of what replaces it.
 #[derive(Clone, Copy)]
 pub(crate) struct EditResult {
@@ -47,10 +47,10 @@ pub(crate) struct Block<'a> {
 }
 
 /// The block at a position of a list.
-pub(crate) fn block_at(items: &[Item], place: usize) -> Result<Block<'_>, Refusal>
-    ensures value { IsBlockAt (slice_get items.now place) result }
+pub(crate) fn block_at(items: &[Item], position: usize) -> Result<Block<'_>, Refusal>
+    ensures value { IsBlockAt (slice_get items.now position) result }
 {
-    block_of(items.get(place))
+    block_of(items.get(position))
 }
 
 /// The block that a found item is, if there is one.
@@ -73,23 +73,23 @@ fn judge_at(len: usize, edit: &Edit) -> Result<Judgement, Refusal>
     ensures good { OnOk result (IfOk (splice_at edit.now len) PutsGood) }
     ensures nothing_within { IfOk result (λ j. j.within ≡ 0) }
 {
-    let place = edit.path().place();
+    let position = edit.path().position();
     match edit {
-        Edit::Insert { item, .. } if place <= len => Ok(Judgement {
-            first: place,
-            following: place,
+        Edit::Insert { item, .. } if position <= len => Ok(Judgement {
+            first: position,
+            following: position,
             put: item.summary(),
             within: 0,
         }),
-        Edit::Replace { item, .. } if place < len => Ok(Judgement {
-            first: place,
-            following: place + 1,
+        Edit::Replace { item, .. } if position < len => Ok(Judgement {
+            first: position,
+            following: position + 1,
             put: item.summary(),
             within: 0,
         }),
-        Edit::Delete { .. } if place < len => Ok(Judgement {
-            first: place,
-            following: place + 1,
+        Edit::Delete { .. } if position < len => Ok(Judgement {
+            first: position,
+            following: position + 1,
             put: Summary::NONE,
             within: 0,
         }),
@@ -103,10 +103,10 @@ fn judge_at(len: usize, edit: &Edit) -> Result<Judgement, Refusal>
 /// along the way.
 #[cycle(judging)]
 fn judge(items: &[Item], blocks: &[usize], edit: &Edit) -> Result<Judgement, Refusal>
-    ensures value { result ≡ judgement_of (min (length (steps_within blocks.now (edit_path edit.now).place items.now)) steps_cap) (splice_of edit.now blocks.now items.now) }
+    ensures value { result ≡ judgement_of (min (length (steps_within blocks.now (edit_path edit.now).position items.now)) steps_cap) (splice_of edit.now blocks.now items.now) }
     ensures small { IfOk result (λ j. IsSummary j.put) }
     ensures within { IfOk result (λ j. (j.first ≤ j.following) × (j.following ≤ length items.now) × (j.within ≤ steps_cap)) }
-    ensures front { OnOk result (BeginsWith (steps_of_place blocks.now (edit_path edit.now).place items.now) (unroll (listed items.now))) }
+    ensures front { OnOk result (BeginsWith (steps_of_position blocks.now (edit_path edit.now).position items.now) (unroll (listed items.now))) }
     ensures good { OnOk result (IfOk (splice_of edit.now blocks.now items.now) PutsGood) }
     ensures within_put { IfOk result (λ j. j.within ≤ j.put.steps) }
     ensures within_gone { IfOk result (λ j. j.within ≤ length (unroll (listed (drop j.first (take j.following items.now))))) }
@@ -195,15 +195,20 @@ pub(crate) fn judged_edit(
 /// How many steps are before a position in nested blocks of a list with these stretches, or 1,048,577
 /// if there are more.
 #[cycle(counting)]
-pub(crate) fn steps_in(items: &[Item], stretches: &[Stretch], blocks: &[usize], place: usize) -> u32
+pub(crate) fn steps_in(
+    items: &[Item],
+    stretches: &[Stretch],
+    blocks: &[usize],
+    position: usize,
+) -> u32
     requires stretches { AreStretches stretches.now items.now }
-    ensures value { result ≡ min (length (steps_of_place blocks.now place items.now)) steps_cap }
+    ensures value { result ≡ min (length (steps_of_position blocks.now position items.now)) steps_cap }
 {
     match blocks.split_first() {
-        None => summary_between(stretches, items, 0, place).steps,
+        None => summary_between(stretches, items, 0, position).steps,
         Some((block, others)) => {
             let front = summary_between(stretches, items, 0, *block).steps;
-            (front + steps_inside(items, *block, others, place)).min(STEPS_CAP)
+            (front + steps_inside(items, *block, others, position)).min(STEPS_CAP)
         }
     }
 }
@@ -211,11 +216,11 @@ pub(crate) fn steps_in(items: &[Item], stretches: &[Stretch], blocks: &[usize], 
 /// How many steps are before a position in a block of a list and the blocks in it, or 1,048,577
 /// if there are more; none if the list has no block there.
 #[cycle(counting)]
-fn steps_inside(items: &[Item], block: usize, others: &[usize], place: usize) -> u32
-    ensures value { result ≡ min (length (steps_of_place others.now place (inner (slice_get items.now block)))) steps_cap }
+fn steps_inside(items: &[Item], block: usize, others: &[usize], position: usize) -> u32
+    ensures value { result ≡ min (length (steps_of_position others.now position (inner (slice_get items.now block)))) steps_cap }
 {
     match block_at(items, block) {
         Err(_) => 0,
-        Ok(found) => steps_in(found.body, &[], others, place),
+        Ok(found) => steps_in(found.body, &[], others, position),
     }
 }

@@ -12,7 +12,7 @@
 //! - `step`, `instruction_steps`, `steps`: the steps of an instruction, one at a time and together.
 //! - `detectors`: detectors one after the other.
 //! - `window`: how far back steps look.
-//! - `path`: the places of items.
+//! - `path`: the positions of items.
 //! - `edit`: how a circuit is edited at a path, and which steps that changes.
 //! - `judge`, `commit`: judging an edit by what items keep, and making it.
 //! - `circuit`: circuits, editing one, splitting a round off a block, the item at a path, the item that a step belongs to,

@@ -14,7 +14,7 @@ pub struct Path {
     /// The blocks' positions, and then zeros.
     blocks: [usize; 16],
     depth: usize,
-    place: usize,
+    position: usize,
 }
 
 impl Model for Path {
@@ -22,7 +22,7 @@ impl Model for Path {
 
     ghost Value = { PathValue };
 
-    ghost use Rattle.stab_items.specs.inner.Places.{path_of, stored_path, stored_path_of, IsPaddedPath};
+    ghost use Rattle.stab_items.specs.inner.StoredPaths.{path_of, stored_path, stored_path_of, IsPaddedPath};
 
     ghost view = { path_of };
 
@@ -38,18 +38,18 @@ impl Path {
     ghost use Rattle.stab_items.specs.Paths.{numbers};
 
     /// The path of these numbers, of which there are 1 to 17.
-    pub fn new(places: &[usize]) -> Path
-        requires some { 0 < length places.now }
-        requires few { length places.now ≤ 17 }
-        ensures value { numbers result ≡ places.now }
+    pub fn new(positions: &[usize]) -> Path
+        requires some { 0 < length positions.now }
+        requires few { length positions.now ≤ 17 }
+        ensures value { numbers result ≡ positions.now }
     {
-        let depth = places.len() - 1;
+        let depth = positions.len() - 1;
         let mut blocks = [0; 16];
-        blocks[..depth].copy_from_slice(&places[..depth]);
+        blocks[..depth].copy_from_slice(&positions[..depth]);
         Path {
             blocks,
             depth,
-            place: places[depth],
+            position: positions[depth],
         }
     }
 
@@ -58,7 +58,7 @@ impl Path {
         ensures value { slice_get (numbers self.now) 0 ≡ Some result }
     {
         if self.depth == 0 {
-            self.place
+            self.position
         } else {
             self.blocks[0]
         }
@@ -72,10 +72,10 @@ impl Path {
     }
 
     /// The position in the innermost list.
-    pub fn place(&self) -> usize
-        ensures value { result ≡ self.now.place }
+    pub fn position(&self) -> usize
+        ensures value { result ≡ self.now.position }
     {
-        self.place
+        self.position
     }
 }
 
@@ -88,10 +88,10 @@ fn write_number<O: Output>(out: &mut O, number: usize) -> Result<(), Refusal>
 }
 
 /// Writes the position of a block, with a slash after it.
-fn write_block<O: Output>(out: &mut O, place: usize) -> Result<(), Refusal>
-    ensures writes { WritesAll (O.seen out.old) (O.seen out.new) (decimal place ++ codes "/") result }
+fn write_block<O: Output>(out: &mut O, position: usize) -> Result<(), Refusal>
+    ensures writes { WritesAll (O.seen out.old) (O.seen out.new) (decimal position ++ codes "/") result }
 {
-    write_number(out, place)?;
+    write_number(out, position)?;
     write_all(out, b"/")
 }
 
@@ -106,5 +106,5 @@ pub fn write_path<O: Output>(out: &mut O, path: &Path) -> Result<(), Refusal>
     for block in blocks {
         write_block(out, *block)?;
     }
-    write_number(out, path.place())
+    write_number(out, path.position())
 }

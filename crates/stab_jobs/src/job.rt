@@ -144,7 +144,7 @@ pub struct Job {
     pub in_path: Option<String>,
     /// The file that is written instead of standard output.
     pub out_path: Option<String>,
-    /// The place at which `Propagate` puts a string in, or no text.
+    /// Where `Propagate` puts a string in, or no text.
     pub at: String,
     /// That string, or no text.
     pub string: String,

@@ -22,8 +22,8 @@ pub use Rattle.stab_error_model.specs.Errors.{Error, first_single_error}
 pub use Rattle.stab_error_model.specs.Placed.{error_shown, single_error_shown}
 pub use Rattle.stab_error_model.specs.Unseen.{error_at}
 pub use Rattle.stab_gates.specs.LetterTexts.{letter_text}
-pub use Rattle.stab_io.proofs.DeviceLemmas.{failed_within, took_more, took_and_failed, WroteUpTo, took_none, wrote_part, wrote_and_failed, failed_on, wrote_none}
-pub use Rattle.stab_io.specs.Devices.{OutputView, TookSome, TookAndFailed, Took, WritesAllOrFault, WritesAll, CutOff}
+pub use Rattle.stab_io.proofs.DeviceLemmas.{failed_within, left_more, took_more, took_and_failed, WroteUpTo, took_none, wrote_part, wrote_and_failed, failed_on, wrote_none}
+pub use Rattle.stab_io.specs.Devices.{OutputView, Leaves, TookSome, TookAndFailed, Took, WritesAllOrFault, WritesAll, CutOff}
 pub use Rattle.stab_io.specs.Refusals.{whole, refusal_number, refusal_name, Refuses}
 pub use Rattle.stab_io.specs.declared.refusal.Fault.{Fault}
 pub use Rattle.stab_io.specs.declared.refusal.Refusal.{Refusal}
@@ -38,7 +38,7 @@ pub use Rattle.stab_run.specs.Records.{parity}
 pub use Rattle.stab_run.specs.Runs.{State, start, effect, run}
 pub use Rattle.stab_report.specs.FaultLines.{fault_line, refused_text, bit_text, reported_text, random_bit, random_line}
 pub use Rattle.stab_report.specs.SingleErrorTables.{single_error_text, table_line, table_lines, set_all}
-pub use Rattle.stab_report.specs.Places.{path_at, bit_of, adds_to, steps_before_adding, steps_before_bit}
+pub use Rattle.stab_report.specs.ItemPaths.{path_at, bit_of, adds_to, steps_before_adding, steps_before_bit}
 pub use Rattle.stab_report.specs.Texts.{row_head, texts_joined, placed_coin, texts_from}
 pub use Rattle.stab_report.specs.declared.random.Random.{Random}
 pub use Rattle.stab_report.specs.Deterministic.{kinds_of}

@@ -1,7 +1,7 @@
 -- Laws of sending: bytes that calls write one after another, and that are flushed after them.
 use Rattle.stab_report.proofs.Names.{◌≡◌, refl, sym, ap, ap₂, subst, ◌∙◌, ℕ, ◌+◌, ◌-◌, ◌<◌, ◌≤◌, zero, suc, List, [], ◌++◌, append_assoc, Result, Ok, Err, ◌⊎◌, inl, inr, arith, add-one, IsErrAnd, OutputView, Took, CutOff, WritesAllOrFault, took_more, took_and_failed, failed_within, OutOfMemory, Fault, whole, FlushesOrFault, Sends, SendsUnflushed, texts_from}
 use Rattle.std.proofs.lemmas.List.{append-nil}
-use Rattle.stab_report.proofs.WritingLaws.{took_some_none}
+use Rattle.stab_report.proofs.WritingLaws.{took_some_none, left_after}
 
 -- sums in another order
 add-zero : (n : ℕ) → n + 0 ≡ n
@@ -55,16 +55,14 @@ pub sent_shot : {old mid new : OutputView} (bytes_of : ℕ → List ℕ) (first 
     → Took old new (texts_from bytes_of first (shot + 1))
 sent_shot bytes_of first shot before call = rw add-one (took_more (texts_from bytes_of first shot) (bytes_of (first + shot)) before call)
 
--- the place where the back of a text is cut off, within the whole
+-- the position where the back of a text is cut off, within the whole
 cut_position : (xs ys rest front back : List ℕ) → ys ≡ front ++ back → (xs ++ ys) ++ rest ≡ (xs ++ front) ++ (back ++ rest)
 cut_position xs ys rest front back e = ap (λ l. (xs ++ l) ++ rest) e ∙ ap (λ l. l ++ rest) (sym (append_assoc xs front back)) ∙ append_assoc (xs ++ front) back rest
 
 -- what is cut off after some text, and before the rest, is cut off
 pub cut_off_after : {old mid new : OutputView} (xs ys rest : List ℕ) (f : Fault) → Took old mid xs → CutOff mid new ys f → CutOff old new ((xs ++ ys) ++ rest) f
 cut_off_after xs ys rest f before (inl failed) = inl (failed.0, failed_within (xs ++ ys) rest (took_and_failed xs ys before failed.1))
-cut_off_after xs ys rest f before (inr some) =
-    let part = some.1 in
-    inr (some.0, record { front = xs ++ part.front; rest = part.rest ++ rest; split = cut_position xs ys rest part.front part.rest part.split; took = took_more xs part.front before part.took })
+cut_off_after xs ys rest f before (inr (memory, some)) = inr (memory, (xs ++ some.0, some.1 ++ rest, cut_position xs ys rest some.0 some.1 some.2, took_more xs some.0 before some.3))
 
 -- a shot that is cut off cuts off the shots
 pub shots_cut_off : {old mid new : OutputView} (bytes_of : ℕ → List ℕ) (first shot shots : ℕ) (f : Fault) → shot < shots
@@ -122,8 +120,8 @@ sends_cut_off bytes old new f (Err y) cut is = cut_off_sends bytes old new y (su
 
 -- what was written and then flushed is sent
 pub sends_finished : {T : Type 0} (bytes : List ℕ) (old mid new : OutputView) (r : Result T Fault) → Took old mid bytes → FlushesOrFault mid new r → Sends bytes old new r
-sends_finished bytes old mid new (Ok x) took flushed = record { between = mid; took = took; flushed = flushed }
-sends_finished bytes old mid new (Err f) took failed = inl (failed.0, inr (record { between = mid; took = took; failed = failed.1 }))
+sends_finished bytes old mid new (Ok x) took flushed = left_after bytes took flushed
+sends_finished bytes old mid new (Err f) took failed = inl (failed.0, inr (left_after bytes took failed.1))
 
 -- what was written, or cut off by the output, is sent without a flush
 pub sends_written : (bytes : List ℕ) (old new : OutputView) (r : Result (Unit {0}) Fault) → WritesAllOrFault old new bytes r → SendsUnflushed bytes old new r

@@ -21,7 +21,7 @@ joined-random u name number n is_bit is_number =
     ∙ ap (λ l. l ++ (codes ", item " ++ rest)) (sym is_bit)
     )
 
--- the two lines at a place, by how many steps are in front of it
+-- the two lines at a site, by how many steps are in front of it
 pub joined-site : (kinds : Kinds) (path : Path) (step before : ℕ) (s : Site) (by_x by_z : List ℕ) → before ≡ (single_error_on step s letter.X).before
     → (single_error_text before path letter.X s.qubit ++ (flat_map (entry kinds) by_x ++ codes "\n")) ++ (single_error_text before path letter.Z s.qubit ++ (flat_map (entry kinds) by_z ++ codes "\n"))
     ≡ table_line kinds path (single_error_on step s letter.X) by_x ++ table_line kinds path (single_error_on step s letter.Z) by_z
@@ -39,11 +39,11 @@ failed_reported f (Some u) failed = failed_within (fault_line f) (random_line u)
 
 -- lists
 
--- the element at a place, and those after it
+-- the element at a position, and those after it
 pub drop-found : {A : Type 0} (xs : List A) (k : ℕ) (x : A) → slice_get xs k ≡ Some x → drop k xs ≡ x ∷ drop (k + 1) xs
 drop-found xs k x e = rw add-one (drop-cons xs k x (slice_get_within xs k x e) ∙ ap (λ y. y ∷ drop (suc k) xs) (get_or_from_slice_get xs k x x e))
 
--- nothing is after the last place
+-- nothing is after the last site
 pub drop-missed : {A : Type 0} (xs : List A) (k : ℕ) → slice_get xs k ≡ None → drop k xs ≡ []
 drop-missed [] zero e = refl
 drop-missed [] (suc k) e = refl
@@ -100,7 +100,7 @@ path_here items t n p h e = get_or_from_slice_get (paths_of items) t p (outside 
 
 -- lines
 
--- how many single errors are at places
+-- how many single errors are at sites
 pub length-single_errors : (t : ℕ) (ss : List Site) → length (flat_map (single_errors_on t) ss) ≡ 2 * length ss
 length-single_errors t [] = refl
 length-single_errors t (s ∷ ss) = let more = length-single_errors t ss in omega (arith, more)
@@ -118,7 +118,7 @@ lines-append kinds path_of (f ∷ fs) gs (row ∷ rows) =
     ap (λ l. table_line kinds (path_of f.step) f row ++ l) (lines-append kinds path_of fs gs rows)
     ∙ sym (append_assoc (table_line kinds (path_of f.step) f row) (table_lines kinds path_of fs rows) (table_lines kinds path_of gs (drop (length fs) rows)))
 
--- the two lines at a place, and those after them
+-- the two lines at a site, and those after them
 pub lines_at_position : (kinds : Kinds) (path_of : ℕ → Path) (t : ℕ) (s : Site) (ss : List Site) (rows : List (List ℕ)) (k : ℕ) → k + 1 < length rows
     → table_lines kinds path_of (flat_map (single_errors_on t) (s ∷ ss)) (drop k rows)
     ≡ (table_line kinds (path_of t) (single_error_on t s letter.X) (get_or rows k []) ++ table_line kinds (path_of t) (single_error_on t s letter.Z) (get_or rows (k + 1) []))
@@ -161,7 +161,7 @@ length-from everywhere t x xs =
     length-append (flat_map (single_errors_on t) (sites_at everywhere x)) (single_errors_from everywhere (t + 1) xs)
     ∙ ap (λ m. m + length (single_errors_from everywhere (t + 1) xs)) (length-single_errors t (sites_at everywhere x))
 
--- the two lines at the place of a number, and those after them
+-- the two lines at the site of a number, and those after them
 pub lines_here : (kinds : Kinds) (p : Path) (t : ℕ) (sites : List Site) (rows : List (List ℕ)) (position next : ℕ) (s : Site) → slice_get sites position ≡ Some s → next + 1 < length rows
     → table_lines kinds (λ _. p) (flat_map (single_errors_on t) (drop position sites)) (drop next rows)
     ≡ (table_line kinds p (single_error_on t s letter.X) (get_or rows next []) ++ table_line kinds p (single_error_on t s letter.Z) (get_or rows (next + 1) []))
@@ -169,7 +169,7 @@ pub lines_here : (kinds : Kinds) (p : Path) (t : ℕ) (sites : List Site) (rows 
 lines_here kinds p t sites rows position next s e h =
     ap (λ ss. table_lines kinds (λ _. p) (flat_map (single_errors_on t) ss) (drop next rows)) (drop-found sites position s e) ∙ lines_at_position kinds (λ _. p) t s (drop (position + 1) sites) rows next h
 
--- no lines are after the last place
+-- no lines are after the last site
 pub lines_past : (kinds : Kinds) (p : Path) (t : ℕ) (sites : List Site) (rows : List (List ℕ)) (position next : ℕ) → slice_get sites position ≡ None
     → table_lines kinds (λ _. p) (flat_map (single_errors_on t) (drop position sites)) (drop next rows) ≡ []
 lines_past kinds p t sites rows position next e = ap (λ ss. table_lines kinds (λ _. p) (flat_map (single_errors_on t) ss) (drop next rows)) (drop-missed sites position e)

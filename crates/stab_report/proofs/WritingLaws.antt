@@ -1,9 +1,13 @@
 -- Laws of writing: calls that write one after another.
-use Rattle.stab_report.proofs.Names.{◌≡◌, refl, sym, ap, ◌∙◌, subst, ℕ, List, [], ◌++◌, append-nil, length, take, Result, Ok, Err, take-append_seam, IsErrAnd, OutputView, Took, TookAndFailed, TookSome, WritesAll, WritesAllOrFault, Refusal, WriteFault, Fault, whole, WroteUpTo, took_none, took_more, took_and_failed, failed_within}
+use Rattle.stab_report.proofs.Names.{◌≡◌, refl, sym, ap, ◌∙◌, subst, ℕ, List, [], ◌++◌, append-nil, length, take, Result, Ok, Err, take-append_seam, IsErrAnd, Bool, OutputView, Leaves, Took, TookAndFailed, TookSome, WritesAll, WritesAllOrFault, Refusal, WriteFault, Fault, whole, WroteUpTo, took_none, left_more, took_more, took_and_failed, failed_within}
 
 -- nothing was written yet
 pub took_some_none : (old : OutputView) (bytes : List ℕ) → TookSome old old bytes
-took_some_none old bytes = record { front = []; rest = bytes; split = refl; took = took_none old }
+took_some_none old bytes = ([], bytes, refl, took_none old)
+
+-- these bytes were taken, and then the output was flushed, or a flush failed
+pub left_after : {flushed failed : Bool} {a b c : OutputView} (xs : List ℕ) → Took a b xs → Leaves flushed failed b c [] → Leaves flushed failed a c xs
+left_after {flushed} {failed} {a} {b} {c} xs took left = subst (λ l. Leaves flushed failed a c l) (append-nil xs) (left_more xs [] took left)
 
 -- a call that writes after what was written
 pub writes_after : {T : Type 0} {o p : OutputView} (q : OutputView) (xs ys : List ℕ) (r : Result T Refusal) → Took o p xs → WritesAll p q ys r → WritesAll o q (xs ++ ys) r

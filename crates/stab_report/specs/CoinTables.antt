@@ -10,7 +10,7 @@ use Rattle.stab_results.specs.declared.format.Kinds.{Kinds}
 use Rattle.stab_results.specs.declared.format.Kinds.TheVariants.{Whole}
 use Rattle.stab_results.specs.Formats.{entry, one_positions, shot_bytes}
 use Rattle.stab_report.specs.Coins.{ShotBits, CoinRow, IsCoinTable, table_of}
-use Rattle.stab_report.specs.Places.{step_of_coin, path_of_coin}
+use Rattle.stab_report.specs.ItemPaths.{step_of_coin, path_of_coin}
 use Rattle.stab_jobs.specs.declared.job.FaultLayout.{FaultLayout}
 use Rattle.stab_jobs.specs.declared.job.FaultLayout.TheVariants.{Lines, Shots}
 use Rattle.stab_report.specs.Endings.{Ends, Sends}

@@ -31,7 +31,7 @@ use Rattle.stab_report.specs.declared.random.Random.{Random}
 use Rattle.stab_report.specs.Deterministic.{kinds_of}
 use Rattle.stab_report.specs.Endings.{Ends}
 use Rattle.stab_report.specs.SingleErrorTables.{IsFirstRandom, EndsOrNames}
-use Rattle.stab_report.specs.Places.{path_at}
+use Rattle.stab_report.specs.ItemPaths.{path_at}
 
 -- a letter on a qubit, as X3
 abbrev pub letter_name : SingleError → List ℕ

@@ -12,7 +12,7 @@ use Rattle.stab_error_model.specs.declared.doubts.Doubt.TheVariants.{Tag, LastTa
 use Rattle.stab_error_model.specs.declared.doubts.DoubtfulMark.{DoubtfulMark}
 use Rattle.stab_report.specs.Endings.{GaveCircuit}
 use Rattle.stab_report.specs.FaultLines.{TookOrFailed}
-use Rattle.stab_report.specs.Places.{path_at}
+use Rattle.stab_report.specs.ItemPaths.{path_at}
 
 -- why a mark is doubtful
 abbrev pub doubt_text : Doubt → List ℕ

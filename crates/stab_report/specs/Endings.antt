@@ -1,7 +1,7 @@
 -- Endings: how a call ends that reads a circuit and goes on with it, and how it ends when it sends bytes.
 -- Source: this project's own.
-use Rattle.std.specs.Prelude.{◌≡◌, List, ℕ, ◌⊎◌, Result, Ok, Err}
-use Rattle.stab_io.specs.Devices.{InputView, OutputView, Took, TookAndFailed, TookSome, CutOff, Flushed, FlushFailed}
+use Rattle.std.specs.Prelude.{◌≡◌, List, [], ℕ, ◌⊎◌, Result, Ok, Err}
+use Rattle.stab_io.specs.Devices.{InputView, OutputView, Took, TookAndFailed, TookSome, TookAndFlushed, TookAndFlushFailed, CutOff}
 use Rattle.stab_io.specs.declared.refusal.Refusal.TheVariants.{WriteFault, OutOfMemory}
 use Rattle.stab_io.specs.declared.refusal.Fault.{Fault}
 use Rattle.stab_io.specs.Refusals.{whole}
@@ -9,22 +9,10 @@ use Rattle.stab_circuit.specs.Inputs.{GaveText, RefusesText}
 use Rattle.stab_items.specs.Items.{Items}
 use Rattle.stab_circuit.specs.Readings.{IsCircuit, IsFaultOf}
 
--- the output took these bytes and was flushed once, and did not fail
-pub record TookAndFlushed (old new : OutputView) (bytes : List ℕ) : Type 0 where
-  pub between : OutputView
-  pub took : Took old between bytes
-  pub flushed : Flushed between new
-
--- the output took these bytes, and the one flush after them failed
-pub record TookAndFlushFailed (old new : OutputView) (bytes : List ℕ) : Type 0 where
-  pub between : OutputView
-  pub took : Took old between bytes
-  pub failed : FlushFailed between new
-
 -- the output was flushed; or the flush failed, which is a fault without a line
 abbrev pub FlushesOrFault : {T : Type 0} → OutputView → OutputView → Result T Fault → Type 0
-FlushesOrFault old new (Ok x) = Flushed old new
-FlushesOrFault old new (Err f) = (f ≡ whole WriteFault) × FlushFailed old new
+FlushesOrFault old new (Ok x) = TookAndFlushed old new []
+FlushesOrFault old new (Err f) = (f ≡ whole WriteFault) × TookAndFlushFailed old new []
 
 -- the output failed once: in a write, after some first bytes of these, or in the one flush after them all
 abbrev pub FailsToSend : OutputView → OutputView → List ℕ → Type 0

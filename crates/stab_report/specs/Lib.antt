@@ -6,7 +6,7 @@ pub mod FaultLines
 pub mod Rows
 pub mod Deterministic
 pub mod Deciders
-pub mod Places
+pub mod ItemPaths
 pub mod PlacedSingleErrors
 pub mod SingleErrorTables
 pub mod Distances

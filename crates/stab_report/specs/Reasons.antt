@@ -9,13 +9,13 @@ use Rattle.stab_items.specs.Prints.{item_coordinates}
 use Rattle.stab_items.specs.Items.{Items, OneItem, entries}
 use Rattle.stab_items.specs.Steps.{unroll, qubits_of, detectors_of, observables_of}
 use Rattle.stab_items.specs.Paths.{Path, path_text}
-use Rattle.stab_items.specs.Places.{item_at}
+use Rattle.stab_items.specs.ItemsAt.{item_at}
 use Rattle.stab_regions.specs.SingleErrors.{bits_in, IsDeterministic}
 use Rattle.stab_report.specs.Coins.{CoinRow, IsCoinTable}
 use Rattle.stab_report.specs.declared.random.Bit.{Bit}
 use Rattle.stab_report.specs.declared.random.Bit.TheVariants.{Detector, Observable}
 use Rattle.stab_report.specs.Endings.{Ends}
-use Rattle.stab_report.specs.Places.{bit_of, path_of_bit, path_of_coin}
+use Rattle.stab_report.specs.ItemPaths.{bit_of, path_of_bit, path_of_coin}
 use Rattle.stab_report.specs.CoinTables.{SendsTable}
 use Rattle.stab_report.specs.Deciders.{deciders}
 use Rattle.stab_report.specs.Texts.{placed_coin, texts_from}

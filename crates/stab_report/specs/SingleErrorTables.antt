@@ -22,7 +22,7 @@ use Rattle.stab_jobs.specs.declared.job.FaultLayout.{FaultLayout}
 use Rattle.stab_jobs.specs.declared.job.FaultLayout.TheVariants.{Lines, Shots}
 use Rattle.stab_report.specs.Endings.{Ends, SendsFound}
 use Rattle.stab_report.specs.Deciders.{deciders}
-use Rattle.stab_report.specs.Places.{path_at, path_of_coin, bit_of, path_of_bit}
+use Rattle.stab_report.specs.ItemPaths.{path_at, path_of_coin, bit_of, path_of_bit}
 use Rattle.stab_report.specs.Texts.{row_head}
 use Rattle.stab_report.specs.Deterministic.{kinds_of}
 
@@ -40,7 +40,7 @@ table_lines kinds path_of (f ∷ fs) (row ∷ rows) = table_line kinds (path_of 
 table_lines kinds path_of [] rows = []
 table_lines kinds path_of (f ∷ fs) [] = []
 
--- bits with those at these places set
+-- bits with those at these positions set
 abbrev pub set_all : (positions : List ℕ) → Bool → List Bool → List Bool
 set_all [] value bits = bits
 set_all (k ∷ ks) value bits = set_all ks value (slice_set bits k value)

@@ -5,7 +5,7 @@
 //! - `random`: why nothing was written of errors, with the bit that is not the same for all coins and a coin that decides it.
 //! - `writing`: texts one after another, the front of a row's line, and the flush that ends a run.
 //! - `fault_line`: the lines that say a fault.
-//! - `single_error_sites`: the sites for single errors at a step. `single_error_places`: the single errors of a circuit.
+//! - `single_error_sites`: the sites for single errors at a step. `single_error_list`: the single errors of a circuit.
 //! - `single_error_lines`, `single_error_bits`: a table of single errors as lines, and as shots.
 //! - `error_lines`: errors as lines.
 //! - `doubt_lines`: marks that may be meant in another way, as lines.
@@ -28,7 +28,7 @@ mod missing_observable;
 mod random;
 mod single_error_bits;
 mod single_error_lines;
-mod single_error_places;
+mod single_error_list;
 mod single_error_sites;
 mod writing;
 
@@ -38,6 +38,6 @@ pub use fault_line::{write_decider, write_fault, write_refused};
 pub use missing_observable::report_missing;
 pub use random::{Bit, Decider, FaultsRefused, Random};
 pub use single_error_bits::{write_row, write_shots};
-pub use single_error_lines::{write_lines, write_place};
-pub use single_error_places::{PlacedSingleError, placed_single_errors};
+pub use single_error_lines::{write_lines, write_single_error};
+pub use single_error_list::{PlacedSingleError, placed_single_errors};
 pub use writing::{finish, write_head, write_texts};

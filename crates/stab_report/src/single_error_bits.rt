@@ -9,7 +9,7 @@ use stab_io::{Fault, Output};
 use stab_regions::SingleErrorTable;
 use stab_results::{Format, Kinds, write_shot};
 
-/// Sets the bits at these places.
+/// Sets the bits at these positions.
 fn set_all(bits: &mut [bool], positions: &[u32], value: bool)
     requires in_range { All (λ k. k < length bits.old) positions.now }
     ensures value { bits.new ≡ set_all positions.now value bits.old }

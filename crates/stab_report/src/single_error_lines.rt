@@ -9,7 +9,7 @@ ghost use Rattle.stab_items.specs.Views.{circuit_items};
 ghost use Rattle.stab_results.specs.Formats.{entry};
 ghost use Rattle.stab_regions.specs.SingleErrors.{single_error_on, single_errors_of, single_errors_on, sites_at};
 ghost use Rattle.stab_report.specs.SingleErrorTables.{single_error_text, table_line, table_lines};
-ghost use Rattle.stab_report.specs.Places.{path_at};
+ghost use Rattle.stab_report.specs.ItemPaths.{path_at};
 ghost use Rattle.stab_report.specs.inner.SingleErrorSites.{IsItemStretch, site_shown};
 
 use crate::single_error_sites::{Site, site_at};
@@ -22,7 +22,7 @@ use stab_regions::SingleErrorTable;
 use stab_results::{Kinds, write_entries};
 
 /// Writes where a single error is: how many steps are in front of it, the path of its item, its letter and qubit.
-pub fn write_place<O: Output>(
+pub fn write_single_error<O: Output>(
     out: &mut O,
     before: usize,
     path: &Path,
@@ -46,12 +46,12 @@ fn write_line<O: Output>(
 ) -> Result<(), Refusal>
     ensures writes { WritesAll (O.seen out.old) (O.seen out.new) (single_error_text before path.now letter qubit ++ (flat_map (entry kinds) row.now ++ codes "\n")) result }
 {
-    write_place(out, before, path, letter, qubit)?;
+    write_single_error(out, before, path, letter, qubit)?;
     write_entries(out, kinds, row)?;
     write_all(out, b"\n")
 }
 
-/// How many steps are in front of a single error at a place of step number `step`.
+/// How many steps are in front of a single error at a site of step number `step`.
 fn steps_before(step: usize, site: Site) -> usize
     requires few { step ≤ most_steps }
     ensures value { result ≡ (single_error_on step (site_shown site) letter.X).before }
@@ -59,7 +59,7 @@ fn steps_before(step: usize, site: Site) -> usize
     if site.following { step + 1 } else { step }
 }
 
-/// Writes the lines of X and of Z at a place of step number `step`, by what each flips.
+/// Writes the lines of X and of Z at a site of step number `step`, by what each flips.
 fn write_site<O: Output>(
     out: &mut O,
     kinds: Kinds,

@@ -1,4 +1,4 @@
-//! The places for single errors at a step of a circuit, one by one.
+//! The sites for single errors at a step of a circuit, one by one.
 ghost use Rattle.std.specs.Prelude.{◌≡◌, true, false, slice_get, [], ◌∷◌, None, if◌then◌else◌};
 ghost use Rattle.std.specs.List.{flat_map};
 ghost use Rattle.stab_items.specs.Steps.{one};
@@ -10,7 +10,7 @@ use stab_circuit::Step;
 use stab_instructions::Factor;
 use stab_tableau::Gate;
 
-/// A place for single errors: a qubit, in front of a step or after it.
+/// A site for single errors: a qubit, in front of a step or after it.
 #[derive(Clone, Copy)]
 pub(crate) struct Site {
     pub qubit: usize,
@@ -37,14 +37,14 @@ fn following(qubit: usize) -> Site
     }
 }
 
-/// The place of this number, if there is one.
+/// The site of this number, if there is one.
 fn one_site(site: Site, number: usize) -> Option<Site>
     ensures value { site_found result ≡ slice_get (site_shown site ∷ []) number }
 {
     if number == 0 { Some(site) } else { None }
 }
 
-/// The place of this number, if there are two.
+/// The site of this number, if there are two.
 fn two_sites(first: Site, second: Site, number: usize) -> Option<Site>
     ensures value { site_found result ≡ slice_get (site_shown first ∷ site_shown second ∷ []) number }
 {
@@ -55,7 +55,7 @@ fn two_sites(first: Site, second: Site, number: usize) -> Option<Site>
     }
 }
 
-/// The place of this number in front of the factors of a product and after them.
+/// The site of this number in front of the factors of a product and after them.
 fn factor_site(factors: &[Factor], number: usize) -> Option<Site>
     ensures value { site_found result ≡ slice_get (flat_map factor_sites factors.now) number }
 {
@@ -67,7 +67,7 @@ fn factor_site(factors: &[Factor], number: usize) -> Option<Site>
     two_sites(in_front(qubit), following(qubit), number % 2)
 }
 
-/// The place of this number that a gate marks.
+/// The site of this number that a gate marks.
 fn gate_site(gate: Gate, qubit: usize, number: usize) -> Option<Site>
     ensures value { site_found result ≡ slice_get (marked_at (one gate qubit)) number }
 {
@@ -77,7 +77,7 @@ fn gate_site(gate: Gate, qubit: usize, number: usize) -> Option<Site>
     }
 }
 
-/// The place of this number that a step marks.
+/// The site of this number that a step marks.
 fn marked_site(step: Step, number: usize) -> Option<Site>
     ensures value { site_found result ≡ slice_get (marked_at (step_shown step.entry)) number }
 {
@@ -87,7 +87,7 @@ fn marked_site(step: Step, number: usize) -> Option<Site>
     }
 }
 
-/// The place of this number at a measurement or a reset of a letter.
+/// The site of this number at a measurement or a reset of a letter.
 fn collapse_site(qubit: usize, recorded: bool, number: usize) -> Option<Site>
     ensures value { site_found result ≡ slice_get (if recorded then in_front qubit ∷ following qubit ∷ [] else following qubit ∷ []) number }
 {
@@ -98,7 +98,7 @@ fn collapse_site(qubit: usize, recorded: bool, number: usize) -> Option<Site>
     }
 }
 
-/// The place of this number among all at a step.
+/// The site of this number among all at a step.
 fn any_site(step: Step, number: usize) -> Option<Site>
     ensures value { site_found result ≡ slice_get (all_at (step_shown step.entry)) number }
 {
@@ -117,7 +117,7 @@ fn any_site(step: Step, number: usize) -> Option<Site>
     }
 }
 
-/// The place of this number, counted from 0, if single errors are asked for at a step: everywhere, or
+/// The site of this number, counted from 0, if single errors are asked for at a step: everywhere, or
 /// where it marks them.
 pub(crate) fn site_at(step: Step, everywhere: bool, number: usize) -> Option<Site>
     ensures value { site_found result ≡ slice_get (sites_at everywhere (step_shown step.entry)) number }

@@ -13,7 +13,7 @@ use Rattle.stab_report.specs.CoinTables.{whole_kinds}
 use Rattle.stab_report.specs.Endings.{SendsUnflushed}
 use Rattle.stab_report.specs.SingleErrorTables.{single_error_text}
 use Rattle.stab_report.specs.PlacedSingleErrors.{single_error_placed}
-use Rattle.stab_report.specs.declared.single_error_places.PlacedSingleError.{PlacedSingleError}
+use Rattle.stab_report.specs.declared.single_error_list.PlacedSingleError.{PlacedSingleError}
 use Rattle.stab_report.proofs.SendingLaws.{cut_off_after}
 use Rattle.stab_ways.specs.declared.way.PlacedLetter.{PlacedLetter}
 use Rattle.stab_ways.specs.PutIn.{string_after, string_flips}

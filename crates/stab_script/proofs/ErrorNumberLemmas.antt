@@ -1,4 +1,4 @@
--- Error numbers: the numbers of what an error flips and leaves are the places of its bits, and those of its letters' parts.
+-- Error numbers: the numbers of what an error flips and leaves are the positions of its bits, and those of its letters' parts.
 use Rattle.stab_script.proofs.Names.{◌≡◌, refl, sym, ap, ◌∙◌, ℕ, ◌<◌, Bool, List, [], ◌∷◌, ◌++◌, length, take, drop, one_positions, Items, unroll}
 use Rattle.std.proofs.Common.{suc, ◌+◌, ◌-◌, ◌*◌, ◌≤◌, true, false, arith, append_assoc, append-nil, nat_lt, lt-ltb, le-ltb}
 use Rattle.std.proofs.Math.Seq.{take-append_seam, drop-append_seam}
@@ -20,7 +20,7 @@ use Rattle.stab_script.specs.EachTexts.{string_of_error}
 use Rattle.stab_script.specs.WayTexts.{bits_flipped}
 use Rattle.stab_script.specs.inner.ErrorNumbers.{part_letter, both_letter, letters_numbered}
 
--- places of bits
+-- positions of bits
 
 one-more : (f : ℕ → Bool) (k : ℕ) (b : Bool) (bits : List Bool) → f k ≡ b → numbers_where f (k + 1) (length bits) ≡ one_positions_from (k + 1) bits
     → numbers_where f k (suc (length bits)) ≡ one_positions_from k (b ∷ bits)
@@ -35,15 +35,15 @@ ones-from f k (b ∷ bits) same =
     one-more f k b bits (ap f {x = k} {y = k + 0} (omega arith) ∙ same 0 (omega arith))
     (ones-from f (k + 1) bits (λ j lt. ap f {x = (k + 1) + j} {y = k + suc j} (omega arith) ∙ same (suc j) (omega (arith, lt))))
 
-pub ones-are-places : (bits : List Bool) → numbers_of_ones bits ≡ one_positions bits
-ones-are-places bits = ones-from (λ i. slice_index_or bits i false) 0 bits (λ j lt. ap (λ i. slice_index_or bits i false) {x = 0 + j} {y = j} (omega arith))
+pub ones-are-positions : (bits : List Bool) → numbers_of_ones bits ≡ one_positions bits
+ones-are-positions bits = ones-from (λ i. slice_index_or bits i false) 0 bits (λ j lt. ap (λ i. slice_index_or bits i false) {x = 0 + j} {y = j} (omega arith))
 
-places-append : (k : ℕ) (xs ys : List Bool) → one_positions_from k (xs ++ ys) ≡ one_positions_from k xs ++ one_positions_from (k + length xs) ys
-places-append k [] ys = ap (λ m. one_positions_from m ys) (omega arith)
-places-append k (true ∷ xs) ys = ap (λ r. k ∷ r) (places-append (k + 1) xs ys ∙ ap (λ m. one_positions_from (k + 1) xs ++ one_positions_from m ys) (omega arith))
-places-append k (false ∷ xs) ys = places-append (k + 1) xs ys ∙ ap (λ m. one_positions_from (k + 1) xs ++ one_positions_from m ys) (omega arith)
+positions-append : (k : ℕ) (xs ys : List Bool) → one_positions_from k (xs ++ ys) ≡ one_positions_from k xs ++ one_positions_from (k + length xs) ys
+positions-append k [] ys = ap (λ m. one_positions_from m ys) (omega arith)
+positions-append k (true ∷ xs) ys = ap (λ r. k ∷ r) (positions-append (k + 1) xs ys ∙ ap (λ m. one_positions_from (k + 1) xs ++ one_positions_from m ys) (omega arith))
+positions-append k (false ∷ xs) ys = positions-append (k + 1) xs ys ∙ ap (λ m. one_positions_from (k + 1) xs ++ one_positions_from m ys) (omega arith)
 
--- numbers below a place, and those from it on
+-- numbers below a position, and those from it on
 
 abbrev below : ℕ → ℕ → Bool
 below first p = nat_lt p first
@@ -68,10 +68,10 @@ abbrev AtLeast : ℕ → List ℕ → Type 0
 AtLeast k [] = Unit {0}
 AtLeast k (p ∷ ps) = k ≤ p
 
-places-above : (k m : ℕ) (xs : List Bool) → k ≤ m → AtLeast k (one_positions_from m xs)
-places-above k m [] le = tt
-places-above k m (true ∷ xs) le = le
-places-above k m (false ∷ xs) le = places-above k (m + 1) xs (omega (arith, le))
+positions-above : (k m : ℕ) (xs : List Bool) → k ≤ m → AtLeast k (one_positions_from m xs)
+positions-above k m [] le = tt
+positions-above k m (true ∷ xs) le = le
+positions-above k m (false ∷ xs) le = positions-above k (m + 1) xs (omega (arith, le))
 
 z-part : (first a : ℕ) (rest : List ℕ) → ((a - first) % 2 == 1) ≡ true → letters_numbered first (a ∷ rest) ≡ part_letter (a - first) ∷ letters_numbered first rest
 z-part first a [] odd = refl
@@ -116,7 +116,7 @@ one-letter : (first q : ℕ) (l : Letter) (letters : List Letter)
     → letters_numbered first (one_positions_from (first + 2 * q) (part_bits (l ∷ letters))) ≡ placed q (l ∷ letters)
 one-letter first q letter.I letters next = next
 one-letter first q letter.X letters next =
-    x-part first (first + 2 * q) _ (even-number first q) (places-above ((first + 2 * q) + 2) (((first + 2 * q) + 1) + 1) (part_bits letters) (omega arith))
+    x-part first (first + 2 * q) _ (even-number first q) (positions-above ((first + 2 * q) + 2) (((first + 2 * q) + 1) + 1) (part_bits letters) (omega arith))
     ∙ (λ i. (record { letter = if even-number first q i then letter.Z else letter.X; qubit = half-even first q i }) ∷ next i)
 one-letter first q letter.Y letters next =
     both-parts first (first + 2 * q) _ (even-number first q) ∙ (λ i. (record { letter = letter.Y; qubit = half-even first q i }) ∷ next i)
@@ -128,7 +128,7 @@ pub letters-are : (first q : ℕ) (letters : List Letter) → letters_numbered f
 letters-are first q [] = refl
 letters-are first q (l ∷ letters) = one-letter first q l letters (next-letters first q letters (letters-are first (q + 1) letters))
 
--- the row of an error: the places of the bits that it flips, and then the numbers of the parts of its string at the end
+-- the row of an error: the positions of the bits that it flips, and then the numbers of the parts of its string at the end
 
 module _ (items : Items) (f : SingleError) where
   abbrev flipped : List Bool
@@ -142,9 +142,9 @@ module _ (items : Items) (f : SingleError) where
 
   row-split : effect_of_single_error (qubits_of items) items f ≡ one_positions flipped ++ parts
   row-split =
-      ones-are-places (bits_of_single_error (qubits_of items) items f)
+      ones-are-positions (bits_of_single_error (qubits_of items) items f)
       ∙ ap one_positions joins
-      ∙ places-append 0 flipped (part_bits left)
+      ∙ positions-append 0 flipped (part_bits left)
       ∙ ap (λ k. one_positions flipped ++ one_positions_from k (part_bits left)) {x = 0 + length flipped} {y = length flipped} (omega arith)
     where
       flips : RunOutput

@@ -1,9 +1,9 @@
 mod Names
-pub mod PlaceLaws
+pub mod PathLaws
 pub mod ChangeLaws
 pub mod SignLaws
 pub mod CountedReplyLaws
-pub mod PlaceCountLaws
+pub mod ItemCountLaws
 pub mod ReadingLaws
 pub mod ReportLaws
 pub mod RequestLaws

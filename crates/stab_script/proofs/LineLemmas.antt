@@ -13,12 +13,12 @@ one_block b [] k e = cc
 one_block b (c ∷ blocks) k e = cc
 
 -- a path whose only number is 0
-outside_with : (blocks : List ℕ) (k : ℕ) → blocks ++ k ∷ [] ≡ 0 ∷ [] → record { blocks = blocks; place = k } ≡ outside 0
+outside_with : (blocks : List ℕ) (k : ℕ) → blocks ++ k ∷ [] ≡ 0 ∷ [] → record { blocks = blocks; position = k } ≡ outside 0
 outside_with [] k e = cc
 outside_with (b ∷ blocks) k e = absurd (one_block b blocks k e)
 
 outside_of : (p : Path) → numbers p ≡ 0 ∷ [] → p ≡ outside 0
-outside_of p e = outside_with p.blocks p.place e
+outside_of p e = outside_with p.blocks p.position e
 
 -- no step is there
 pub path_past : (items : Items) (steps step : ℕ) (p : Path) → check_of items ≡ None → steps ≡ min (length (unroll items)) 1048577 → steps ≤ step → numbers p ≡ 0 ∷ [] → p ≡ path_at items step
@@ -31,8 +31,8 @@ pub turns-drop : {T U : Type 0} (line : U → List ℕ) (shown : T → U) (ts : 
 turns-drop line shown ts k t within is = rw add-one (ap (λ l. flat_map line (map shown l)) (drop-cons ts k t within ∙ ap (λ u. u ∷ drop (suc k) ts) (sym is)))
 
 -- the line of a turn, by what is written of it
-pub turn_text : (items : Items) (t : Turn) (place : ℕ) (path : Path) (letters : List PlacedLetter) → place ≡ t.after - 1 → path ≡ path_at items place → letters ≡ t.string
+pub turn_text : (items : Items) (t : Turn) (start : ℕ) (path : Path) (letters : List PlacedLetter) → start ≡ t.after - 1 → path ≡ path_at items start → letters ≡ t.string
     → where_text t.after path ++ (string_text letters ++ codes "\n") ≡ turn_line items t
-turn_text items t place path letters before here are =
+turn_text items t start path letters before here are =
     ap (λ p. where_text t.after p ++ (string_text letters ++ codes "\n")) (here ∙ ap (λ k. path_at items k) before)
     ∙ ap (λ l. where_text t.after (path_at items (t.after - 1)) ++ (string_text l ++ codes "\n")) are

@@ -15,13 +15,13 @@ pub use Rattle.stab_items.proofs.EditLemmas.{entries-listed, listed-entries}
 pub use Rattle.stab_items.specs.Edits.{steps_before, edited, list_verdict, verdict}
 pub use Rattle.stab_items.specs.Items.{Items, OneItem, listed, entries, done, before, depth}
 pub use Rattle.stab_items.specs.Paths.{Path, numbers}
-pub use Rattle.stab_items.specs.Places.{item_at}
+pub use Rattle.stab_items.specs.ItemsAt.{item_at}
 pub use Rattle.stab_items.specs.Steps.{Step, unroll, check_within, steps_cap, is_inverted, looks_too_far, most_steps, named_qubits, qubits_of, detectors_of}
 unfoldable pub use Rattle.stab_items.specs.Steps.{check_of}
 pub use Rattle.stab_items.specs.Views.{circuit_items}
 pub use Rattle.stab_gates.specs.Letters.{◌⊕◌}
 pub use Rattle.stab_gates.specs.declared.letter.Letter.{Letter}
-pub use Rattle.stab_io.proofs.DeviceLemmas.{took_none, took_more, took_and_failed, gave_none, gave_more, gave_and_failed, WroteUpTo, failed_within, wrote_part, wrote_and_failed, failed_on}
+pub use Rattle.stab_io.proofs.DeviceLemmas.{took_none, left_more, took_more, took_and_failed, gave_none, gave_more, gave_and_failed, WroteUpTo, failed_within, wrote_part, wrote_and_failed, failed_on}
 pub use Rattle.stab_io.specs.Devices.{OutputView, Took, TookAndFailed, CutOff, InputView, Gave, GaveAndFailed, GaveAll, IsAtEnd, Reads}
 pub use Rattle.stab_io.specs.Refusals.{whole, IsCallFault}
 pub use Rattle.stab_io.specs.declared.refusal.Fault.{Fault}
@@ -41,10 +41,10 @@ pub use Rattle.stab_script.specs.Changes.{changes}
 pub use Rattle.stab_script.specs.Editors.{EditorState, after_answer, Reported, ReportedSome, AnswersRequests, progress, FlushFails, Sent, Finishes}
 pub use Rattle.stab_script.specs.CountedAnswers.{GivesText}
 pub use Rattle.stab_script.specs.CountedReplies.{text_found, reply_text, greeting, session_numbers, made_text}
-pub use Rattle.stab_script.specs.PlaceCounts.{counts_of, place_after, steps_up_to, steps_at, place_line, place_text, two_numbers}
+pub use Rattle.stab_script.specs.ItemCounts.{counts_of, path_after, steps_up_to, steps_at, counts_line, counts_text, two_numbers}
 pub use Rattle.stab_script.specs.Replies.{ReplyBytes}
 pub use Rattle.stab_script.specs.Requests.{opened_in, asked_if_any, request_asked}
-pub use Rattle.stab_script.specs.ScriptWords.{is_place_number, most_numbers, numbers_after, Gathered, first_word, after_word, path_if_any, place_of, is_nothing}
+pub use Rattle.stab_script.specs.ScriptWords.{is_path_number, most_numbers, numbers_after, Gathered, first_word, after_word, path_if_any, path_of_word, is_nothing}
 pub use Rattle.stab_script.specs.Scripts.{Request, begin, put, delete, show, ask, deterministic, distance, refuse, ScriptReader, Gathering, Reading, silent, line_ended, begun, line_alone, opened_after, gathered_with, gathering_ended, line_gathered, line_after, read_byte, then_read, show_by, show_of, Environment, Held, Answer, IsAnswer, IsAnswerToAll, both, replying, read_last, script_closed, run_held, IsPut, Shows, IsDeterministicAnswer, IsDistanceAnswer, IsPlainAnswer, options_asked, unless, verdict_on, decided, refusing, edit_of, edited_items, counted_shown, held_split, held_after, shown_or_refused, counted_answer, put_at, delete_at, counted_of, distance_of, request_by, put_gathered, read_end, empty_reader, requests_of, held_at_first, requests_in, most_script}
 unfoldable pub use Rattle.stab_script.specs.Scripts.{request_of, read_line, read}
 pub use Rattle.stab_script.specs.Signs.{is_string_byte, letter_of_byte, lettered, string_within, string_without_sign, sign_in, sign_line, string_of_word}
@@ -59,7 +59,7 @@ pub use Rattle.stab_report.specs.Distances.{IsDistanceText, answer_text, IsDista
 pub use Rattle.stab_report.specs.Endings.{GaveCircuit}
 pub use Rattle.stab_report.specs.FaultLines.{refused_text}
 pub use Rattle.stab_report.specs.SingleErrorTables.{IsFirstDecider, IsFirstRandom}
-pub use Rattle.stab_report.specs.Places.{bit_of, path_of_bit, path_of_coin, path_at}
+pub use Rattle.stab_report.specs.ItemPaths.{bit_of, path_of_bit, path_of_coin, path_at}
 pub use Rattle.stab_report.specs.Reasons.{DeterministicHasNoDecider}
 pub use Rattle.stab_report.specs.Sources.{coins_of_shot}
 pub use Rattle.stab_commands.specs.declared.distance.Distance.{Distance}

@@ -86,9 +86,7 @@ reported_then {a} {b} {c} {o} {p} {q} xs ys first next =
 -- what is cut off after some replies
 pub cut_after : {o p q : OutputView} (xs ys : List ℕ) (f : Fault) → Took o p xs → CutOff p q ys f → CutOff o q (xs ++ ys) f
 cut_after xs ys f before (inl failed) = inl (failed.0, took_and_failed xs ys before failed.1)
-cut_after xs ys f before (inr some) =
-    let part = some.1 in
-    inr (some.0, record { front = xs ++ part.front; rest = part.rest; split = ap (λ l. xs ++ l) part.split ∙ sym (append_assoc xs part.front part.rest); took = took_more xs part.front before part.took })
+cut_after xs ys f before (inr (memory, some)) = inr (memory, (xs ++ some.0, some.1, ap (λ l. xs ++ l) some.2 ∙ sym (append_assoc xs some.0 some.1), took_more xs some.0 before some.3))
 
 -- first some, and then the others are cut off
 unfoldable pub reported_some_after : {a b : EditorState} {o p q : OutputView} (xs ys : List Request) (f : Fault) → Reported a b xs o p → ReportedSome b ys p q f → ReportedSome a (xs ++ ys) o q f

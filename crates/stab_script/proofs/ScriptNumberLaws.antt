@@ -1,5 +1,5 @@
 -- Laws of numbers in scripts: each distance that a script asks for is up to a number of at most 18 digits.
-use Rattle.stab_script.proofs.Names.{◌≡◌, ◌<◌, ◌^◌, ℕ, Bool, true, false, ◌==◌, nat_le, List, [], ◌∷◌, ◌++◌, length, refl, Option, Some, None, if◌then◌else◌, codes, bytes_eq, leb-true, BadCommand, content_of, ends_with_byte, is_number, value, and_left, and_right, eighteen_digits, Path, CountedRequest, request_alone, bookmark, round_number_of, counted_split, counted_show, Gathered, first_word, after_word, is_nothing, is_place_number, place_of, Request, begin, put, delete, show, ask, deterministic, distance, refuse, put_at, delete_at, counted_of, distance_of, show_by, show_of, request_by, request_of, Gathering, ScriptReader, Reading, silent, line_ended, put_gathered, gathering_ended, begun, line_alone, gathered_with, line_after, read_line, read_byte, read, read_last, script_closed, read_end, empty_reader, requests_of, ItemEdit, Insert, Replace, Measurements, Free, Detectors, Observables, Stabilisers, Circuit}
+use Rattle.stab_script.proofs.Names.{◌≡◌, ◌<◌, ◌^◌, ℕ, Bool, true, false, ◌==◌, nat_le, List, [], ◌∷◌, ◌++◌, length, refl, Option, Some, None, if◌then◌else◌, codes, bytes_eq, leb-true, BadCommand, content_of, ends_with_byte, is_number, value, and_left, and_right, eighteen_digits, Path, CountedRequest, request_alone, bookmark, round_number_of, counted_split, counted_show, Gathered, first_word, after_word, is_nothing, is_path_number, path_of_word, Request, begin, put, delete, show, ask, deterministic, distance, refuse, put_at, delete_at, counted_of, distance_of, show_by, show_of, request_by, request_of, Gathering, ScriptReader, Reading, silent, line_ended, put_gathered, gathering_ended, begun, line_alone, gathered_with, line_after, read_line, read_byte, read, read_last, script_closed, read_end, empty_reader, requests_of, ItemEdit, Insert, Replace, Measurements, Free, Detectors, Observables, Stabilisers, Circuit}
 
 -- a request for a distance is for one of few errors
 abbrev pub AsksFew : Request → Type 0
@@ -34,9 +34,9 @@ counted_few None = tt
 counted_few (Some request) = tt
 
 distance_few : (word rest : List ℕ) → AsksFew (distance_of (round_number_of word) rest)
-distance_few word rest = by_number (is_place_number word) refl
+distance_few word rest = by_number (is_path_number word) refl
   where
-    by_number : (b : Bool) → is_place_number word ≡ b → AsksFew (distance_of (if b then Some (value word) else None) rest)
+    by_number : (b : Bool) → is_path_number word ≡ b → AsksFew (distance_of (if b then Some (value word) else None) rest)
     by_number false is = tt
     by_number true is =
         let few : value word < 10 ^ 18 = eighteen_digits word (and_left (is_number word) (nat_le (length word) 18) is) (leb-true (length word) 18 (and_right (is_number word) (nat_le (length word) 18) is)) in
@@ -65,9 +65,9 @@ request_few content = by_word (first_word content) (after_word content)
   where
     by_word : (word rest : List ℕ) → AsksFew (request_by word rest)
     by_word word rest =
-        either (bytes_eq word (codes "insert")) (put_at Insert (place_of (first_word rest)) (after_word rest)) _ (put_few Insert (place_of (first_word rest)) (after_word rest))
-        (either (bytes_eq word (codes "replace")) (put_at Replace (place_of (first_word rest)) (after_word rest)) _ (put_few Replace (place_of (first_word rest)) (after_word rest))
-        (either (bytes_eq word (codes "delete")) (delete_at (place_of (first_word rest)) (after_word rest)) _ (delete_few (place_of (first_word rest)) (after_word rest))
+        either (bytes_eq word (codes "insert")) (put_at Insert (path_of_word (first_word rest)) (after_word rest)) _ (put_few Insert (path_of_word (first_word rest)) (after_word rest))
+        (either (bytes_eq word (codes "replace")) (put_at Replace (path_of_word (first_word rest)) (after_word rest)) _ (put_few Replace (path_of_word (first_word rest)) (after_word rest))
+        (either (bytes_eq word (codes "delete")) (delete_at (path_of_word (first_word rest)) (after_word rest)) _ (delete_few (path_of_word (first_word rest)) (after_word rest))
         (either (bytes_eq word (codes "show")) (show_of rest) _ (show_few rest)
         (either (bytes_eq word (codes "mark")) (counted_of (request_alone rest bookmark)) _ (counted_few (request_alone rest bookmark))
         (either (bytes_eq word (codes "split")) (counted_of (counted_split rest)) (refuse BadCommand) (counted_few (counted_split rest)) tt)))))

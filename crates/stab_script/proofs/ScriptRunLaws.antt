@@ -1,5 +1,5 @@
 -- Laws of script runs: what was read and answered so far, and how a script ends from there.
-use Rattle.stab_script.proofs.Names.{Answer, ◌≡◌, ◌≤◌, ◌<◌, ℕ, ◌+◌, ◌-◌, Bool, false, ◌||◌, List, [], ◌∷◌, ◌++◌, length, take, refl, sym, ap, ◌∙◌, subst, arith, append_assoc, length-append, Result, Ok, Err, inl, inr, append-nil, take_all, take-append-add, IsErrAnd, InputView, OutputView, Gave, GaveAndFailed, GaveAll, IsAtEnd, TooLong, ReadFault, Fault, whole, gave_none, gave_more, gave_and_failed, took_more, Items, Environment, Request, begin, held_at_first, IsAnswerToAll, both, ScriptReader, Reading, read, read_end, requests_in, requests_of, empty_reader, most_script, AnswersScript, BreaksOff, AnswersFront, EndsScript, EditorState, Reported, ReportedSome, FlushFails, Sent, Finishes}
+use Rattle.stab_script.proofs.Names.{Answer, ◌≡◌, ◌≤◌, ◌<◌, ℕ, ◌+◌, ◌-◌, Bool, false, ◌||◌, List, [], ◌∷◌, ◌++◌, length, take, refl, sym, ap, ◌∙◌, subst, arith, append_assoc, length-append, Result, Ok, Err, inl, inr, append-nil, take_all, take-append-add, IsErrAnd, InputView, OutputView, Gave, GaveAndFailed, GaveAll, IsAtEnd, TooLong, ReadFault, Fault, whole, gave_none, gave_more, gave_and_failed, left_more, Items, Environment, Request, begin, held_at_first, IsAnswerToAll, both, ScriptReader, Reading, read, read_end, requests_in, requests_of, empty_reader, most_script, AnswersScript, BreaksOff, AnswersFront, EndsScript, EditorState, Reported, ReportedSome, FlushFails, Sent, Finishes}
 use Rattle.stab_script.proofs.ReadingLaws.{read_append, read_none}
 use Rattle.stab_script.proofs.ReportLaws.{answers_then, reported_then, reported_some_after}
 
@@ -211,7 +211,7 @@ ended_sent {environment} {items} {now} {reader} {taken} {s} {s'} {s''} {o} {o'} 
       gave = gave_whole before.bytes before.gave gave;
       answer = both a sent.answer;
       answers = (answers_then environment (held_at_first environment items) (requests_in before.bytes) last a sent.answer before.reported.answers here, lasts (requests_in before.bytes) last a sent.answer p here);
-      sent = record { between = sent.sent.between; took = took_more a.reply sent.answer.reply before.reported.took sent.sent.took; flushed = sent.sent.flushed };
+      sent = left_more a.reply sent.answer.reply before.reported.took sent.sent;
       flag = sent.flag ∙ ap (λ (x : EditorState). x.refused || sent.answer.refused) before.reported.leaves;
     }
 
@@ -256,7 +256,7 @@ ended_unflushed {environment} {items} {now} {reader} {taken} {s} {s'} {s''} {o} 
       split = ap requests_of (append-nil before.bytes) ∙ sym (append-nil (requests_of before.bytes));
       answer = both a failed.answer;
       answers = (answers_then environment (held_at_first environment items) (requests_in before.bytes) last a failed.answer before.reported.answers here, lasts (requests_in before.bytes) last a failed.answer p here);
-      cut = inr (failed.fault, record { between = failed.failed.between; took = took_more a.reply failed.answer.reply before.reported.took failed.failed.took; failed = failed.failed.failed });
+      cut = inr (failed.fault, left_more a.reply failed.answer.reply before.reported.took failed.failed);
     }
 
 -- the script came to its end

@@ -6,6 +6,7 @@ use Rattle.stab_io.specs.Refusals.{whole}
 use Rattle.stab_io.specs.declared.refusal.Fault.{Fault}
 use Rattle.stab_io.specs.declared.refusal.Refusal.{Refusal}
 use Rattle.stab_report.specs.Endings.{SendsFound, FlushesOrFault}
+use Rattle.stab_report.proofs.WritingLaws.{left_after}
 
 -- what a call gave is what it gave before its refusals were named faults
 pub given_before : {A : Type 0} (w : Result A Refusal) (m : Result A Fault) (x : A) → MatchResult w (λ y. m ≡ Ok y) (λ e. IsErrAnd m (λ y. y ≡ whole e)) → m ≡ Ok x → w ≡ Ok x
@@ -23,5 +24,5 @@ found_failed are old new bytes (Err e) m f (Err y) is writes named reported same
 
 -- bytes like these were written, and flushed or not
 pub found_finished : {T : Type 0} (are : List ℕ → Type 0) (old mid new : OutputView) (bytes : List ℕ) (r : Result T Fault) → are bytes → Took old mid bytes → FlushesOrFault mid new r → SendsFound are old new r
-found_finished are old mid new bytes (Ok x) is took flushed = (bytes, is, record { between = mid; took = took; flushed = flushed })
-found_finished are old mid new bytes (Err f) is took failed = inl (failed.0, bytes, is, inr (record { between = mid; took = took; failed = failed.1 }))
+found_finished are old mid new bytes (Ok x) is took flushed = (bytes, is, left_after bytes took flushed)
+found_finished are old mid new bytes (Err f) is took failed = inl (failed.0, bytes, is, inr (left_after bytes took failed.1))

@@ -66,21 +66,21 @@ same_entries circuit items same = sym (ap entries same) ∙ entries-listed circu
 abbrev item_text : OneItem → List ℕ
 item_text x = printed (before x done)
 
--- if there is no item at a place of the circuit, none is shown
-pub item_refused : (circuit : List OneItem) (items : Items) (place : Path) (r : Refusal) (result : Result ReplyBytes Refusal) → IsErrAnd result (λ x. x ≡ r) → listed circuit ≡ items
-    → item_at place circuit ≡ Err r → GivesText result (text_found item_text (item_at place (entries items)))
-item_refused circuit items place r (Ok reply) is same found = absurd is
-item_refused circuit items place r (Err x) is same found =
-    inr (ap (λ xs. text_found item_text (item_at place xs)) (same_entries circuit items same) ∙ (ap (text_found item_text) found ∙ ap Err (sym is)))
+-- if there is no item at a path of the circuit, none is shown
+pub item_refused : (circuit : List OneItem) (items : Items) (path : Path) (r : Refusal) (result : Result ReplyBytes Refusal) → IsErrAnd result (λ x. x ≡ r) → listed circuit ≡ items
+    → item_at path circuit ≡ Err r → GivesText result (text_found item_text (item_at path (entries items)))
+item_refused circuit items path r (Ok reply) is same found = absurd is
+item_refused circuit items path r (Err x) is same found =
+    inr (ap (λ xs. text_found item_text (item_at path xs)) (same_entries circuit items same) ∙ (ap (text_found item_text) found ∙ ap Err (sym is)))
 
 -- and if there is one, its text is
-pub item_reported : (circuit : List OneItem) (items : Items) (place : Path) (x : OneItem) (made : Result ReplyBytes Fault) (result : Result ReplyBytes Refusal) → listed circuit ≡ items
-    → item_at place circuit ≡ Ok x → IfOk made (λ r. r.written ≡ printed (before x done)) → IfOk result (λ r. made ≡ Ok r) → IfErr result (λ r. r ≡ OutOfMemory)
-    → GivesText result (text_found item_text (item_at place (entries items)))
-item_reported circuit items place x made (Ok reply) same found written is err =
+pub item_reported : (circuit : List OneItem) (items : Items) (path : Path) (x : OneItem) (made : Result ReplyBytes Fault) (result : Result ReplyBytes Refusal) → listed circuit ≡ items
+    → item_at path circuit ≡ Ok x → IfOk made (λ r. r.written ≡ printed (before x done)) → IfOk result (λ r. made ≡ Ok r) → IfErr result (λ r. r ≡ OutOfMemory)
+    → GivesText result (text_found item_text (item_at path (entries items)))
+item_reported circuit items path x made (Ok reply) same found written is err =
     let text : reply.written ≡ printed (before x done) = subst (λ (m : Result ReplyBytes Fault). IfOk m (λ r. r.written ≡ printed (before x done))) is written in
-    ap (λ xs. text_found item_text (item_at place xs)) (same_entries circuit items same) ∙ (ap (text_found item_text) found ∙ ap Ok (sym text))
-item_reported circuit items place x made (Err r) same found written is err = inl err
+    ap (λ xs. text_found item_text (item_at path xs)) (same_entries circuit items same) ∙ (ap (text_found item_text) found ∙ ap Ok (sym text))
+item_reported circuit items path x made (Err r) same found written is err = inl err
 
 -- the sign of a string is reported as the group of the run has it
 pub sign_reported : (run : State) (given : Result Signed Refusal) (p : Signed) (sign : Option Bool) (made : Result ReplyBytes Fault) (result : Result ReplyBytes Refusal) → given ≡ Ok p

@@ -11,34 +11,34 @@ use Rattle.stab_instructions.specs.Results.{◌>>=◌, Gives}
 use Rattle.stab_items.specs.Items.{OneItem, listed, entries}
 use Rattle.stab_items.specs.Steps.{unroll, check_of, steps_cap}
 use Rattle.stab_items.specs.Paths.{Path}
-use Rattle.stab_items.specs.Places.{item_at}
+use Rattle.stab_items.specs.ItemsAt.{item_at}
 use Rattle.stab_items.specs.Edits.{steps_before}
-use Rattle.stab_script.specs.PlaceCounts.{steps_up_to}
+use Rattle.stab_script.specs.ItemCounts.{steps_up_to}
 use Rattle.stab_script.specs.Words.{is_end, steps_written, steps_in_front}
 
--- a path with no blocks is that of the end if its place is
-pub end_of_items : (circuit items : List OneItem) (path : Path) (blocks : List ℕ) (place : ℕ) → blocks ≡ path.blocks → nat_eq (length blocks) 0 ≡ true → place ≡ path.place → items ≡ circuit
-    → nat_eq place (length items) ≡ is_end path (listed circuit)
-end_of_items circuit items path blocks place around none at same =
+-- a path with no blocks is that of the end if its position is
+pub end_of_items : (circuit items : List OneItem) (path : Path) (blocks : List ℕ) (position : ℕ) → blocks ≡ path.blocks → nat_eq (length blocks) 0 ≡ true → position ≡ path.position → items ≡ circuit
+    → nat_eq position (length items) ≡ is_end path (listed circuit)
+end_of_items circuit items path blocks position around none at same =
     ap (λ p. nat_eq p (length items)) at
-    ∙ ap (λ (xs : List OneItem). nat_eq path.place (length xs)) (same ∙ sym (entries-listed circuit))
-    ∙ ap (λ b. b && nat_eq path.place (length (entries (listed circuit)))) (sym none ∙ ap (λ (bs : List ℕ). nat_eq (length bs) 0) around)
+    ∙ ap (λ (xs : List OneItem). nat_eq path.position (length xs)) (same ∙ sym (entries-listed circuit))
+    ∙ ap (λ b. b && nat_eq path.position (length (entries (listed circuit)))) (sym none ∙ ap (λ (bs : List ℕ). nat_eq (length bs) 0) around)
 
 -- the steps of a circuit that nothing refuses are counted whole
 counted_steps : (circuit : List OneItem) (steps : ℕ) → check_of (listed circuit) ≡ None → steps ≡ min (length (unroll (listed circuit))) steps_cap → steps ≡ length (unroll (listed circuit))
 counted_steps circuit steps checked counted = let few = few_steps (listed circuit) checked in omega (arith, few, counted)
 
-over : (n place : ℕ) → n < place → nat_le place n ≡ false
-over n place past = grind (arith, past)
+over : (n asked : ℕ) → n < asked → nat_le asked n ≡ false
+over n asked past = grind (arith, past)
 
 -- a number past the steps
-pub past_steps : (circuit : List OneItem) (steps place : ℕ) (number : Option ℕ) → check_of (listed circuit) ≡ None → steps ≡ min (length (unroll (listed circuit))) steps_cap → steps < place → number ≡ Some place
+pub past_steps : (circuit : List OneItem) (steps asked : ℕ) (number : Option ℕ) → check_of (listed circuit) ≡ None → steps ≡ min (length (unroll (listed circuit))) steps_cap → steps < asked → number ≡ Some asked
     → steps_written (length (unroll (listed circuit))) number ≡ Err PlaceOutOfRange
-past_steps circuit steps place number checked counted past is =
+past_steps circuit steps asked number checked counted past is =
     let all = counted_steps circuit steps checked counted in
     let n = length (unroll (listed circuit)) in
-    let out : n < place = omega (arith, all, past) in
-    ap (steps_written n) is ∙ ap (λ b. if b then Ok place else Err PlaceOutOfRange) (over n place out)
+    let out : n < asked = omega (arith, all, past) in
+    ap (steps_written n) is ∙ ap (λ b. if b then Ok asked else Err PlaceOutOfRange) (over n asked out)
 
 -- what is in front of a path, if it is known whether it is that of the end
 front_of : (circuit : List OneItem) (path : Option Path) (here : Path) (b : Bool) → path ≡ Some here → is_end here (listed circuit) ≡ b

@@ -5,12 +5,12 @@ use Rattle.stab_instructions.specs.Words.{value}
 use Rattle.stab_items.specs.Paths.{Path}
 use Rattle.stab_report.specs.declared.random.Bit.{Bit}
 use Rattle.stab_report.specs.declared.random.Bit.TheVariants.{Detector, Observable}
-use Rattle.stab_script.specs.ScriptWords.{first_word, after_word, is_place_number, place_of}
+use Rattle.stab_script.specs.ScriptWords.{first_word, after_word, is_path_number, path_of_word}
 
 -- that changes are counted from now on; that a round, counted from 0, is split off the block at a place; or that this is shown: the numbers of
--- the circuit, what changed of detectors and observables, what changed of records, the sign of a Pauli string, the item at a place,
+-- the circuit, what changed of detectors and observables, what changed of records, the sign of a Pauli string, the item at a path,
 -- where it is in the unrolled circuit, the table of coins, the coins that decide a detector or an observable, the way of the string of a word
--- that is put in at the place of another
+-- that is put in where another says
 pub data CountedRequest : Type 0 where
   bookmark : CountedRequest
   split : (place : Path) → (round : ℕ) → CountedRequest
@@ -18,8 +18,8 @@ pub data CountedRequest : Type 0 where
   changed : CountedRequest
   changed_records : CountedRequest
   sign : (text : List ℕ) → CountedRequest
-  item : (place : Path) → CountedRequest
-  counts : (place : Path) → CountedRequest
+  item : (path : Path) → CountedRequest
+  counts : (path : Path) → CountedRequest
   coin_table : CountedRequest
   why : Bit → CountedRequest
   way : (at word : List ℕ) → CountedRequest
@@ -28,9 +28,9 @@ pub data CountedRequest : Type 0 where
 abbrev pub request_alone : (rest : List ℕ) → CountedRequest → Option CountedRequest
 request_alone rest request = if length rest == 0 then Some request else None
 
--- the number of a round, if the word is a number as those of a place are
+-- the number of a round, if the word is a number as those of a path are
 abbrev pub round_number_of : (word : List ℕ) → Option ℕ
-round_number_of word = if is_place_number word then Some (value word) else None
+round_number_of word = if is_path_number word then Some (value word) else None
 
 -- the request for what a word stands for, if it stands for something and nothing is after it
 abbrev pub alone_with : {A : Type 0} → (A → CountedRequest) → Option A → (rest : List ℕ) → Option CountedRequest
@@ -44,7 +44,7 @@ split_of (Some place) round rest = alone_with (split place) round rest
 
 -- what the words after `split` ask for: a place and a round
 abbrev pub counted_split : (words : List ℕ) → Option CountedRequest
-counted_split words = split_of (place_of (first_word words)) (round_number_of (first_word (after_word words))) (after_word (after_word words))
+counted_split words = split_of (path_of_word (first_word words)) (round_number_of (first_word (after_word words))) (after_word (after_word words))
 
 -- what the word after `show changed` asks for
 abbrev pub changed_of : (rest : List ℕ) → Option CountedRequest
@@ -54,7 +54,7 @@ changed_of rest = if bytes_eq rest (codes "records") then Some changed_records e
 abbrev pub sign_of : (word rest : List ℕ) → Option CountedRequest
 sign_of word rest = if length word == 0 then None else request_alone rest (sign word)
 
--- the way of the string of a word, put in at the place of another
+-- the way of the string of a word, put in where another says
 abbrev pub way_asked : (at word rest : List ℕ) → Option CountedRequest
 way_asked at word rest = if length word == 0 then None else request_alone rest (way at word)
 
@@ -74,8 +74,8 @@ counted_show word rest =
     if bytes_eq word (codes "numbers") then request_alone rest numbers
     else if bytes_eq word (codes "changed") then changed_of rest
     else if bytes_eq word (codes "sign") then sign_of (first_word rest) (after_word rest)
-    else if bytes_eq word (codes "item") then alone_with item (place_of (first_word rest)) (after_word rest)
-    else if bytes_eq word (codes "place") then alone_with counts (place_of (first_word rest)) (after_word rest)
+    else if bytes_eq word (codes "item") then alone_with item (path_of_word (first_word rest)) (after_word rest)
+    else if bytes_eq word (codes "place") then alone_with counts (path_of_word (first_word rest)) (after_word rest)
     else if bytes_eq word (codes "coins") then request_alone rest coin_table
     else if bytes_eq word (codes "why") then alone_with why (bit_of_word (first_word rest)) (after_word rest)
     else if bytes_eq word (codes "way") then way_asked (first_word rest) (first_word (after_word rest)) (after_word (after_word rest))

@@ -14,7 +14,7 @@ use Rattle.stab_ways.specs.Ways.{placed}
 use Rattle.stab_ways.specs.Laws.{FlipsRun, coins_with}
 use Rattle.stab_report.specs.CoinTables.{whole_kinds}
 use Rattle.stab_report.specs.SingleErrorTables.{single_error_text}
-use Rattle.stab_report.specs.Places.{path_at}
+use Rattle.stab_report.specs.ItemPaths.{path_at}
 use Rattle.stab_script.specs.WayTexts.{bits_flipped, left_line}
 
 -- the string of an error: its letter, on the qubits that the circuit names

@@ -1,11 +1,10 @@
 -- Editors: what a call leaves that answers requests, one after another, and writes each reply.
 -- Source: this project's own.
 use Rattle.std.specs.Prelude.{◌≡◌, Bool, ◌||◌, List, ◌++◌, ◌⊎◌, Result, Ok, Err}
-use Rattle.stab_io.specs.Devices.{OutputView, Took, CutOff}
+use Rattle.stab_io.specs.Devices.{OutputView, Took, CutOff, TookAndFlushed, TookAndFlushFailed}
 use Rattle.stab_io.specs.declared.refusal.Fault.{Fault}
 use Rattle.stab_io.specs.declared.refusal.Refusal.TheVariants.{WriteFault}
 use Rattle.stab_io.specs.Refusals.{whole}
-use Rattle.stab_report.specs.Endings.{TookAndFlushed, TookAndFlushFailed}
 use Rattle.stab_script.specs.declared.editor.Editor.{Editor}
 use Rattle.stab_script.specs.Scripts.{Environment, Request, Held, Answer, IsAnswerToAll}
 

@@ -18,7 +18,7 @@ abbrev pub SendsWay : {T : Type 0} → Items → (every : Bool) → Result PutIn
 SendsWay items every (Err refusal) old new r = (new ≡ old) × ((r ≡ Err (whole refusal)) ⊎ (r ≡ Err (whole OutOfMemory)))
 SendsWay items every (Ok put) old new r = SendsFound (IsWayText items every put) old new r
 
--- How a call of `propagate` with the words for a place and a string ends, over an input and an output; the string at every tick may be asked for.
+-- How a call of `propagate` with the words for where and for a string ends, over an input and an output; the string at every tick may be asked for.
 abbrev pub EndsPropagate : {T : Type 0} → (every : Bool) → (at word : List ℕ) → InputView → InputView → OutputView → OutputView → Result T Fault → Type 0
 EndsPropagate every at word i i' o o' r = Ends (λ _. o' ≡ o) (λ items. SendsWay items every (put_in_of (qubits_of items) items at word) o o') i i' r
 

@@ -2,7 +2,7 @@ pub mod ScriptWords
 pub mod CountedRequests
 pub mod CountedReplies
 pub mod Changes
-pub mod PlaceCounts
+pub mod ItemCounts
 pub mod CoinReplies
 pub mod Signs
 pub mod Words

@@ -1,14 +1,14 @@
 -- Script endings: how a call of `edit` ends that reads a circuit and then a script.
 -- Source: this project's own.
 use Rattle.std.specs.Prelude.{◌≡◌, ◌<◌, ◌≤◌, ◌+◌, ℕ, Bool, false, IsTrue, List, ◌++◌, length, take, ◌⊎◌, Option, Some, None, Result, Ok, Err}
-use Rattle.stab_io.specs.Devices.{InputView, OutputView, Gave, GaveAndFailed, GaveAll, Took, CutOff}
+use Rattle.stab_io.specs.Devices.{InputView, OutputView, Gave, GaveAndFailed, GaveAll, Took, CutOff, TookAndFlushed, TookAndFlushFailed}
 use Rattle.stab_io.specs.declared.refusal.Refusal.TheVariants.{TooLong, ReadFault, WriteFault}
 use Rattle.stab_io.specs.declared.refusal.Fault.{Fault}
 use Rattle.stab_io.specs.Refusals.{whole, IsCallFault}
 use Rattle.stab_items.specs.Items.{Items}
 use Rattle.stab_circuit.specs.Inputs.{most_read}
 use Rattle.stab_items.specs.Steps.{qubits_of, check_within}
-use Rattle.stab_report.specs.Endings.{Ends, TookAndFlushed, TookAndFlushFailed}
+use Rattle.stab_report.specs.Endings.{Ends}
 use Rattle.stab_report.specs.Sources.{coins_of_shot}
 use Rattle.stab_jobs.specs.declared.job.Source.{Source}
 use Rattle.stab_script.specs.Scripts.{Environment, Request, Held, Answer, IsPlainAnswer, IsAnswer, AreAnswers, held_at_first, requests_in, requests_of, most_script}

@@ -26,14 +26,14 @@ use Rattle.stab_report.specs.SingleErrorTables.{IsFirstRandom}
 use Rattle.stab_report.specs.Distances.{IsDistanceText}
 use Rattle.stab_jobs.specs.declared.job.DistanceOptions.{DistanceOptions}
 use Rattle.stab_jobs.specs.declared.job.ErrorLetters.TheVariants.{All}
-use Rattle.stab_items.specs.Places.{item_at}
+use Rattle.stab_items.specs.ItemsAt.{item_at}
 use Rattle.stab_items.specs.Splits.{split}
-use Rattle.stab_script.specs.ScriptWords.{first_word, after_word, place_of, Gathered, more, is_nothing}
+use Rattle.stab_script.specs.ScriptWords.{first_word, after_word, path_of_word, Gathered, more, is_nothing}
 use Rattle.stab_script.specs.CountedRequests as counted_asks
 use Rattle.stab_script.specs.CountedRequests.{CountedRequest, request_alone, bookmark, numbers, changed, changed_records, sign, round_number_of, counted_split, counted_show}
 use Rattle.stab_script.specs.CountedReplies.{text_found, reply_text, made_text, greeting, session_numbers, numbers_line}
 use Rattle.stab_script.specs.Changes.{no_bookmark, changed_text, changed_records_text}
-use Rattle.stab_script.specs.PlaceCounts.{place_text}
+use Rattle.stab_script.specs.ItemCounts.{counts_text}
 use Rattle.stab_script.specs.CoinReplies.{coins_shown, why_shown}
 use Rattle.stab_script.specs.Signs.{string_of_word, sign_in, sign_line}
 use Rattle.stab_script.specs.Words.{put_in_of}
@@ -43,7 +43,7 @@ use Rattle.stab_script.specs.declared.request.ItemEdit.TheVariants.{Insert, Repl
 use Rattle.stab_script.specs.declared.request.Show.{Show}
 use Rattle.stab_script.specs.declared.request.Show.TheVariants.{Measurements, Free, Detectors, Observables, Stabilisers, Circuit}
 
--- what a script asks for: that it begins; that the item of a text is put in at a place, or that the item at a place is deleted, or that
+-- what a script asks for: that it begins; that the item of a text is put in at a place, or that the item at a path is deleted, or that
 -- something is shown; what only a counted script asks for, which may be the bits that are the same for all random bits, or the distance up to
 -- this many errors; or nothing, if a line is refused
 pub data Request : Type 0 where
@@ -95,9 +95,9 @@ show_of word =
 -- what a first word and the rest after it ask for
 abbrev pub request_by : (word rest : List ℕ) → Request
 request_by word rest =
-    if bytes_eq word (codes "insert") then put_at Insert (place_of (first_word rest)) (after_word rest)
-    else if bytes_eq word (codes "replace") then put_at Replace (place_of (first_word rest)) (after_word rest)
-    else if bytes_eq word (codes "delete") then delete_at (place_of (first_word rest)) (after_word rest)
+    if bytes_eq word (codes "insert") then put_at Insert (path_of_word (first_word rest)) (after_word rest)
+    else if bytes_eq word (codes "replace") then put_at Replace (path_of_word (first_word rest)) (after_word rest)
+    else if bytes_eq word (codes "delete") then delete_at (path_of_word (first_word rest)) (after_word rest)
     else if bytes_eq word (codes "show") then show_of rest
     else if bytes_eq word (codes "mark") then counted_of (request_alone rest bookmark)
     else if bytes_eq word (codes "split") then counted_of (counted_split rest)
@@ -306,8 +306,8 @@ counted_shown n run held numbers = Ok (numbers_line (session_numbers n run held.
 counted_shown n run held changed = Ok (changed_text held.bookmark run)
 counted_shown n run held changed_records = Ok (changed_records_text held.bookmark run)
 counted_shown n run held (sign word) = text_found (λ p. sign_line (sign_in (member run.trace) p)) (string_of_word n word)
-counted_shown n run held (counted_asks.item place) = text_found (λ x. printed (before x done)) (item_at place (entries held.items))
-counted_shown n run held (counted_asks.counts place) = text_found (λ x. place_text place held.items) (item_at place (entries held.items))
+counted_shown n run held (counted_asks.item path) = text_found (λ x. printed (before x done)) (item_at path (entries held.items))
+counted_shown n run held (counted_asks.counts path) = text_found (λ x. counts_text path held.items) (item_at path (entries held.items))
 counted_shown n run held counted_asks.coin_table = Ok (coins_shown held.items)
 counted_shown n run held (counted_asks.why bit) = why_shown held.items bit
 counted_shown n run held (counted_asks.way at word) = text_found (way_text held.items false) (put_in_of n held.items at word)

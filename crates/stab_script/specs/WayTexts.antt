@@ -14,7 +14,7 @@ use Rattle.stab_ways.specs.Ways.{Turn, placed, string_turns}
 use Rattle.stab_ways.specs.Laws.{FlipsRun, coins_with}
 use Rattle.stab_report.specs.CoinTables.{whole_kinds}
 use Rattle.stab_report.specs.Distances.{where_text}
-use Rattle.stab_report.specs.Places.{path_at}
+use Rattle.stab_report.specs.ItemPaths.{path_at}
 use Rattle.stab_script.specs.Words.{PutIn}
 
 -- a letter on a qubit, as X3
@@ -30,7 +30,7 @@ abbrev pub string_text : List PlacedLetter → List ℕ
 string_text [] = codes "1"
 string_text (l ∷ letters) = placed_text l ++ flat_map factor_in_way letters
 
--- the line of a place and the string there: how many steps are before it, the path of the item of the last of them, and the string
+-- the line of a string: how many steps are before it, the path of the item of the last of them, and the string
 abbrev pub turn_line : Items → Turn → List ℕ
 turn_line items t = where_text t.after (path_at items (t.after - 1)) ++ (string_text t.string ++ codes "\n")
 
@@ -46,16 +46,16 @@ flips_line kinds bits = codes "flips" ++ (flat_map (entry kinds) (one_positions 
 abbrev pub left_line : List PlacedLetter → List ℕ
 left_line letters = codes "left " ++ (string_text letters ++ codes "\n")
 
--- a line for each item after which the string is another one, in each round, or for every tick from its place on; then what is flipped, and the
+-- a line for each item after which the string is another one, in each round, or for every tick from there on; then what is flipped, and the
 -- string at the end
 abbrev pub way_text : Items → (every : Bool) → PutIn → List ℕ
 way_text items every put =
-    flat_map (turn_line items) (string_turns every (length put.string) put.place put.string items)
-    ++ (flips_line (whole_kinds items) (bits_flipped items (string_flips (length put.string) put.place put.string (unroll items)))
-    ++ left_line (placed 0 (string_after (length put.string) put.place put.string (unroll items) (length (unroll items)))))
+    flat_map (turn_line items) (string_turns every (length put.string) put.steps put.string items)
+    ++ (flips_line (whole_kinds items) (bits_flipped items (string_flips (length put.string) put.steps put.string (unroll items)))
+    ++ left_line (placed 0 (string_after (length put.string) put.steps put.string (unroll items) (length (unroll items)))))
 
 -- The bytes are those of the way of a string; and the run with the string put in, and exactly the coins of the random outcomes that it flips
 -- exchanged, is the run without it, flipped so, and its state after each step is that of the other with the string there applied.
 pub record IsWayText (items : Items) (every : Bool) (put : PutIn) (bytes : List ℕ) : Type 0 where
   pub text : bytes ≡ way_text items every put
-  pub runs : (coins : ℕ → Bool) → FlipsRun (length put.string) put.place put.string (unroll items) coins (coins_with (length put.string) put.place put.string (unroll items) coins)
+  pub runs : (coins : ℕ → Bool) → FlipsRun (length put.string) put.steps put.string (unroll items) coins (coins_with (length put.string) put.steps put.string (unroll items) coins)

@@ -57,10 +57,10 @@ fn differ(first: bool, second: bool) -> bool
 pub fn push_changes(bits: &mut Vec<bool>, old: &[bool], new: &[bool]) -> Result<(), AllocError>
     ensures value { OnOk result (bits.new.items ≡ bits.old.items ++ changes_of old.now new.now) }
 {
-    let places = old.len().min(new.len());
-    bits.reserve(places)?;
-    'places: for place in 0..places {
-        bits.push(differ(old[place], new[place]))?;
+    let count = old.len().min(new.len());
+    bits.reserve(count)?;
+    'indices: for index in 0..count {
+        bits.push(differ(old[index], new[index]))?;
     }
     Ok(())
 }

@@ -75,16 +75,16 @@ pub(crate) fn way_reply(
     alloc: Global,
     circuit: &Circuit,
     every: bool,
-    place: usize,
+    steps: usize,
     string: &Pauli,
 ) -> Result<Reply, Refusal>
     requires checked { check_of (circuit_items circuit.now) ≡ None }
     requires fits { check_within (length string.now.letters) (circuit_items circuit.now) ≡ None }
-    ensures shows { IfOk result (λ r. r.written ≡ way_text (circuit_items circuit.now) every (record { place = place; string = string.now.letters })) }
-    ensures runs { IfOk result (λ r. (coins : ℕ → Bool) → FlipsRun (length string.now.letters) place string.now.letters (unroll (circuit_items circuit.now)) coins (coins_with (length string.now.letters) place string.now.letters (unroll (circuit_items circuit.now)) coins)) }
+    ensures shows { IfOk result (λ r. r.written ≡ way_text (circuit_items circuit.now) every (record { steps = steps; string = string.now.letters })) }
+    ensures runs { IfOk result (λ r. (coins : ℕ → Bool) → FlipsRun (length string.now.letters) steps string.now.letters (unroll (circuit_items circuit.now)) coins (coins_with (length string.now.letters) steps string.now.letters (unroll (circuit_items circuit.now)) coins)) }
     ensures err { IfErr result (λ r. r ≡ OutOfMemory) }
 {
-    let way = way_of(alloc, circuit, every, place, string)?;
+    let way = way_of(alloc, circuit, every, steps, string)?;
     let bits = bits_flipped(alloc, circuit, &way.end)?;
     let left = placed(alloc, way.end.letters())?;
     let mut reply = Reply::new(alloc);
@@ -95,7 +95,7 @@ pub(crate) fn way_reply(
     }
 }
 
-/// The way of the string of a word on n qubits, put in at the place of another, as the command `propagate` writes it.
+/// The way of the string of a word on n qubits, put in where another says, as the command `propagate` writes it.
 pub(crate) fn show_way(
     alloc: Global,
     circuit: &Circuit,
@@ -107,8 +107,8 @@ pub(crate) fn show_way(
     requires fits { check_within n (circuit_items circuit.now) ≡ None }
     ensures shows { GivesText result (text_found (way_text (circuit_items circuit.now) false) (put_in_of n (circuit_items circuit.now) at.now word.now)) }
 {
-    let (place, string) = read_put_in(alloc, circuit, n, at, word)?;
-    way_reply(alloc, circuit, false, place, &string)
+    let (steps, string) = read_put_in(alloc, circuit, n, at, word)?;
+    way_reply(alloc, circuit, false, steps, &string)
 }
 
 /// What a script asks of a distance.

@@ -3,10 +3,10 @@ ghost use Rattle.std.specs.Prelude.{◌≡◌, Some, IfOk, IfErr};
 ghost use Rattle.stab_io.specs.Refusals.{whole};
 ghost use Rattle.stab_io.specs.declared.refusal.Refusal.TheVariants.{OutOfMemory};
 ghost use Rattle.stab_script.specs.CountedRequests.{request_alone as alone_of, alone_with, item, counts, why, round_number_of, split_of, counted_split, changed_of, sign_of, way_asked, bit_by as bit_by_letter, bit_of_word, counted_show as shown_by};
-ghost use Rattle.stab_script.specs.ScriptWords.{first_word as first_of, after_word, place_of};
+ghost use Rattle.stab_script.specs.ScriptWords.{first_word as first_of, after_word, path_of_word};
 ghost use Rattle.stab_script.specs.Requests.{counted_asked, counted_if_any};
 
-use crate::place::{first_word, place_number, read_place};
+use crate::paths::{first_word, path_number, read_path};
 use stab_circuit::Path;
 use stab_io::Fault;
 use stab_report::Bit;
@@ -27,15 +27,15 @@ pub enum CountedRequest {
     ChangedRecords,
     /// The sign of the Pauli string of a word.
     Sign(Vec<u8>),
-    /// The item at a place.
+    /// The item at a path.
     Item(Path),
     /// Where that is in the unrolled circuit.
-    Place(Path),
+    Counts(Path),
     /// The table of coins.
     Coins,
     /// The coins that decide a detector or an observable.
     Why(Bit),
-    /// The way of the string of a word, put in at the place of another.
+    /// The way of the string of a word, put in where another says.
     Way { at: Vec<u8>, string: Vec<u8> },
 }
 
@@ -50,7 +50,7 @@ pub(crate) fn alone(rest: &[u8], request: CountedRequest) -> Option<CountedReque
 pub fn read_round(word: &[u8]) -> Option<u64>
     ensures value { result ≡ round_number_of word.now }
 {
-    match place_number(word) {
+    match path_number(word) {
         None => None,
         Some(number) => Some(number as u64),
     }
@@ -72,7 +72,7 @@ pub(crate) fn read_split(rest: &[u8]) -> Option<CountedRequest>
     ensures value { counted_if_any result ≡ counted_split rest.now }
 {
     let (word, rest) = first_word(rest);
-    match read_place(word) {
+    match read_path(word) {
         None => None,
         Some(place) => read_split_at(place, rest),
     }
@@ -101,7 +101,7 @@ fn read_sign(alloc: Global, word: &[u8], rest: &[u8]) -> Result<Option<CountedRe
     Ok(alone(rest, CountedRequest::Sign(word)))
 }
 
-/// The way of the string of a word, put in at the place of another.
+/// The way of the string of a word, put in where another says.
 fn read_way(
     alloc: Global,
     at: &[u8],
@@ -119,25 +119,25 @@ fn read_way(
     Ok(alone(rest, CountedRequest::Way { at, string }))
 }
 
-/// The item at a place.
+/// The item at a path.
 fn read_item_at(rest: &[u8]) -> Option<CountedRequest>
-    ensures value { counted_if_any result ≡ alone_with item (place_of (first_of rest.now)) (after_word rest.now) }
+    ensures value { counted_if_any result ≡ alone_with item (path_of_word (first_of rest.now)) (after_word rest.now) }
 {
     let (word, rest) = first_word(rest);
-    match read_place(word) {
+    match read_path(word) {
         None => None,
-        Some(place) => alone(rest, CountedRequest::Item(place)),
+        Some(path) => alone(rest, CountedRequest::Item(path)),
     }
 }
 
-/// Where the item at a place is in the unrolled circuit.
+/// Where the item at a path is in the unrolled circuit.
 fn read_counts_at(rest: &[u8]) -> Option<CountedRequest>
-    ensures value { counted_if_any result ≡ alone_with counts (place_of (first_of rest.now)) (after_word rest.now) }
+    ensures value { counted_if_any result ≡ alone_with counts (path_of_word (first_of rest.now)) (after_word rest.now) }
 {
     let (word, rest) = first_word(rest);
-    match read_place(word) {
+    match read_path(word) {
         None => None,
-        Some(place) => alone(rest, CountedRequest::Place(place)),
+        Some(path) => alone(rest, CountedRequest::Counts(path)),
     }
 }
 
@@ -159,7 +159,7 @@ fn read_bit(word: &[u8]) -> Option<Bit>
     if word.is_empty() {
         return None;
     }
-    match place_number(&word[1..]) {
+    match path_number(&word[1..]) {
         None => None,
         Some(number) => bit_by(word[0], number),
     }

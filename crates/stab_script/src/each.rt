@@ -18,7 +18,7 @@ use stab_circuit::{Circuit, read_circuit};
 use stab_io::{Fault, Input, Output, Refusal, write_all};
 use stab_pauli::Letter;
 use stab_regions::{EffectTable, single_error_effects};
-use stab_report::{PlacedSingleError, finish, placed_single_errors, write_place};
+use stab_report::{PlacedSingleError, finish, placed_single_errors, write_single_error};
 use stab_results::write_entries;
 use stab_ways::PlacedLetter;
 use stab_ways::laws::strings_flip_runs;
@@ -36,7 +36,7 @@ fn write_error<O: Output>(
     ensures writes { WritesAll (O.seen out.old) (O.seen out.new) (numbered_text (circuit_items circuit.now) (single_error_placed single_error) flipped.now left.now) result }
 {
     let path = path_of(circuit, single_error.step);
-    write_place(
+    write_single_error(
         out,
         single_error.before,
         &path,
@@ -218,7 +218,7 @@ fn send_each<O: Output>(
 }
 
 /// Reads a circuit, and writes for each error that it marks, or for errors `everywhere`, what it flips and leaves: a Pauli X or Z at a
-/// place, as `run_faults` takes them and in that order, each with a line: how many steps are in front of it, the path of its item, its letter and
+/// site, as `run_faults` takes them and in that order, each with a line: how many steps are in front of it, the path of its item, its letter and
 /// qubit, the records, detectors and observables that it flips, and the string at the end, as `1207 3/0/2 X17 M3 D24 L0 left X3*Z4`.
 ///
 /// Each is what `run_propagate` writes of that letter there. Memory may be refused after some lines. Reading, the flush and the other

@@ -5,18 +5,18 @@
 //! In the order in which data flows; each module uses only those before it:
 //!
 //! - `gathered`: texts that are gathered up to a limit.
-//! - `place`: places, and the numbers that stand for them.
+//! - `paths`: paths, and the numbers that stand for them.
 //! - `counted`: what only a counted script asks for.
 //! - `request`: what a line asks for.
 //! - `reader`: what is known between two bytes of a script.
 //! - `reply`: replies to requests.
 //! - `changes`: the bits at a bookmark, and what changed since.
-//! - `place_counts`: where the steps of an item are in the unrolled circuit.
+//! - `item_counts`: where the steps of an item are in the unrolled circuit.
 //! - `signs`: the Pauli strings of words.
 //! - `editor`: a script as it comes, and each reply written in one go.
 //! - `watcher`: how a script is read beside the output of its replies.
 //! - `logged_input`: an input in memory that keeps a log of such reads.
-//! - `words`: the place and the string that the words of a command line or a script ask about.
+//! - `words`: where a string is put in, and the string, that the words of a command line or a script ask about.
 //! - `lines`: the way of a string as lines.
 //! - `circuit_replies`: what a script asks of its circuit as a whole: deterministic bits, coins, the way of a string and the distance.
 //! - `bookmarks`: the bits that changes are counted from.
@@ -31,7 +31,7 @@
 //! Proved: the bytes that an `Editor` takes ask for the requests that `specs/Scripts.antt` gives, and when
 //! the call returns exactly the replies to them are written, each as `IsAnswer` there says; if the output
 //! failed or the answer is 20, a first part of these (`specs/Editors.antt`). Replies have the texts
-//! that `CountedReplies`, `Changes`, `PlaceCounts`, `Signs` and `WayTexts` of `specs/` give.
+//! that `CountedReplies`, `Changes`, `ItemCounts`, `Signs` and `WayTexts` of `specs/` give.
 //!
 //! Proved: `edit_circuit` writes exactly the replies that `specs/Scripts.antt` gives for the script and the
 //! circuit's items, or ends by its own cases (`specs/ScriptEndings.antt`), and they are those of one answer, of which the reply to
@@ -49,11 +49,11 @@ mod each;
 mod edit;
 mod editor;
 mod gathered;
+mod item_counts;
 pub mod laws;
 mod lines;
 mod logged_input;
-mod place;
-mod place_counts;
+mod paths;
 mod propagate;
 mod reader;
 mod reply;
@@ -69,9 +69,9 @@ pub use counted::{CountedRequest, read_round};
 pub use each::run_propagate_each;
 pub use edit::{run_edit, run_edit_watched};
 pub use editor::{Answer, Answered, Editor};
+pub use item_counts::show_counts;
 pub use logged_input::{KeepsLog, LoggedInput, LoggedRead};
-pub use place::read_place;
-pub use place_counts::show_place;
+pub use paths::read_path;
 pub use propagate::run_propagate;
 pub use reader::ScriptReader;
 pub use reply::{Reply, SessionNumbers, memory};

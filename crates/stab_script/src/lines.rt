@@ -5,7 +5,7 @@ ghost use Rattle.stab_io.specs.Devices.{WritesAll};
 ghost use Rattle.stab_items.specs.Steps.{check_of};
 ghost use Rattle.stab_items.specs.Views.{circuit_items};
 ghost use Rattle.stab_report.specs.CoinTables.{whole_kinds as kinds_of_all};
-ghost use Rattle.stab_report.specs.Places.{path_at};
+ghost use Rattle.stab_report.specs.ItemPaths.{path_at};
 ghost use Rattle.stab_ways.specs.Ways.{turn_shown};
 ghost use Rattle.stab_script.specs.WayTexts.{bits_flipped as flipped_of, factor_in_way, flips_line, left_line, placed_text, string_text, turn_line};
 

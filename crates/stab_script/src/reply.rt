@@ -11,7 +11,7 @@ ghost use Rattle.stab_results.specs.Formats.{f01_bytes, dets_bytes, detector_bit
 ghost use Rattle.stab_report.specs.FaultLines.{refused_text};
 ghost use Rattle.stab_report.specs.Rows.{lines_of};
 ghost use Rattle.stab_script.specs.Changes.{counted_line, entries_line};
-ghost use Rattle.stab_script.specs.PlaceCounts.{place_line, two_numbers};
+ghost use Rattle.stab_script.specs.ItemCounts.{counts_line, two_numbers};
 ghost use Rattle.stab_script.specs.CountedReplies.{greeting as greeting_of, lines_in, made_text, numbers_line, reply_text};
 ghost use Rattle.stab_script.specs.Signs.{sign_line};
 ghost use Rattle.stab_report.specs.Texts.{texts_joined};
@@ -210,9 +210,9 @@ impl Reply {
         }
     }
 
-    /// The line of the steps before a place and of those at it.
-    pub(crate) fn place(alloc: Global, before: StepCounts, own: StepCounts) -> Result<Reply, Fault>
-        ensures written { IfOk result (λ r. r.written ≡ place_line before own) }
+    /// The line of the steps before an item and of those at it.
+    pub(crate) fn counts(alloc: Global, before: StepCounts, own: StepCounts) -> Result<Reply, Fault>
+        ensures written { IfOk result (λ r. r.written ≡ counts_line before own) }
         ensures err { IfErr result (λ f. f ≡ whole OutOfMemory) }
     {
         let mut reply = Reply::new(alloc);

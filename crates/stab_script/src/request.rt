@@ -3,12 +3,12 @@ ghost use Rattle.std.specs.Prelude.{◌≡◌, Some, IfOk, IfErr};
 ghost use Rattle.stab_io.specs.Refusals.{whole};
 ghost use Rattle.stab_io.specs.declared.refusal.Refusal.TheVariants.{OutOfMemory};
 ghost use Rattle.stab_script.specs.CountedRequests.{round_number_of};
-ghost use Rattle.stab_script.specs.ScriptWords.{first_word as first_of, after_word, place_of};
+ghost use Rattle.stab_script.specs.ScriptWords.{first_word as first_of, after_word, path_of_word};
 ghost use Rattle.stab_script.specs.Scripts.{put_at as put_of, delete_at as delete_of, distance_of, counted_of, show_by, show_of, request_by as by_word, request_of};
 ghost use Rattle.stab_script.specs.Requests.{request_asked, counted_if_any};
 
 use crate::counted::{CountedRequest, alone, read_counted_show, read_split};
-use crate::place::{first_word, place_number, read_place};
+use crate::paths::{first_word, path_number, read_path};
 use stab_circuit::Path;
 use stab_io::{Fault, Refusal};
 use std::alloc::Global;
@@ -16,9 +16,9 @@ use std::alloc::Global;
 /// An edit that puts an item in.
 #[derive(Clone, Copy, Debug, PartialEq, Eq)]
 pub enum ItemEdit {
-    /// Before the item at a place, or last in its list.
+    /// Before the item at a path, or last in its list.
     Insert,
-    /// In place of the item at a place.
+    /// In place of the item at a path.
     Replace,
 }
 
@@ -50,7 +50,7 @@ pub enum Request {
         place: Path,
         text: Vec<u8>,
     },
-    /// That the item at a place is deleted.
+    /// That the item at a path is deleted.
     Delete {
         place: Path,
     },
@@ -72,11 +72,11 @@ pub enum Request {
 
 /// An edit that puts an item in, by what follows its word: a place and a text.
 fn put_at(alloc: Global, edit: ItemEdit, rest: &[u8]) -> Result<Request, Fault>
-    ensures gives { IfOk result (λ r. request_asked r ≡ put_of edit (place_of (first_of rest.now)) (after_word rest.now)) }
+    ensures gives { IfOk result (λ r. request_asked r ≡ put_of edit (path_of_word (first_of rest.now)) (after_word rest.now)) }
     ensures err { IfErr result (λ f. f ≡ whole OutOfMemory) }
 {
     let (word, text) = first_word(rest);
-    match read_place(word) {
+    match read_path(word) {
         None => Ok(Request::Refuse(Refusal::BadCommand)),
         Some(place) => {
             if text.is_empty() {
@@ -90,10 +90,10 @@ fn put_at(alloc: Global, edit: ItemEdit, rest: &[u8]) -> Result<Request, Fault>
 
 /// A deletion, by what follows its word: a place alone.
 fn delete_at(rest: &[u8]) -> Request
-    ensures value { request_asked result ≡ delete_of (place_of (first_of rest.now)) (after_word rest.now) }
+    ensures value { request_asked result ≡ delete_of (path_of_word (first_of rest.now)) (after_word rest.now) }
 {
     let (word, text) = first_word(rest);
-    match read_place(word) {
+    match read_path(word) {
         None => Request::Refuse(Refusal::BadCommand),
         Some(place) => {
             if text.is_empty() {
@@ -139,7 +139,7 @@ fn read_distance(rest: &[u8]) -> Request
     ensures value { request_asked result ≡ distance_of (round_number_of (first_of rest.now)) (after_word rest.now) }
 {
     let (word, rest) = first_word(rest);
-    match place_number(word) {
+    match path_number(word) {
         None => Request::Refuse(Refusal::BadCommand),
         Some(most) => distance_up_to(most, rest),
     }

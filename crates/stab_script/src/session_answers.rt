@@ -4,7 +4,7 @@ use crate::changes::{BookmarkedBits, push_changes};
 use crate::circuit_replies::{show_coins, show_deterministic, show_distance, show_way, show_why};
 use crate::counted::CountedRequest;
 use crate::editor::{Answer, Answered};
-use crate::place_counts::show_place;
+use crate::item_counts::show_counts;
 use crate::reply::{Reply, SessionNumbers, memory};
 use crate::request::{ItemEdit, Request, Show};
 use crate::signs::read_string;
@@ -42,7 +42,7 @@ impl<C: Coins> SessionAnswers<C> {
     ghost use Rattle.stab_io.specs.declared.refusal.Refusal.TheVariants.{OutOfMemory};
     ghost use Rattle.stab_tableau.specs.Traces.{member};
     ghost use Rattle.stab_items.specs.Items.{before, done, entries};
-    ghost use Rattle.stab_items.specs.Places.{item_at};
+    ghost use Rattle.stab_items.specs.ItemsAt.{item_at};
     ghost use Rattle.stab_items.specs.Prints.{printed};
     ghost use Rattle.stab_items.specs.Splits.{split as split_list};
     ghost use Rattle.stab_report.specs.FaultLines.{refused_text};
@@ -52,7 +52,7 @@ impl<C: Coins> SessionAnswers<C> {
     ghost use Rattle.stab_script.specs.CoinReplies.{coins_shown, why_shown};
     ghost use Rattle.stab_script.specs.Words.{put_in_of};
     ghost use Rattle.stab_script.specs.WayTexts.{way_text};
-    ghost use Rattle.stab_script.specs.PlaceCounts.{place_text};
+    ghost use Rattle.stab_script.specs.ItemCounts.{counts_text};
     ghost use Rattle.stab_script.specs.Signs.{string_of_word, sign_in, sign_line};
     ghost use Rattle.stab_script.specs.Scripts.{IsDistanceAnswer, IsPut, IsDeterministicAnswer, decided, edited_items, edit_of, first_bookmark as first_bookmark_of, counted_answer, counted_shown, held_after, held_split, options_asked};
     ghost use Rattle.stab_script.specs.CountedAnswers.{GivesText};
@@ -173,24 +173,24 @@ impl<C: Coins> SessionAnswers<C> {
         memory(Reply::sign(self.alloc, sign))
     }
 
-    /// The text of the item at a place.
-    fn item(&self, place: Path) -> Result<Reply, Refusal>
-        ensures shows { GivesText result (text_found (λ x. printed (before x done)) (item_at place (entries self.now.session.items))) }
+    /// The text of the item at a path.
+    fn item(&self, path: Path) -> Result<Reply, Refusal>
+        ensures shows { GivesText result (text_found (λ x. printed (before x done)) (item_at path (entries self.now.session.items))) }
     {
-        let item = self.session.circuit().item(place)?;
+        let item = self.session.circuit().item(path)?;
         memory(Reply::item(self.alloc, item))
     }
 
-    /// Where the item at a place is in the unrolled circuit.
-    #[tactic(auto, using(crate::proofs::PlaceCountLaws::session_checked))]
-    fn place(&self, place: Path) -> Result<Reply, Refusal>
-        ensures shows { GivesText result (text_found (λ x. place_text place self.now.session.items) (item_at place (entries self.now.session.items))) }
+    /// Where the item at a path is in the unrolled circuit.
+    #[tactic(auto, using(crate::proofs::ItemCountLaws::session_checked))]
+    fn counts(&self, path: Path) -> Result<Reply, Refusal>
+        ensures shows { GivesText result (text_found (λ x. counts_text path self.now.session.items) (item_at path (entries self.now.session.items))) }
     {
-        show_place(self.alloc, self.session.circuit(), place)
+        show_counts(self.alloc, self.session.circuit(), path)
     }
 
     /// The table of coins.
-    #[tactic(auto, using(crate::proofs::PlaceCountLaws::session_checked))]
+    #[tactic(auto, using(crate::proofs::ItemCountLaws::session_checked))]
     fn coins(&self) -> Result<Reply, Fault>
         ensures shows { IfOk result (λ r. r.written ≡ coins_shown self.now.session.items) }
         ensures err { IfErr result (λ f. f ≡ whole OutOfMemory) }
@@ -199,15 +199,15 @@ impl<C: Coins> SessionAnswers<C> {
     }
 
     /// The coins that decide a detector or an observable.
-    #[tactic(auto, using(crate::proofs::PlaceCountLaws::session_checked))]
+    #[tactic(auto, using(crate::proofs::ItemCountLaws::session_checked))]
     fn why(&self, bit: Bit) -> Result<Reply, Refusal>
         ensures shows { GivesText result (why_shown self.now.session.items bit) }
     {
         show_why(self.alloc, self.session.circuit(), bit)
     }
 
-    /// The way of the string of a word, put in at the place of another.
-    #[tactic(auto, using(crate::proofs::PlaceCountLaws::session_checked, crate::proofs::WayReplyLemmas::session_fits))]
+    /// The way of the string of a word, put in where another says.
+    #[tactic(auto, using(crate::proofs::ItemCountLaws::session_checked, crate::proofs::WayReplyLemmas::session_fits))]
     fn way(&self, at: &[u8], word: &[u8]) -> Result<Reply, Refusal>
         ensures shows { GivesText result (text_found (way_text self.now.session.items false) (put_in_of self.now.session.qubits self.now.session.items at.now word.now)) }
     {
@@ -260,8 +260,8 @@ impl<C: Coins> SessionAnswers<C> {
             CountedRequest::Changed => memory(self.changed()),
             CountedRequest::ChangedRecords => memory(self.changed_records()),
             CountedRequest::Sign(word) => self.sign(word.as_slice()),
-            CountedRequest::Item(place) => self.item(*place),
-            CountedRequest::Place(place) => self.place(*place),
+            CountedRequest::Item(path) => self.item(*path),
+            CountedRequest::Counts(path) => self.counts(*path),
             CountedRequest::Coins => memory(self.coins()),
             CountedRequest::Why(bit) => self.why(*bit),
             CountedRequest::Way { at, string } => self.way(at.as_slice(), string.as_slice()),
@@ -292,7 +292,7 @@ impl<C: Coins> SessionAnswers<C> {
 
     /// The answer to a request for the bits that are the same for all random bits, which only a counted
     /// script may make.
-    #[tactic(auto, using(crate::proofs::PlaceCountLaws::session_checked))]
+    #[tactic(auto, using(crate::proofs::ItemCountLaws::session_checked))]
     fn answer_deterministic(&self) -> Result<Answered, Fault>
         ensures answers { IfOk result (λ a. IsDeterministicAnswer self.now.counted (held_of self.now.session self.now.bookmark) (answered (held_of self.now.session self.now.bookmark) a.reply.written a.refused)) }
         ensures err { IfErr result (λ f. f ≡ whole OutOfMemory) }
@@ -309,7 +309,7 @@ impl<C: Coins> SessionAnswers<C> {
     }
 
     /// The answer to a request for a distance, which only a counted script may make.
-    #[tactic(auto, using(crate::proofs::PlaceCountLaws::session_checked, crate::proofs::DistanceLaws::distance_reported, crate::proofs::DistanceLaws::distance_refused))]
+    #[tactic(auto, using(crate::proofs::ItemCountLaws::session_checked, crate::proofs::DistanceLaws::distance_reported, crate::proofs::DistanceLaws::distance_refused))]
     fn answer_distance(&self, everywhere: bool, most: usize) -> Result<Answered, Fault>
         ensures answers { IfOk result (λ a. IsDistanceAnswer self.now.counted (held_of self.now.session self.now.bookmark) (options_asked everywhere most) (answered (held_of self.now.session self.now.bookmark) a.reply.written a.refused)) }
         ensures err { IfErr result (λ f. f ≡ whole OutOfMemory) }

@@ -1,4 +1,4 @@
-//! The place and the string that the words of a command line or a script ask about.
+//! Where a string is put in, and the string, that the words of a command line or a script ask about.
 ghost use Rattle.std.specs.Prelude.{◌≡◌, None, IfOk, length};
 ghost use Rattle.stab_items.specs.Steps.{check_of, unroll};
 ghost use Rattle.stab_items.specs.Views.{circuit_items};
@@ -7,7 +7,7 @@ ghost use Rattle.stab_script.specs.CountedRequests.{round_number_of};
 ghost use Rattle.stab_script.specs.Words.{GivesPutIn, is_end, put_in_of, steps_in_front, steps_of_word, steps_written};
 
 use crate::counted::read_round;
-use crate::place::read_place;
+use crate::paths::read_path;
 use crate::signs::read_string;
 use stab_circuit::{Circuit, Path};
 use stab_io::Refusal;
@@ -21,7 +21,7 @@ fn steps_written(circuit: &Circuit, number: Option<u64>) -> Result<usize, Refusa
 {
     match number {
         None => Err(Refusal::BadArguments),
-        Some(place) if place <= circuit.steps() as u64 => Ok(place as usize),
+        Some(asked) if asked <= circuit.steps() as u64 => Ok(asked as usize),
         Some(_) => Err(Refusal::PlaceOutOfRange),
     }
 }
@@ -30,7 +30,7 @@ fn steps_written(circuit: &Circuit, number: Option<u64>) -> Result<usize, Refusa
 fn is_end(circuit: &Circuit, path: &Path) -> bool
     ensures value { result ≡ is_end path.now (circuit_items circuit.now) }
 {
-    path.blocks().is_empty() && path.place() == circuit.items().len()
+    path.blocks().is_empty() && path.position() == circuit.items().len()
 }
 
 /// How many steps are before the item at a path, in the first round of each block around it, or all at the end of a circuit.
@@ -48,7 +48,7 @@ fn steps_in_front(circuit: &Circuit, path: Option<Path>) -> Result<usize, Refusa
     Ok(circuit.steps_before(path).min(circuit.steps()))
 }
 
-/// How many steps are before the place of a word: as many as it writes after `@`, as in `@1207`, or those before the item that
+/// How many steps are before where a word says: as many as it writes after `@`, as in `@1207`, or those before the item that
 /// it goes to, as `3/0/2` does, in the first round of each block around it; the number of items is the end.
 ///
 /// Refusals: `BadArguments` if it is no such word, `PlaceOutOfRange` and `NotABlock`.
@@ -59,10 +59,10 @@ fn read_steps(circuit: &Circuit, word: &[u8]) -> Result<usize, Refusal>
     if !word.is_empty() && word[0] == b'@' {
         return steps_written(circuit, read_round(&word[1..]));
     }
-    steps_in_front(circuit, read_place(word))
+    steps_in_front(circuit, read_path(word))
 }
 
-/// How many steps are before the place of a word, and the string of another one, on n qubits.
+/// How many steps are before where a word says, and the string of another one, on n qubits.
 ///
 /// Refusals: those of `read_steps`, and after them those of `read_string`.
 pub(crate) fn read_put_in(
@@ -76,7 +76,7 @@ pub(crate) fn read_put_in(
     ensures gives { GivesPutIn result (put_in_of n (circuit_items circuit.now) at.now word.now) }
     ensures size { IfOk result (λ r. length r.1.letters ≡ n) }
 {
-    let place = read_steps(circuit, at)?;
+    let steps = read_steps(circuit, at)?;
     let string = read_string(alloc, n, word)?;
-    Ok((place, string))
+    Ok((steps, string))
 }

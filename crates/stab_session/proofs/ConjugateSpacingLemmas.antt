@@ -39,12 +39,12 @@ moved-on K L total step s (c ∷ cs) end total_is few order (Some d) is stays ne
     let here : (s.old_end ≤ c.step) × (moved s.old_end s.new_end c.step ≤ step + K) =
     subst (λ (x : Checkpoint). (s.old_end ≤ x.step) × (moved s.old_end s.new_end x.step ≤ step + K)) (sym same) stays in
     let following : s.old_end ≤ c.step = here.0 in
-    let place : moved s.old_end s.new_end c.step ≡ s.new_end + (c.step - s.old_end) =
+    let there : moved s.old_end s.new_end c.step ≡ s.new_end + (c.step - s.old_end) =
     moved-within s.old_end s.new_end c.step L (near-le K L c.step (checkpoint_steps cs) near) (omega (arith, total_is, few)) in (
-      omega (arith, place, order),
+      omega (arith, there, order),
       here.1,
       subst (λ t. Near K (moved s.old_end s.new_end c.step ∷ map (moved s.old_end s.new_end) (checkpoint_steps cs) ++ t ∷ [])) (sym total_is)
-          (subst (λ t. Near K (t ∷ map (moved s.old_end s.new_end) (checkpoint_steps cs) ++ (s.new_end + (L - s.old_end)) ∷ [])) (sym place)
+          (subst (λ t. Near K (t ∷ map (moved s.old_end s.new_end) (checkpoint_steps cs) ++ (s.new_end + (L - s.old_end)) ∷ [])) (sym there)
           (near-moved K s.old_end s.new_end L c.step (checkpoint_steps cs) following near (omega (arith, total_is, few)))),
     )
 

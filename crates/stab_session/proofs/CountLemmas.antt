@@ -112,13 +112,13 @@ module _ (n : ℕ) (coins : ℕ → Bool) (K : ℕ) (xs : List Step) (count : �
           let c = found.checkpoint in
           let after = found.following in
           let near = found.near in
-          let place = placed p old_end new_end few c (at-get (IsCheckpoint n coins xs) old.checkpoints.items found.number c preserved.checkpoints found.here) in
+          let site = placed p old_end new_end few c (at-get (IsCheckpoint n coins xs) old.checkpoints.items found.number c preserved.checkpoints found.here) in
           elim (cases_lt (step_among_new p c) end) [
             | inl lt ↦
                 absurd (not-missed p old_end new_end few found.number c found.here (omega (arith, after)) (agree-at far agree c after)
                 (some-at (λ c. step_among_new p c < end → Misses n coins p ys old.outputs.records.items c) old.checkpoints.items found.number c found.here
                 (soon found.number found.from) lt))
-            | inr le ↦ omega (arith, le, place, near, after)
+            | inr le ↦ omega (arith, le, site, near, after)
           ]
 
   pub few-steps : (p : Plan) → p.old_end ≡ s.old_end → p.new_end ≡ s.new_end → length ys < 2 ^ 64 → (m e : ℕ) → IsBefore K (length xs) s.first m old.checkpoints.items
@@ -139,8 +139,8 @@ module _ (n : ℕ) (coins : ℕ → Bool) (K : ℕ) (xs : List Step) (count : �
 
   -- where it ends: at an old checkpoint with a number, or after the last step if there is none
 
-  checkpoint-place : (k : ℕ) (c : Checkpoint) → slice_get old.checkpoints.items k ≡ Some c → length ys < 2 ^ 64 → moved s.old_end s.new_end c.step ≡ s.new_end + (c.step - s.old_end)
-  checkpoint-place k c here few =
+  checkpoint-moved : (k : ℕ) (c : Checkpoint) → slice_get old.checkpoints.items k ≡ Some c → length ys < 2 ^ 64 → moved s.old_end s.new_end c.step ≡ s.new_end + (c.step - s.old_end)
+  checkpoint-moved k c here few =
       let w = (at-get (IsCheckpoint n coins xs) old.checkpoints.items k c preserved.checkpoints here).within in
       moved-within s.old_end s.new_end c.step (length xs) w (omega (arith, rest, few))
 
@@ -150,7 +150,7 @@ module _ (n : ℕ) (coins : ℕ → Bool) (K : ℕ) (xs : List Step) (count : �
       at-stop : (o : Option Checkpoint) → slice_get old.checkpoints.items q ≡ o → conjugated_end s (length ys) o ≤ length ys
       at-stop None is = omega arith
       at-stop (Some d) is =
-          let w = (at-get (IsCheckpoint n coins xs) old.checkpoints.items q d preserved.checkpoints is).within in omega (arith, checkpoint-place q d is few, rest, w)
+          let w = (at-get (IsCheckpoint n coins xs) old.checkpoints.items q d preserved.checkpoints is).within in omega (arith, checkpoint-moved q d is few, rest, w)
 
   -- later checkpoints are not before that
   pub stop-order : (p : Plan) → p.old_end ≡ s.old_end → p.new_end ≡ s.new_end → length ys < 2 ^ 64 → (q k : ℕ) (c : Checkpoint) → q ≤ k → slice_get old.checkpoints.items k ≡ Some c
@@ -189,7 +189,7 @@ module _ (n : ℕ) (coins : ℕ → Bool) (K : ℕ) (xs : List Step) (count : �
           inr (
             q,
             subst (λ o. IsSomeAnd o (λ c. MayBeMet s.first s.old_end c × (moved s.old_end s.new_end d.step ≡ s.new_end + (c - s.old_end)) × AgreeBackAfterSpan n coins xs ys s (c - s.old_end)))
-                (sym here) ((omega (arith, after.0), after.1), checkpoint-place q d is few, agree d is),
+                (sym here) ((omega (arith, after.0), after.1), checkpoint-moved q d is few, agree d is),
           )
 
   -- checkpoints from the first on that may be met are after what was changed
@@ -252,10 +252,10 @@ module _ (n : ℕ) (coins : ℕ → Bool) (K : ℕ) (xs : List Step) (count : �
 
       not-there : (c : Checkpoint) → slice_get old.checkpoints.items number ≡ Some c → NotThere c.step
       not-there c is may before agree =
-          let place = placed p old_end new_end few c (at-get (IsCheckpoint n coins xs) old.checkpoints.items number c preserved.checkpoints is) in
+          let site = placed p old_end new_end few c (at-get (IsCheckpoint n coins xs) old.checkpoints.items number c preserved.checkpoints is) in
           not-missed p old_end new_end few number c is may.1 agree
           (some-at (λ c. step_among_new p c < end → Misses n coins p ys old.outputs.records.items c) old.checkpoints.items number c is
-          (soon number (may-meet c is may.0 may.1)) (omega (arith, place, before)))
+          (soon number (may-meet c is may.0 may.1)) (omega (arith, site, before)))
 
   module _ (m : ℕ) (b : IsBefore K (length xs) s.first m old.checkpoints.items) (begin end applied : ℕ)
       (at : IfSome (slice_get old.checkpoints.items (m - 1)) (λ c. begin ≡ c.step)) (counted : applied + begin ≡ end)

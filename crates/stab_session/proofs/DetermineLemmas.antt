@@ -1,5 +1,5 @@
 -- What a propagated frame says: from what was made of a recording to the run of the new steps.
-use Rattle.stab_session.proofs.Names.{◌≡◌, ℕ, ◌+◌, ◌-◌, ◌^◌, ◌<◌, ◌≤◌, refl, sym, ◌∙◌, ap, subst, Bool, List, [], ◌∷◌, ◌++◌, length, take, drop, All, Option, Some, None, arith, IfSome, All-append, All-drop, All-take, Letter, Step, Span, Lengths, ones, RunOutput, origin, joined, point_after, outputs, lengths_of, front_of, rest_of, StepFits, output_of, flipped_output, unflipped, pivot_at, Checkpoint, IsCheckpoint, checkpoint_steps, Near, last_of, moved, moved_lengths, HasAtMost, outputs-short, length-take, KeepsPivotList, DifferByPaulis, DifferAtSites, IsFrameBetween, IsBeforeSites, PauliChange, Recording, PastSites, Conjugating, Followed, IsRecording, IsSpan, Follows, IsCheckpointCount, conjugated_end, StaysNear, IsPastSites, IsConjugating, IsPutInPlace, HasConjugated, span_meeting, checkpoints_conjugated, no_lengths}
+use Rattle.stab_session.proofs.Names.{◌≡◌, ℕ, ◌+◌, ◌-◌, ◌^◌, ◌<◌, ◌≤◌, refl, sym, ◌∙◌, ap, subst, Bool, List, [], ◌∷◌, ◌++◌, length, take, drop, All, Option, Some, None, arith, IfSome, All-append, All-drop, All-take, Letter, Step, Span, Lengths, ones, RunOutput, origin, joined, point_after, outputs, lengths_of, front_of, rest_of, StepFits, output_of, flipped_output, unflipped, pivot_at, Checkpoint, IsCheckpoint, checkpoint_steps, Near, last_of, moved, moved_lengths, HasAtMost, outputs-short, length-take, KeepsPivotList, DifferByPaulis, DifferAtSites, IsFrameBetween, IsBeforeSites, PauliChange, Recording, PastSites, Conjugating, Followed, IsRecording, IsSpan, Follows, IsCheckpointCount, conjugated_end, StaysNear, IsPastSites, IsConjugating, IsTakenOver, HasConjugated, span_meeting, checkpoints_conjugated, no_lengths}
 use Rattle.std.specs.Prelude.{slice_get}
 use Rattle.stab_session.proofs.FrameBetweenLemmas.{between-first}
 use Rattle.stab_session.proofs.PauliSpanLemmas.{span-near, span-true, span-true-all, span-randomness}
@@ -158,7 +158,7 @@ pub has-conjugated-here : {coins : ℕ → Bool} {K : ℕ} {ys : List Step} {s :
     → length ys ≤ 1048576 → IsCheckpointCount (s.first + 1) old.checkpoints.items m → AreInside s old.checkpoints.items m j → (c : Checkpoint) → slice_get old.checkpoints.items (m - 1) ≡ Some c
     → (p : PastSites) → IsPastSites ys s m j change old p.from p.propagation p.checkpoints.items → (last : ℕ) → Near K (c.step ∷ checkpoint_steps p.checkpoints.items)
     → last_of c.step (checkpoint_steps p.checkpoints.items) ≡ last → StaysNear K s (length ys) last (slice_get old.checkpoints.items j)
-    → (t : Conjugating) → IsConjugating ys s j p old t → (new : Recording) → IsPutInPlace old m K t new → All (StepFits old.tableau.qubits) ys → (g : Followed)
+    → (t : Conjugating) → IsConjugating ys s j p old t → (new : Recording) → IsTakenOver old m K t new → All (StepFits old.tableau.qubits) ys → (g : Followed)
     → (g.applied + g.by_frame) + c.step ≡ conjugated_end s (length ys) (slice_get old.checkpoints.items (j + length t.rest.conjugated.items))
     → HasConjugated old.tableau.qubits coins K ys (length old.observables.items) s old g new
 has-conjugated-here {coins} {K} {ys} {s} {change} {old} {m} {j} f few counted inside c here p passed last close last_is stays t conjugating new put fits g took =

@@ -37,13 +37,13 @@ stabiliser-quiet : (n : ℕ) (coins : ℕ → Bool) (xs back : List Step) (from 
     → IsConjugated n last.letters (member (point_after n coins (take steps back) (point_after n coins (take from xs) origin)).trace)
     (member (point_after n coins (take steps back) (point_after n coins (take from xs) origin)).trace)
 stabiliser-quiet n coins xs back from steps c window last new following fits is le at size d =
-    subst (λ (a : Point). IsConjugated n last.letters (member a.trace) (member a.trace)) (ap (λ m. point_after n coins (take m xs) origin) place ∙ rest-point n coins xs back from following steps)
+    subst (λ (a : Point). IsConjugated n last.letters (member a.trace) (member a.trace)) (ap (λ m. point_after n coins (take m xs) origin) site ∙ rest-point n coins xs back from following steps)
     (conjugated-stabiliser n last.letters (member (point_after n coins (take c.step xs) origin).trace)
     (group-origin n coins (take c.step xs) (All-take (StepFits n) c.step xs fits)) size d.stabilise.0
     (sym (is.group (record { negative = d.stabilise.0; letters = last.letters }) size) ∙ d.stabilise.1))
   where
-    place : c.step ≡ from + steps
-    place = omega (arith, le, at)
+    site : c.step ≡ from + steps
+    site = omega (arith, le, at)
 
 -- it passed all, past all checkpoints, or it ended at a point where it flips no sign
 pub endings : (n window : ℕ) (back : List Step) (from steps : ℕ) (stored : List Checkpoint) (conjugated : List TableauState) (last new : PropagationState) (coins : ℕ → Bool) (xs : List Step)

@@ -1,5 +1,5 @@
 -- Conjugated runs: what is stored once a frame conjugated a run where it lies is the run of the new steps, and this many steps were followed for it.
-use Rattle.stab_session.proofs.Names.{◌≡◌, ℕ, zero, suc, ◌+◌, ◌-◌, ◌*◌, ◌<◌, ◌≤◌, inl, inr, refl, sym, ◌∙◌, ap, subst, Bool, false, List, [], ◌∷◌, ◌++◌, length, max, take, drop, map, All, Option, Some, None, arith, IfSome, MatchOption, cases_lt, drop-drop, All-append, All-drop, All-head, All-nil, All-weaker, take-add, with_sign, strings_anticommute, member, TableauState, stabilises, IsConjugated, Step, looks_too_far, Span, Lengths, Point, RunOutput, origin, joined, point_after, outputs, looked_up, ones, AgreeAt, StepFits, output_of, front_of, rest_of, AgreeBack, with_coin, randomness-is-coins, front-output, records-are-records, flipped_output, PivotsState, LooksWithin, PropagationState, Checkpoint, IsCheckpoint, checkpoint_steps, moved, moved_checkpoint, all_saved, IsSpaced, Near, last_of, Plan, KeepsPivotList, Misses, EndsSoon, step_among_new, Recording, Followed, Conjugating, EndsAt, IsCounted, IsRecording, IsSpan, AgreeAfterSpan, AgreeBackAfterSpan, IsCheckpointCount, conjugated_end, StaysNear, IsPutInPlace, HasConjugated, span_meeting, checkpoints_conjugated, same-future, MayHaveCoin, with_states}
+use Rattle.stab_session.proofs.Names.{◌≡◌, ℕ, zero, suc, ◌+◌, ◌-◌, ◌*◌, ◌<◌, ◌≤◌, inl, inr, refl, sym, ◌∙◌, ap, subst, Bool, false, List, [], ◌∷◌, ◌++◌, length, max, take, drop, map, All, Option, Some, None, arith, IfSome, MatchOption, cases_lt, drop-drop, All-append, All-drop, All-head, All-nil, All-weaker, take-add, with_sign, strings_anticommute, member, TableauState, stabilises, IsConjugated, Step, looks_too_far, Span, Lengths, Point, RunOutput, origin, joined, point_after, outputs, looked_up, ones, AgreeAt, StepFits, output_of, front_of, rest_of, AgreeBack, with_coin, randomness-is-coins, front-output, records-are-records, flipped_output, PivotsState, LooksWithin, PropagationState, Checkpoint, IsCheckpoint, checkpoint_steps, moved, moved_checkpoint, all_saved, IsSpaced, Near, last_of, Plan, KeepsPivotList, Misses, EndsSoon, step_among_new, Recording, Followed, Conjugating, EndsAt, IsCounted, IsRecording, IsSpan, AgreeAfterSpan, AgreeBackAfterSpan, IsCheckpointCount, conjugated_end, StaysNear, IsTakenOver, HasConjugated, span_meeting, checkpoints_conjugated, same-future, MayHaveCoin, with_states}
 use Rattle.std.specs.Prelude.{slice_get}
 use Rattle.stab_recording.proofs.RecordedReplayLemmas.{near-enough}
 use Rattle.stab_recording.proofs.CutLemmas.{get-drop}
@@ -8,7 +8,7 @@ use Rattle.stab_session.proofs.FollowLemmas.{at-get, some-at, if-some, from-drop
 use Rattle.stab_session.proofs.CountLemmas.{applied-within, ends-near, none-before, is-counted, stop-within, stop-order, stop-ends, next-beyond}
 use Rattle.stab_session.proofs.ConjugateSpacingLemmas.{conjugated-near, near-both, stays-following}
 
--- what a frame that was propagated past the places of a change and over the steps after its span says of the run of the new steps, if the old
+-- what a frame that was propagated past the sites of a change and over the steps after its span says of the run of the new steps, if the old
 -- run gave this
 pub record DeterminesRun (n : ℕ) (coins : ℕ → Bool) (xs ys : List Step) (s : Span) (checkpoints : List Checkpoint) (o : RunOutput) (strings : PivotsState) (window : ℕ)
     (from : Lengths) (w : PropagationState) (passed : List Checkpoint) (conjugated : List TableauState) : Type 0 where
@@ -67,13 +67,13 @@ pub record AreInside (s : Span) (checkpoints : List Checkpoint) (m k : ℕ) : Ty
   pub among : All (λ c. c.step < s.old_end) (take (k - m) (drop m checkpoints))
 
 -- if there are some, that step is before the end
-first-among : (m k place end : ℕ) (cs : List Checkpoint) → 0 < k → m + k ≤ length cs → All (λ c. c.step < end) (take k (drop m cs)) → IfSome (slice_get cs m) (λ c. place ≤ c.step)
-    → place < end
-first-among zero zero place end cs some within among following = absurd (omega (arith, some))
-first-among zero (suc k) place end [] some within among following = absurd (omega (arith, within))
-first-among zero (suc k) place end (c ∷ cs) some within among following = let here = All-head (λ x. x.step < end) c (take k cs) among in omega (arith, here, following)
-first-among (suc m) k place end [] some within among following = absurd (omega (arith, within))
-first-among (suc m) k place end (c ∷ cs) some within among following = first-among m k place end cs some (omega (arith, within)) among following
+first-among : (m k site end : ℕ) (cs : List Checkpoint) → 0 < k → m + k ≤ length cs → All (λ c. c.step < end) (take k (drop m cs)) → IfSome (slice_get cs m) (λ c. site ≤ c.step)
+    → site < end
+first-among zero zero site end cs some within among following = absurd (omega (arith, some))
+first-among zero (suc k) site end [] some within among following = absurd (omega (arith, within))
+first-among zero (suc k) site end (c ∷ cs) some within among following = let here = All-head (λ x. x.step < end) c (take k cs) among in omega (arith, here, following)
+first-among (suc m) k site end [] some within among following = absurd (omega (arith, within))
+first-among (suc m) k site end (c ∷ cs) some within among following = first-among m k site end cs some (omega (arith, within)) among following
 
 -- so none of them is at the end, or there are none
 before-end : (s : Span) (checkpoints : List Checkpoint) (m k : ℕ) → AreInside s checkpoints m k → IsCheckpointCount (s.first + 1) checkpoints m
@@ -109,7 +109,7 @@ module _ {n : ℕ} {coins : ℕ → Bool} {K : ℕ} {xs ys : List Step} {s : Spa
   is-checkpoint k c here = at-get (IsCheckpoint n coins xs) old.checkpoints.items k c preserved.checkpoints here
 
   -- what is stored is the run of the new steps
-  pub conjugated-preserved : (new : Recording) (last : ℕ) → IsPutInPlace old m K t new → Near K (near.checkpoint.step ∷ checkpoint_steps t.passed.items)
+  pub conjugated-preserved : (new : Recording) (last : ℕ) → IsTakenOver old m K t new → Near K (near.checkpoint.step ∷ checkpoint_steps t.passed.items)
       → last_of near.checkpoint.step (checkpoint_steps t.passed.items) ≡ last → StaysNear K s (length ys) last (slice_get old.checkpoints.items j) → All (StepFits n) ys
       → IsRecording n coins K ys (length old.observables.items) new
   conjugated-preserved new last put close last_is stays fits = record {
@@ -175,8 +175,8 @@ module _ {n : ℕ} {coins : ℕ → Bool} {K : ℕ} {xs ys : List Step} {s : Spa
         (All-weaker (λ d. (s.old_end ≤ d.step) × (d.step ≤ length xs)) (λ d. s.old_end ≤ d.step) (λ d h. h.0) (drop j old.checkpoints.items)
         (all-following K (length xs) s.old_end j old.checkpoints.items preserved.spaced.near next-following)))
 
-    place : (k : ℕ) (c : Checkpoint) → slice_get old.checkpoints.items k ≡ Some c → moved s.old_end s.new_end c.step ≡ s.new_end + (c.step - s.old_end)
-    place k c here = let w = (is-checkpoint k c here).within in moved-within s.old_end s.new_end c.step (length xs) w (omega (arith, rest, few))
+    site : (k : ℕ) (c : Checkpoint) → slice_get old.checkpoints.items k ≡ Some c → moved s.old_end s.new_end c.step ≡ s.new_end + (c.step - s.old_end)
+    site k c here = let w = (is-checkpoint k c here).within in moved-within s.old_end s.new_end c.step (length xs) w (omega (arith, rest, few))
 
     -- no run with these checkpoints and records agrees with the new one at a conjugated checkpoint
     missed : (k : ℕ) (c : Checkpoint) → j ≤ k → k < j + length t.rest.conjugated.items → slice_get old.checkpoints.items k ≡ Some c
@@ -187,7 +187,7 @@ module _ {n : ℕ} {coins : ℕ → Bool} {K : ℕ} {xs ys : List Step} {s : Spa
         (agree-trans n (point_after n coins (take c.step xs) origin) (point_after n coins (take c.step zs) origin)
         (point_after n coins (take (s.new_end + (c.step - s.old_end)) ys) origin)
         (checkpoint-agrees n coins xs zs c old.outputs.records.items (is-checkpoint k c here) also (preserved-records n coins K xs count old preserved c (is-checkpoint k c here)) records)
-        (subst (λ i. AgreeAt n (point_after n coins (take c.step zs) origin) (point_after n coins (take i ys) origin)) (place k c here) agree))
+        (subst (λ i. AgreeAt n (point_after n coins (take c.step zs) origin) (point_after n coins (take i ys) origin)) (site k c here) agree))
 
     soon : EndsSoon n coins plan ys old.checkpoints.items old.outputs.records.items (conjugated_end s (length ys) stop)
     soon k from =
@@ -210,7 +210,7 @@ module _ {n : ℕ} {coins : ℕ → Bool} {K : ℕ} {xs ys : List Step} {s : Spa
         at-next : (o : Option Checkpoint) → slice_get old.checkpoints.items j ≡ o → StaysNear K s (length ys) last o
             → MatchOption o (length zs ≤ (s.old_end + far) + K) (λ c. c.step ≤ (s.old_end + far) + K)
         at-next None is close = let a = close.0 in let b = close.1 in omega (arith, a, b, long)
-        at-next (Some c) is close = let a = close.0 in let b = close.1.1 in omega (arith, a, b, place j c is)
+        at-next (Some c) is close = let a = close.0 in let b = close.1.1 in omega (arith, a, b, site j c is)
 
     -- whichever old run has these checkpoints
     module _ (zs : List Step) (other : ℕ) (also : IsRecording n coins K zs other old) (span_also : IsSpan zs ys s) where
@@ -276,7 +276,7 @@ module _ {n : ℕ} {coins : ℕ → Bool} {K : ℕ} {xs ys : List Step} {s : Spa
           ends = before-end s old.checkpoints.items m j inside counted
 
     -- so the run was conjugated
-    pub has-conjugated : (new : Recording) → IsPutInPlace old m K t new → Near K (near.checkpoint.step ∷ checkpoint_steps t.passed.items)
+    pub has-conjugated : (new : Recording) → IsTakenOver old m K t new → Near K (near.checkpoint.step ∷ checkpoint_steps t.passed.items)
         → last_of near.checkpoint.step (checkpoint_steps t.passed.items) ≡ last → All (StepFits n) ys → (f : Followed)
         → IfSome (slice_get old.checkpoints.items (m - 1)) (λ c. (f.applied + f.by_frame) + c.step ≡ conjugated_end s (length ys) stop)
         → HasConjugated n coins K ys (length old.observables.items) s old f new

@@ -97,7 +97,7 @@ pub use Rattle.stab_recording.specs.declared.replay.End.TheVariants.{Last, Joine
 pub use Rattle.stab_recording.specs.declared.replay.Plan.{Plan}
 pub use Rattle.stab_recording.specs.declared.replay.Replay.{Replay}
 pub use Rattle.stab_session.specs.declared.rest.OldRest.{OldRest}
-pub use Rattle.stab_session.specs.inner.PropagatedRecordings.{StaysNear, span_meeting, IsPutInPlace, HasConjugated, checkpoints_conjugated, IsPastSites, IsConjugating, no_lengths}
+pub use Rattle.stab_session.specs.inner.PropagatedRecordings.{StaysNear, span_meeting, IsTakenOver, HasConjugated, checkpoints_conjugated, IsPastSites, IsConjugating, no_lengths}
 pub use Rattle.stab_session.specs.inner.OldRests.{conjugated_end, checkpoints_moved, HasRoomFor}
 pub use Rattle.stab_session.specs.inner.Prepared.{IsCheckpointCount, Begins, HasCheckpoint, IsRest, IsOldRest, IsPrepared, IsCommitted, checkpoints_after, IsTableauAfter, meeting_of, HasRoom}
 pub use Rattle.std.proofs.lemmas.Result.{IfOk-weaker, on_ok_weaker}
@@ -105,7 +105,7 @@ pub use Rattle.stab_circuit.proofs.ClearLemmas.{steps-cleared, observables-clear
 pub use Rattle.stab_circuit.proofs.EachRoundLemmas.{changes_each_round, same_lead}
 pub use Rattle.stab_items.proofs.EditLemmas.{entries-listed, edits_leave, changed_split, rebuilds, steps-append, steps_split}
 pub use Rattle.stab_items.proofs.EditingLemmas.{replaced}
-pub use Rattle.stab_items.proofs.PlaceLemmas.{found_taken, taken_named}
+pub use Rattle.stab_items.proofs.ItemAtLemmas.{found_taken, taken_named}
 pub use Rattle.stab_items.proofs.UndoLemmas.{replace-retaken, insert-undone, insert-retaken, replace-undone, new_parts, front_size}
 pub use Rattle.stab_items.specs.Editings.{IsSpanOf}
 pub use Rattle.stab_items.specs.Edits.{edit_path, edited, verdict, put_item, first_changed, old_end, new_end, taken_at, taken, steps_before, after_taken, after_put, outermost, list_refusal, list_verdict, edited_in, inner, steps_in}
@@ -114,7 +114,7 @@ pub use Rattle.stab_circuit.specs.Laws.{SplitsLeaveTheSteps}
 pub use Rattle.stab_items.specs.Splits.{AreAlike, split, split_refusal}
 pub use Rattle.stab_items.specs.Nothings.{IsNothing}
 pub use Rattle.stab_items.specs.Paths.{Path}
-pub use Rattle.stab_items.specs.Places.{item_at}
+pub use Rattle.stab_items.specs.ItemsAt.{item_at}
 unfoldable pub use Rattle.stab_items.specs.Steps.{check_of}
 pub use Rattle.stab_items.specs.declared.edit.Edit.{Edit}
 pub use Rattle.stab_items.specs.declared.edit.Edit.TheVariants.{Insert, Replace, Delete}

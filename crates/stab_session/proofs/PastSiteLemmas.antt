@@ -1,9 +1,9 @@
--- Places: a frame between two runs on its way past the places of a change.
+-- Sites: a frame between two runs on its way past the sites of a change.
 use Rattle.stab_session.proofs.Names.{◌≡◌, ℕ, zero, suc, ◌+◌, ◌-◌, ◌<◌, ◌≤◌, min, refl, sym, ◌∙◌, ap, subst, Bool, List, [], ◌∷◌, ◌++◌, append_assoc, All, length, map, take, drop, Option, get_or, arith, drop-drop, drop-take, drop_at, take_at, take-take, length-append, length-drop, All-nil, All-cons, All-append, All-get_or, Letter, string_product, TableauState, stabilises, IsConjugated, Step, Span, RunOutput, PropagationState, PropagatesOver, Checkpoint, IsCheckpoint, AreEnoughBy, interleaved, DifferAtSites, IsFrameBetween, IsBeforePiece, IsBeforeSites, PauliChange}
 use Rattle.stab_session.proofs.FrameBetweenLemmas.{between-steps, between-gates, between-checkpoint}
 use Rattle.stab_session.proofs.PauliSpanLemmas.{old-left, new-left}
 
--- it went past this many places
+-- it went past this many sites
 pub record IsUnderWay (n : ℕ) (coins : ℕ → Bool) (xs ys : List Step) (strings : ℕ → Option (List Letter)) (free : List Bool) (base : ℕ) (front : RunOutput)
     (s : Span) (change : PauliChange) (olds news : List Step) (j old new : ℕ) (left : List Step) (w : PropagationState) : Type 0 where
   pub between : IsFrameBetween n coins xs ys strings free base front old new w
@@ -40,7 +40,7 @@ module _ {n : ℕ} {coins : ℕ → Bool} {xs ys : List Step} {strings : ℕ →
   }
 
   module _ (d : DifferAtSites n xs ys s change) {old new : ℕ} {left : List Step} {w : PropagationState} where
-    -- past all places it is at the end of the span
+    -- past all sites it is at the end of the span
     pub under-way-last : (j : ℕ) → length change.gaps.items ≤ j → IsUnderWay n coins xs ys strings free base front s change d.differ.old_gates d.differ.new_gates j old new left w
         → IsFrameBetween n coins xs ys strings free base front s.old_end s.new_end w
     under-way-last j all u = by-pieces u.pieces u.lengths u.old_left u.new_left
@@ -121,7 +121,7 @@ module _ {n : ℕ} {coins : ℕ → Bool} {xs ys : List Step} {strings : ℕ →
         new_at : new_next ≡ new + change.new
         new_at = let f = d.new_few in omega (arith, new_sum, new_long, f)
 
-        -- at the next place it takes the letters of the gates
+        -- at the next site it takes the letters of the gates
         pub under-way-gates : (left_next : List Step) (v : PropagationState) → left_next ≡ drop change.new left → v ≡ record w { letters = string_product w.letters change.string.letters }
             → IsBeforePiece n coins xs ys strings free base front old_next new_next gap left_next v
         under-way-gates left_next v rest conjugated = record {
@@ -144,7 +144,7 @@ module _ {n : ℕ} {coins : ℕ → Bool} {xs ys : List Step} {strings : ℕ →
           few = d.new_few;
         }
 
-        -- and after the piece there it is before the place after it
+        -- and after the piece there it is before the site after it
         pub under-way-next : (old_after new_after : ℕ) (left_next left_after : List Step) (v : PropagationState) → left_next ≡ drop change.new left → left_after ≡ drop gap left_next
             → old_after ≡ min (old_next + gap) 18446744073709551615 → new_after ≡ min (new_next + gap) 18446744073709551615
             → IsFrameBetween n coins xs ys strings free base front (old_next + gap) (new_next + gap) v
@@ -213,12 +213,12 @@ module _ {n : ℕ} {coins : ℕ → Bool} {xs ys : List Step} {strings : ℕ →
       subst (All (IsCheckpoint n coins ys)) (sym put)
       (All-append (IsCheckpoint n coins ys) passed (record { step = step; lengths = c.lengths; tableau = t } ∷ []) before
       (All-cons (IsCheckpoint n coins ys) (record { step = step; lengths = c.lengths; tableau = t }) []
-      (subst (λ k. IsCheckpoint n coins ys (record { step = k; lengths = c.lengths; tableau = t })) (sym place)
+      (subst (λ k. IsCheckpoint n coins ys (record { step = k; lengths = c.lengths; tableau = t })) (sym site)
       (between-checkpoint there c t (sym at) is qubits (subst (λ x. x) (λ i. IsConjugated (is.qubits i) (read i) (stabilises c.tableau) (stabilises t)) conjugated)))
       (All-nil (IsCheckpoint n coins ys))))
     where
       is : IsCheckpoint n coins xs c
       is = subst (IsCheckpoint n coins xs) (sym same) (All-get_or (IsCheckpoint n coins xs) checkpoints j c lt are)
 
-      place : step ≡ new + following
-      place = omega (arith, sum, to, b.new_within, b.few)
+      site : step ≡ new + following
+      site = omega (arith, sum, to, b.new_within, b.few)

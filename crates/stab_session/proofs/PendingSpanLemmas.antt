@@ -31,12 +31,12 @@ back-path (Inserted at) = refl
 back-path (Replaced at y) = refl
 back-path (Deleted at y) = refl
 
-back-following : (p : Pending) → after_taken (back_edit p) ≡ (edit_path (back_edit p)).place + 1
+back-following : (p : Pending) → after_taken (back_edit p) ≡ (edit_path (back_edit p)).position + 1
 back-following (Inserted at) = refl
 back-following (Replaced at y) = refl
 back-following (Deleted at y) = refl
 
-back-takes : (p : Pending) (us : List OneItem) → taken_at (back_edit p) us ≡ slice_get us (edit_path (back_edit p)).place
+back-takes : (p : Pending) (us : List OneItem) → taken_at (back_edit p) us ≡ slice_get us (edit_path (back_edit p)).position
 back-takes (Inserted at) us = refl
 back-takes (Replaced at y) us = refl
 back-takes (Deleted at y) us = refl
@@ -82,15 +82,15 @@ module _ (p : Pending) (now old : List OneItem) (back : taken_back p now ≡ Ok 
   each_round = changes_each_round (back_edit p) now old takes_back (subst (λ q. HaveRounds q.blocks now) (sym (back-path p)) rounds)
 
   there : taken (back_edit p) now ≡ Some x
-  there = found_taken (back_edit p) at.place (back-takes p) at.blocks now x found_at
+  there = found_taken (back_edit p) at.position (back-takes p) at.blocks now x found_at
 
-  pieces_is : pieces at (after_taken (back_edit p)) now ≡ pieces (pending_path p) ((pending_path p).place + 1) now
-  pieces_is = ap (λ k. pieces at k now) (back-following p) ∙ ap (λ q. pieces q (q.place + 1) now) (back-path p)
+  pieces_is : pieces at (after_taken (back_edit p)) now ≡ pieces (pending_path p) ((pending_path p).position + 1) now
+  pieces_is = ap (λ k. pieces at k now) (back-following p) ∙ ap (λ q. pieces q (q.position + 1) now) (back-path p)
 
-  pub now_part : steps_between (first_changed (back_edit p) now) (old_end (back_edit p) now) (steps now) ≡ interleaved (steps (x ∷ [])) (pieces (pending_path p) ((pending_path p).place + 1) now)
+  pub now_part : steps_between (first_changed (back_edit p) now) (old_end (back_edit p) now) (steps now) ≡ interleaved (steps (x ∷ [])) (pieces (pending_path p) ((pending_path p).position + 1) now)
   now_part = each_round.taken_out ∙ ap (λ o. interleaved (item_steps o) (pieces at (after_taken (back_edit p)) now)) there ∙ ap (interleaved (steps (x ∷ []))) pieces_is
 
-  pub old_part : steps_between (first_changed (back_edit p) now) (new_end (back_edit p) old) (steps old) ≡ interleaved (steps (taken_items p)) (pieces (pending_path p) ((pending_path p).place + 1) now)
+  pub old_part : steps_between (first_changed (back_edit p) now) (new_end (back_edit p) old) (steps old) ≡ interleaved (steps (taken_items p)) (pieces (pending_path p) ((pending_path p).position + 1) now)
   old_part =
       each_round.put_in
       ∙ ap (λ g. interleaved g (pieces at (after_put (back_edit p)) old)) (back-puts p)
@@ -142,10 +142,10 @@ module _ (n : ℕ) (p : Pending) (now : List OneItem) (given : AreAccepted n p n
         new_qubits = rs;
         old_gates = steps (taken_items p);
         new_gates = steps (x ∷ []);
-        pieces = pieces (pending_path p) ((pending_path p).place + 1) now;
+        pieces = pieces (pending_path p) ((pending_path p).position + 1) now;
         old_are = record { steps = taken.steps; fit = taken-fit taken };
         new_are = record { steps = put.steps; fit = put-fit put };
-        lengths = sym (reported.lengths ∙ ap (λ q. map length (pieces q (q.place + 1) now)) is);
+        lengths = sym (reported.lengths ∙ ap (λ q. map length (pieces q (q.position + 1) now)) is);
         old = (λ i. steps_between (first i) (old_ends i) (steps old)) ∙ old_part p now old b.back x found_there rounds_there;
         new = (λ i. steps_between (first i) (new_ends i) (steps now)) ∙ now_part p now old b.back x found_there rounds_there;
         old_counted = ap length taken.steps ∙ length-map qs (one (gate_of l)) ∙ sym old_counted;

@@ -69,8 +69,8 @@ module _ {n : ℕ} {coins : ℕ → Bool} {xs ys back : List Step} {i k : ℕ} {
       ∙ ap (λ zs. joined (outputs n coins (take k ys) origin) (outputs n coins (take m zs) (point_after n coins (take k ys) origin))) r.new_after
 
   -- a checkpoint is this many steps after the place
-  place : (j : ℕ) (c : Checkpoint) → slice_get checkpoints j ≡ Some c → c.step ≡ i + (c.step - i)
-  place j c found = omega (arith, subst (λ d. IfSome d (λ e. i ≤ e.step)) found (order-from i (length xs) checkpoints j r.order))
+  site : (j : ℕ) (c : Checkpoint) → slice_get checkpoints j ≡ Some c → c.step ≡ i + (c.step - i)
+  site j c found = omega (arith, subst (λ d. IfSome d (λ e. i ≤ e.step)) found (order-from i (length xs) checkpoints j r.order))
 
   -- and as many steps of the edited circuit are there
   step-inside : (c : Checkpoint) → IsCheckpoint n coins xs c → i ≤ c.step → k + (c.step - i) ≤ length ys
@@ -111,17 +111,17 @@ module _ {n : ℕ} {coins : ℕ → Bool} {xs ys back : List Step} {i k : ℕ} {
         → moved_lengths s.old_lengths s.new_lengths c.lengths ≡ lengths_of (outputs n coins (take (k + (c.step - i)) ys) origin)
         → length ys < 2 ^ 64 → t.qubits ≡ n → IsCheckpoint n coins ys (moved_checkpoint s (record c { tableau = t }))
     moved-conjugated s old_step new_step lengths few qubits = record {
-      within = omega (arith, place, inside);
+      within = omega (arith, site, inside);
       qubits = qubits;
       group = λ p size.
           new-group p size
           ∙ ap (λ (q : Point). member q.trace p) (sym (new_at (c.step - i)))
-          ∙ ap (λ m. member (point_after n coins (take m ys) origin).trace p) (sym place);
-      lengths = lengths ∙ ap (λ m. lengths_of (outputs n coins (take m ys) origin)) (sym place);
+          ∙ ap (λ m. member (point_after n coins (take m ys) origin).trace p) (sym site);
+      lengths = lengths ∙ ap (λ m. lengths_of (outputs n coins (take m ys) origin)) (sym site);
     }
       where
-        place : moved s.old_step s.new_step c.step ≡ k + (c.step - i)
-        place = omega (arith, inside, few, old_step, new_step, following)
+        site : moved s.old_step s.new_step c.step ≡ k + (c.step - i)
+        site = omega (arith, inside, few, old_step, new_step, following)
 
     -- if a stabiliser of the checkpoint is none of the conjugated one, the runs don't agree
     differs-here : (p : Signed) → length p.letters ≡ n → stabilises c.tableau p ≡ true → stabilises t p ≡ false
@@ -162,7 +162,7 @@ module _ {n : ℕ} {coins : ℕ → Bool} {xs ys back : List Step} {i k : ℕ} {
         fewer (inl same) = inl (omega (arith, same))
         fewer (inr blank) = inr blank
 
-    -- the checkpoints of the old run after both places, those that the frame came to conjugated, are checkpoints of the new one
+    -- the checkpoints of the old run after both sites, those that the frame came to conjugated, are checkpoints of the new one
     pub rest-checkpoints : All (IsCheckpoint n coins ys) (map (moved_checkpoint s) (with_states conjugated checkpoints))
     rest-checkpoints =
         all-moved i (length xs) checkpoints conjugated (omega arith) r.order r.are_checkpoints r.advanced.checkpoints
@@ -205,7 +205,7 @@ module _ {n : ℕ} {coins : ℕ → Bool} {xs ys back : List Step} {i k : ℕ} {
       (rest-agree r ended (c.step - i) beyond, rest-may r (c.step - i))
     where
       old_is : point_after n coins (take (c.step - i) back) (point_after n coins (take i xs) origin) ≡ point_after n coins (take c.step xs) origin
-      old_is = sym (ap (λ m. point_after n coins (take m xs) origin) (place (length conjugated) c found) ∙ old_at (c.step - i))
+      old_is = sym (ap (λ m. point_after n coins (take m xs) origin) (site (length conjugated) c found) ∙ old_at (c.step - i))
 
       beyond : r.advanced.steps ≤ c.step - i
       beyond = subst (λ d. IfSome d (λ e. r.advanced.steps ≤ e.step - i)) found (left-beyond n strings.strings free back i r.advanced.steps old checkpoints conjugated r.advanced.checkpoints)
@@ -229,7 +229,7 @@ module _ {n : ℕ} {coins : ℕ → Bool} {xs ys back : List Step} {i k : ℕ} {
       both : AgreeAt n (point_after n coins (take (c.step - i) back) (point_after n coins (take i xs) origin)) (point_after n coins (take (c.step - i) back) (point_after n coins (take k ys) origin))
       both =
           subst (λ p. AgreeAt n p (point_after n coins (take (c.step - i) back) (point_after n coins (take k ys) origin)))
-          (ap (λ m. point_after n coins (take m xs) origin) (place j c found) ∙ old_at (c.step - i))
+          (ap (λ m. point_after n coins (take m xs) origin) (site j c found) ∙ old_at (c.step - i))
           (subst (AgreeAt n (point_after n coins (take c.step xs) origin)) (new_at (c.step - i)) agree)
 
       near : c.step - i ≤ r.advanced.steps

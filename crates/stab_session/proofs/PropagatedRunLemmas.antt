@@ -54,7 +54,7 @@ module _ (n : ℕ) (coins : ℕ → Bool) (xs ys back : List Step) (i k : ℕ) (
     advanced = r.advanced;
   }
 
-  -- the lists of both are as long as each other where a checkpoint is after the place
+  -- the lists of both are as long as each other where a checkpoint is after the site
   pub run-lengths : (c : Checkpoint) → i ≤ c.step → IsCheckpoint n coins xs c → c.lengths ≡ lengths_of (outputs n coins (take (k + (c.step - i)) ys) origin)
   run-lengths c following is =
       is.lengths

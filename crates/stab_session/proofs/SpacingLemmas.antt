@@ -300,7 +300,7 @@ ascending-from : (p : Plan) (K L a step : ℕ) (cs : List Checkpoint) → Near K
 ascending-from p K L a step [] h t f s = let within = h.0 in omega arith
 ascending-from p K L a step (c ∷ cs) h t f s =
     let following = h.0 in
-    let place = moved-within p.old_end p.new_end c.step L (near-le K L c.step (checkpoint_steps cs) h.2) (omega arith) in
+    let site = moved-within p.old_end p.new_end c.step L (near-le K L c.step (checkpoint_steps cs) h.2) (omega arith) in
     (omega arith, ascending-from p K L c.step (step_among_new p c) cs h.2 t f (omega arith))
 
 -- and their positions among other steps
@@ -310,7 +310,7 @@ pub ascending-following : (p : Plan) (K L step n : ℕ) (cs : List Checkpoint) �
 ascending-following p K L step zero [] h g l t f s = omega arith
 ascending-following p K L step (suc n) [] h g l t f s = omega arith
 ascending-following p K L step zero (c ∷ cs) h g l t f s =
-    let place = moved-within p.old_end p.new_end c.step L (near-le K L c.step (checkpoint_steps cs) h) (omega arith) in
+    let site = moved-within p.old_end p.new_end c.step L (near-le K L c.step (checkpoint_steps cs) h) (omega arith) in
     (omega arith, ascending-from p K L c.step (step_among_new p c) cs h t f (omega arith))
 ascending-following p K L step (suc n) (c ∷ cs) h g l t f s = ascending-following p K L step n cs (near-tail K L c.step (checkpoint_steps cs) h) g l t f s
 

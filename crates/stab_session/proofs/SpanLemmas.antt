@@ -58,16 +58,16 @@ get_at (y ∷ f) x r = get_at f x r
 -- the end of what an edit puts in is no further after the first changed step than that has steps
 pub put-within : (edit : Edit) (bs : List ℕ) (old new : List OneItem) → edited_in edit bs old ≡ Ok new
     → length (unroll (listed (take (outermost (after_put edit) bs) new)))
-    ≤ length (steps_in bs (edit_path edit).place old) + steps_of_item (elim bs [ [] ↦ put_item edit | b ∷ cs ↦ slice_get new b ])
+    ≤ length (steps_in bs (edit_path edit).position old) + steps_of_item (elim bs [ [] ↦ put_item edit | b ∷ cs ↦ slice_get new b ])
 put-within (Insert at x) [] old new e =
     let s = changed_split (Insert at x) old new e in
-    omega (arith, up_to at.place (at.place + 1) (take at.place old) (x ∷ []) (drop at.place old) new s.1 (length-take-le at.place old s.0) refl)
+    omega (arith, up_to at.position (at.position + 1) (take at.position old) (x ∷ []) (drop at.position old) new s.1 (length-take-le at.position old s.0) refl)
 put-within (Replace at x) [] old new e =
     let s = changed_split (Replace at x) old new e in
-    omega (arith, up_to at.place (at.place + 1) (take at.place old) (x ∷ []) (drop (at.place + 1) old) new s.1 (length-take-le at.place old s.0) refl)
+    omega (arith, up_to at.position (at.position + 1) (take at.position old) (x ∷ []) (drop (at.position + 1) old) new s.1 (length-take-le at.position old s.0) refl)
 put-within (Delete at) [] old new e =
     let s = changed_split (Delete at) old new e in
-    omega (arith, up_to at.place at.place (take at.place old) [] (drop (at.place + 1) old) new s.1 (length-take-le at.place old s.0) (omega arith))
+    omega (arith, up_to at.position at.position (take at.position old) [] (drop (at.position + 1) old) new s.1 (length-take-le at.position old s.0) (omega arith))
 put-within edit (b ∷ bs) old new e =
     let within = edited_in edit bs in
     let r = rebuilds within b old new (slice_get old b) refl e in
@@ -79,5 +79,5 @@ put-within edit (b ∷ bs) old new e =
       arith,
       up_to b (b + 1) (take b old) (block ∷ []) (drop (suc b) old) new parts size refl,
       ap steps_of_item found,
-      length-append (unroll (listed (take b old))) (steps_in bs (edit_path edit).place (inner (slice_get old b))),
+      length-append (unroll (listed (take b old))) (steps_in bs (edit_path edit).position (inner (slice_get old b))),
     )

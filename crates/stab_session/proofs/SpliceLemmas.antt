@@ -49,13 +49,13 @@ module _ (n : ℕ) (coins : ℕ → Bool) (K : ℕ) (xs : List Step) (count : �
             replay.at_step.run
 
     -- at an old checkpoint that it meets
-    module _ (j : ℕ) (d : Checkpoint) (here : slice_get old.checkpoints.items j ≡ Some d) (following : s.old_end ≤ d.step) (place : moved s.old_end s.new_end d.step ≡ r.step)
+    module _ (j : ℕ) (d : Checkpoint) (here : slice_get old.checkpoints.items j ≡ Some d) (following : s.old_end ≤ d.step) (site : moved s.old_end s.new_end d.step ≡ r.step)
         (few : length ys < 2 ^ 64) (window : ℕ) (window_is : window ≡ old.window) (meets : Meets n window r.tableau (output_of r.outputs) old.outputs.records.items old.outputs.free.items d) where
       is : IsCheckpoint n coins xs d
       is = at-get (IsCheckpoint n coins xs) old.checkpoints.items j d preserved.checkpoints here
 
       step : r.step ≡ s.new_end + (d.step - s.old_end)
-      step = sym place ∙ moved-within s.old_end s.new_end d.step (length xs) is.within (omega (arith, rest-long, few))
+      step = sym site ∙ moved-within s.old_end s.new_end d.step (length xs) is.within (omega (arith, rest-long, few))
 
       same : drop d.step xs ≡ drop r.step ys
       same =
@@ -196,9 +196,9 @@ module _ (n : ℕ) (coins : ℕ → Bool) (K : ℕ) (xs : List Step) (count : �
         let is = some-at (IsOldRest old (output_of r.outputs) r.pivots.strings r.step j (output_of q.outputs) all q.rest) old.checkpoints.items j d found.1 rest in
         let after = some-at (λ c. s.old_end ≤ c.step) old.checkpoints.items j d found.1
         (from-drop (λ c. s.old_end ≤ c.step) old.checkpoints.items p.next j end.0 (all-next n coins K xs count old preserved ys s span p.next next)) in
-        let place : moved s.old_end s.new_end d.step ≡ r.step = (λ i. moved (sym old_end i) (sym new_end i) d.step) ∙ found.2.0 in
+        let site : moved s.old_end s.new_end d.step ≡ r.step = (λ i. moved (sym old_end i) (sym new_end i) d.step) ∙ found.2.0 in
         let state = subst (λ x. IsTableauAfter x old.tableau new.tableau) is.is committed.tableau in
-        preserved-rest j d found.1 after place few p.window window_is found.2.1 state.0
+        preserved-rest j d found.1 after site few p.window window_is found.2.1 state.0
         (subst (λ l. IsConjugated old.tableau.qubits l (stabilises old.tableau) (stabilises new.tableau)) is.letters state.1)
         (committed.output ∙ is.output)
         (subst (λ x. x) (λ i. IsSpliced r.pivots.strings old.strings (ones (take d.lengths.free old.outputs.free.items)) (ones (sym committed.output i).free) all)

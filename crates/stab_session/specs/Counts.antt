@@ -14,8 +14,8 @@ AgreeAsFarAsLooked n coins xs a b =
 
 -- of steps in order the last that is not after another step, and the given one if none is
 abbrev pub last_until : ℕ → ℕ → List ℕ → ℕ
-last_until place a [] = a
-last_until place a (b ∷ more) = if nat_le b place then last_until place b more else a
+last_until step a [] = a
+last_until step a (b ∷ more) = if nat_le b step then last_until step b more else a
 
 -- an old checkpoint that an edit may come to: after the first changed step, and not before the end of what was taken out
 abbrev pub MayBeMet : ℕ → ℕ → ℕ → Type 0

@@ -1,4 +1,4 @@
--- Passed places: a frame on its way between an old run and a new one, past places at which Pauli gates are in the one or the other.
+-- Passed sites: a frame on its way between an old run and a new one, past sites at which Pauli gates are in the one or the other.
 -- Source: this project's own.
 use Rattle.std.specs.Prelude.{◌≡◌, ℕ, ◌+◌, ◌≤◌, Bool, false, List, All, length, take, drop, replicate, Option}
 use Rattle.stab_gates.specs.declared.letter.Letter.{Letter}
@@ -40,7 +40,7 @@ pub record IsBeforePiece (n : ℕ) (coins : ℕ → Bool) (xs ys : List Step) (s
   pub new_within : new + gap ≤ length ys
   pub few : length ys ≤ most_steps
 
--- it is before the places of a change within a span
+-- it is before the sites of a change within a span
 pub record IsBeforeSites (n : ℕ) (coins : ℕ → Bool) (xs ys : List Step) (strings : ℕ → Option (List Letter)) (free : List Bool) (base : ℕ) (front : RunOutput)
     (s : Span) (change : PauliChange) (left : List Step) (w : PropagationState) : Type 0 where
   pub between : IsFrameBetween n coins xs ys strings free base front s.first s.first w

@@ -11,13 +11,13 @@ ghost use Rattle.stab_session.specs.declared.past_sites.PauliChange.{PauliChange
 ghost use Rattle.stab_session.specs.FollowedEdits.{AsksWithin, HasFollowed};
 ghost use Rattle.stab_session.specs.Recordings.{IsSameRecording, Follows};
 ghost use Rattle.stab_session.specs.inner.OldRests.{HasRoomFor};
-ghost use Rattle.stab_session.specs.inner.PropagatedRecordings.{AreCounted, StaysNear, IsPastSites, IsConjugating, IsPutInPlace, HasConjugated, span_meeting};
+ghost use Rattle.stab_session.specs.inner.PropagatedRecordings.{AreCounted, StaysNear, IsPastSites, IsConjugating, IsTakenOver, HasConjugated, span_meeting};
 
 use crate::counting::lengths_after;
 use crate::flips::{flip_outputs, sum_additions};
 use crate::past_sites::{PauliChange, propagate_sites};
 use crate::recording::{Followed, Recording};
-use crate::rest::{OldRest, end_place};
+use crate::rest::{OldRest, end_step};
 use stab_frames::Propagation;
 use stab_io::Refusal;
 use stab_items::{Circuit, Cursor, Repeat, Span};
@@ -34,14 +34,14 @@ const NO_LENGTHS: Lengths = Lengths {
     additions: 0,
 };
 
-/// A frame that went past the places of a change, in memory of its own.
+/// A frame that went past the sites of a change, in memory of its own.
 #[derive(Drop)]
 struct PastSites {
     /// How long the lists are where the frame begins.
     from: Lengths,
     /// The frame, with what it flipped from there on.
     propagation: Propagation,
-    /// The checkpoints that are between the places, conjugated, where they are now.
+    /// The checkpoints that are between the sites, conjugated, where they are now.
     checkpoints: Vec<Checkpoint>,
 }
 
@@ -50,7 +50,7 @@ struct PastSites {
 struct Conjugating {
     /// How long the lists are where the frame begins.
     from: Lengths,
-    /// The checkpoints between the places of the change, conjugated, where they are now.
+    /// The checkpoints between the sites of the change, conjugated, where they are now.
     passed: Vec<Checkpoint>,
     /// The run after them, with the frame and what it flipped from where it began.
     rest: OldRest,
@@ -136,7 +136,7 @@ fn propagated_between(begin: usize, end: usize) -> Followed
 }
 
 impl Recording {
-    /// Propagates a frame past the places of a change of Pauli gates within a span, from the checkpoint before it on,
+    /// Propagates a frame past the sites of a change of Pauli gates within a span, from the checkpoint before it on,
     /// which has the number one less than the one count of checkpoints; those up to the other count are within
     /// the span. `None` if it can't give the run there. The steps that it passes are counted either way.
     ///
@@ -195,7 +195,7 @@ impl Recording {
         }))
     }
 
-    /// Propagates a frame that went past the places of a change on over the steps after its span, past the
+    /// Propagates a frame that went past the sites of a change on over the steps after its span, past the
     /// checkpoints from a number on. `None` if it can't give the run after it. Checkpoints are looked at in the
     /// memory of a spare tableau if there is one. The steps that it passes are counted either way.
     ///
@@ -261,7 +261,7 @@ impl Recording {
     fn put(&mut self, conjugating: Conjugating, before: usize, stride: usize)
         requires room { HasRoomFor self.old.tableau.qubits conjugating.rest self.old.checkpoints.items }
         requires count { length conjugating.passed.items + before ≡ conjugating.rest.number }
-        ensures put { IsPutInPlace self.old before stride conjugating self.new }
+        ensures put { IsTakenOver self.old before stride conjugating self.new }
     {
         let Conjugating {
             from,
@@ -326,7 +326,7 @@ impl Recording {
         else {
             return Ok(None);
         };
-        let end = end_place(
+        let end = end_step(
             checkpoints,
             inside + conjugating.rest.conjugated.len(),
             span,

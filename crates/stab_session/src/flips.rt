@@ -12,8 +12,8 @@ fn flip(bits: &mut [bool], flips: &[bool])
     ensures value { bits.new ≡ flipped bits.old flips.now }
 {
     let count = flips.len().min(bits.len());
-    for place in 0..count {
-        bits[place] ^= flips[place];
+    for index in 0..count {
+        bits[index] ^= flips[index];
     }
 }
 
@@ -22,8 +22,8 @@ fn flip_additions(additions: &mut [Addition], flips: &[Addition])
     ensures value { additions.new ≡ flipped_additions additions.old flips.now }
 {
     let count = flips.len().min(additions.len());
-    for place in 0..count {
-        additions[place].bit ^= flips[place].bit;
+    for index in 0..count {
+        additions[index].bit ^= flips[index].bit;
     }
 }
 
@@ -70,9 +70,9 @@ pub fn sum_additions(observables: &mut Vec<bool>, additions: &[Addition])
 {
     observables.fill(false);
     for addition in additions {
-        let place = addition.observable as usize;
-        if place < observables.len() {
-            observables[place] ^= addition.bit;
+        let index = addition.observable as usize;
+        if index < observables.len() {
+            observables[index] ^= addition.bit;
         }
     }
 }

@@ -5,7 +5,7 @@
 //! In the order in which data flows; each module uses only those before it:
 //!
 //! - `counting`, `past_sites`, `flips`: for edits by Pauli gates, how long a run's lists are after some steps, a frame
-//!   past the changed places, and lists changed in place.
+//!   past the changed sites, and lists changed in place.
 //! - `recording`, `rest`, `conjugating`: the recording of a circuit, and how it follows an edit: by a replay of the steps that
 //!   changed and what comes after it of the old run, or by a frame alone.
 //! - `opening`: how a recording is made for the first time.

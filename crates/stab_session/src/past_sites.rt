@@ -16,16 +16,16 @@ use stab_pauli::Pauli;
 use stab_recording::{Checkpoint, Stop, count_before, propagate_steps, propagated_checkpoint};
 use std::alloc::{AllocError, Global};
 
-/// Pauli gates that are where others were, at one place or at several: the same at each.
+/// Pauli gates that are where others were, at one site or at several: the same at each.
 #[derive(Drop)]
 pub struct PauliChange {
-    /// The letters of the old gates at a place and of the new ones, multiplied.
+    /// The letters of the old gates at a site and of the new ones, multiplied.
     pub string: Pauli,
-    /// How many steps the old gates take at each place.
+    /// How many steps the old gates take at each site.
     pub old: usize,
-    /// How many steps the new gates take at each place.
+    /// How many steps the new gates take at each site.
     pub new: usize,
-    /// How many steps are after each place, up to the next one, and after the last, up to the end
+    /// How many steps are after each site, up to the next one, and after the last, up to the end
     /// of what the change spans.
     pub gaps: Vec<usize>,
 }
@@ -78,11 +78,11 @@ fn propagate_exactly(
     Ok(propagated.stop != Stop::NoString && propagated.steps == count)
 }
 
-/// How far a step is after a place, if that is no less than one number and no more than another.
-fn after_place(step: usize, place: usize, least: usize, most: usize) -> Option<usize>
-    ensures some { IfSome result (λ following. (least ≤ following) × (following ≤ most) × (place + following ≡ step)) }
+/// How far a step is after a site, if that is no less than one number and no more than another.
+fn after_site(step: usize, site: usize, least: usize, most: usize) -> Option<usize>
+    ensures some { IfSome result (λ following. (least ≤ following) × (following ≤ most) × (site + following ≡ step)) }
 {
-    let following = step.checked_sub(place)?;
+    let following = step.checked_sub(site)?;
     if least <= following && following <= most {
         Some(following)
     } else {
@@ -120,7 +120,7 @@ fn propagate_piece(
 {
     let mut gone = 0;
     for checkpoint in checkpoints {
-        let Some(following) = after_place(checkpoint.step, old, gone, gap) else {
+        let Some(following) = after_site(checkpoint.step, old, gone, gap) else {
             return Ok(false);
         };
         if !propagate_exactly(
@@ -154,12 +154,12 @@ fn checkpoints_until(checkpoints: &[Checkpoint], from: usize, step: usize) -> &[
     first
 }
 
-/// Propagates a frame that begins before a step, which both runs have, past the places of a change of Pauli
+/// Propagates a frame that begins before a step, which both runs have, past the sites of a change of Pauli
 /// gates, the first of which is at that step, and over what is between them and after the
-/// last. A cursor is at that step of the new run. At each place the frame is multiplied by the string
+/// last. A cursor is at that step of the new run. At each site the frame is multiplied by the string
 /// of the change. Checkpoints of the old run that are there are made checkpoints of the new one, in order.
 ///
-/// False if a pivot is missing, or a checkpoint is among the gates of a place, or after all. What it
+/// False if a pivot is missing, or a checkpoint is among the gates of a site, or after all. What it
 /// made so far is then irrelevant. The steps that it passes are counted either way.
 ///
 /// Refusal `OutOfMemory` alone.

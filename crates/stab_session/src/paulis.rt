@@ -105,7 +105,7 @@ fn taken_gates(pending: &Pending) -> Option<PauliGates<'_>>
 }
 
 /// Where an edit was made.
-fn place_of(pending: &Pending) -> Path
+fn path_of(pending: &Pending) -> Path
     ensures value { result ≡ pending_path pending.now }
 {
     match pending {
@@ -120,9 +120,9 @@ fn multiply_letter(string: &mut Pauli, letter: Letter, qubits: &[Qubit])
     ensures letters { string.new.letters ≡ string_product (letters_on (length string.old.letters) letter qubits.now) string.old.letters }
 {
     for qubit in qubits {
-        let place = qubit.number();
-        let product = letter.times(string.letter(place));
-        string.set(place, product);
+        let index = qubit.number();
+        let product = letter.times(string.letter(index));
+        string.set(index, product);
     }
 }
 
@@ -165,7 +165,7 @@ pub fn difference(
     ensures found { IfOk result (λ found. found ≡ None → IsPauliEdit pending.now circuit.now → ⊥) }
     ensures err { IfErr result (λ r. r ≡ OutOfMemory) }
 {
-    let place = place_of(pending);
+    let place = path_of(pending);
     let Ok(item) = circuit.item(place) else {
         return Ok(None);
     };

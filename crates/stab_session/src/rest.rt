@@ -30,12 +30,7 @@ pub(crate) struct OldRest {
 }
 
 /// Where a checkpoint is among the new steps once it has moved with a span, or the end where there is none.
-pub(crate) fn end_place(
-    checkpoints: &[Checkpoint],
-    number: usize,
-    span: Span,
-    total: usize,
-) -> usize
+pub(crate) fn end_step(checkpoints: &[Checkpoint], number: usize, span: Span, total: usize) -> usize
     ensures value { result ≡ conjugated_end span total (slice_get checkpoints.now number) }
 {
     match checkpoints.get(number) {

@@ -110,7 +110,7 @@ module _ (n : ℕ) (string : List Letter) (parts : List Part) where
   abbrev gone : Bool → ℕ → Option ℕ → PropagationState → List Turn → WalkState
   gone every t waits p ts = walk_at every (t + length steps) (waits_after (length steps) waits) (passed n steps p) (ts ++ listed_over waits every t (frame_at 0 p))
 
-  -- a walk over instructions without the place where the string is put in
+  -- a walk over instructions without the string put in
   walked-on : (every : Bool) (t : ℕ) (waits : Option ℕ) (p : PropagationState) (ts : List Turn) → WaitsOn (length steps) waits
       → walked n string parts (walk_at every t waits p ts) ≡ gone every t waits p ts
   walked-on every t None p ts on = walked-reported every n string parts t p ts

@@ -122,7 +122,7 @@ pub no-parts : (parts : List Part) → length parts ≤ 0 → length (steps_in p
 no-parts [] none = omega arith
 no-parts (q ∷ parts) none = absurd (omega (arith, none))
 
--- a place is past instructions: they have fewer steps in front of it, or are none
+-- a number of steps is past instructions: they have fewer steps in front of it, or are none
 pub record IsPast (k : ℕ) (parts : List Part) : Type 0 where
   pub past : length (steps_in parts) ≤ k
   pub fewer : 0 < length parts → length (steps_in parts) < k

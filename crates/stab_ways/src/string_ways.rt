@@ -20,7 +20,7 @@ use std::alloc::Global;
 
 /// The way of a string that is put in after this many steps of a circuit, or at its end if it has no more, and that has a letter
 /// for each of its qubits: after which instructions it is another one than before them, and what it is and has flipped at the end.
-/// With `every` it is listed at every tick from its place on, in each round, in place of that; of a block without a step the first round counts.
+/// With `every` it is listed at every tick from there on, in each round, in place of that; of a block without a step the first round counts.
 ///
 /// With exactly the coins of the random outcomes that it flips exchanged, the run of the circuit with the string put in is the
 /// run without it, flipped as reported, and its state is that of the other with the string reported applied.

@@ -31,7 +31,7 @@ fn steps_to(circuit: &Circuit, numbers: &[usize]) -> (usize, usize) {
     (circuit.steps_before(path), path.first())
 }
 
-// Paths, and how many steps are before their places; past the end of a list all its steps are.
+// Paths, and how many steps are before them; past the end of a list all its steps are.
 const STEPS_BEFORE: &[(&[usize], usize, usize)] = &[
     (&[0], 0, 0),
     (&[1], 2, 1),

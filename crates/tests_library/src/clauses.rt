@@ -153,7 +153,7 @@ fn records_counted(circuit: &Circuit) -> usize
     circuit.records()
 }
 
-/// The steps before a path are counted up to its place in the first rounds.
+/// The steps before a path are counted up to its item in the first rounds.
 fn steps_counted(circuit: &Circuit, path: Path) -> usize
     ensures value { result ≡ min (length (steps_before path circuit.now)) steps_cap }
 {

@@ -13,12 +13,12 @@ const D: Kinds = Kinds::Detectors(2);
 fn is_right_in(
     alloc: Global,
     kinds: Kinds,
-    places: &[u32],
+    positions: &[u32],
     bytes: &[u8],
     room: usize,
 ) -> Result<bool, Refusal> {
     let mut out = MemoryOutput::new(alloc, room)?;
-    let answer = write_entries(&mut out, kinds, places);
+    let answer = write_entries(&mut out, kinds, positions);
     let preserved = out.bytes() == bytes.split_at(room.min(bytes.len())).0;
     match answer {
         Ok(()) => Ok(preserved && room >= bytes.len()),
@@ -27,9 +27,14 @@ fn is_right_in(
 }
 
 // Whether this holds of each room up to that for all bytes.
-fn are_entries(alloc: Global, kinds: Kinds, places: &[u32], bytes: &[u8]) -> Result<bool, Refusal> {
+fn are_entries(
+    alloc: Global,
+    kinds: Kinds,
+    positions: &[u32],
+    bytes: &[u8],
+) -> Result<bool, Refusal> {
     for room in 0..=bytes.len() {
-        if !is_right_in(alloc, kinds, places, bytes, room)? {
+        if !is_right_in(alloc, kinds, positions, bytes, room)? {
             return Ok(false);
         }
     }
@@ -46,9 +51,9 @@ const ENTRIES: &[(Kinds, &[u32], &[u8])] = &[
 
 #[test]
 fn an_entry_is_that_of_its_place(rt: HostRuntime) -> Result<(), Fail> {
-    for &(kinds, places, bytes) in ENTRIES {
-        let right = are_entries(rt.alloc(), kinds, places, bytes)?;
-        assert!(rt; right, "{places:?}");
+    for &(kinds, positions, bytes) in ENTRIES {
+        let right = are_entries(rt.alloc(), kinds, positions, bytes)?;
+        assert!(rt; right, "{positions:?}");
     }
     Ok(())
 }

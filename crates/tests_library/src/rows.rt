@@ -104,12 +104,12 @@ fn changed(
     old: &[&str],
     change: RowChange,
     new: &[&str],
-    place: (usize, usize),
+    position: (usize, usize),
     wanted: Seen,
 ) -> Result<bool, Refusal> {
     let mut rows = rows_of(alloc, 2, old)?;
     make(&mut rows, change);
-    let shown = shows(&rows, place, wanted);
+    let shown = shows(&rows, position, wanted);
     both(Ok(shown), are(alloc, &rows, new))
 }
 
@@ -173,8 +173,8 @@ const CHANGES: &[(&[&str], RowChange, &[&str], (usize, usize), Seen)] = &[
 fn rows_are_made_and_changed(rt: HostRuntime) -> Result<(), Fail> {
     let made = are_new_identities(rt.alloc())?;
     assert!(rt; made, "new rows");
-    for (number, &(old, change, new, place, seen)) in CHANGES.iter().enumerate() {
-        let hold = changed(rt.alloc(), old, change, new, place, seen)?;
+    for (number, &(old, change, new, position, seen)) in CHANGES.iter().enumerate() {
+        let hold = changed(rt.alloc(), old, change, new, position, seen)?;
         assert!(rt; hold, "change {number}");
     }
     Ok(())

@@ -117,10 +117,10 @@ fn costs(
 }
 
 /// The path of a position in the outermost list, or in a block of it.
-fn path(block: Option<usize>, place: usize) -> Path {
+fn path(block: Option<usize>, position: usize) -> Path {
     match block {
-        Some(block) => Path::new(&[block, place]),
-        None => Path::new(&[place]),
+        Some(block) => Path::new(&[block, position]),
+        None => Path::new(&[position]),
     }
 }
 
@@ -217,9 +217,9 @@ const COSTS: &[(&str, Item, [usize; 2], usize, (u64, u64))] = &[
 
 #[test]
 fn an_edit_costs_what_it_changes(rt: HostRuntime) -> Result<(), Fail> {
-    for &(circuit, (block, place, text), steps, copies, coins) in COSTS {
+    for &(circuit, (block, position, text), steps, copies, coins) in COSTS {
         let wanted = (steps, copies, coins);
-        let right = costs(rt.alloc(), circuit, path(block, place), text, wanted)?;
+        let right = costs(rt.alloc(), circuit, path(block, position), text, wanted)?;
         assert!(rt; right, "{text} in {circuit}");
     }
     Ok(())

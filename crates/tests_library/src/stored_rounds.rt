@@ -135,11 +135,11 @@ fn are(rounds: &[Repeat], wanted: &[(usize, usize)]) -> bool {
     if rounds.len() != wanted.len() {
         return false;
     }
-    for (place, round) in rounds.iter().enumerate() {
+    for (index, round) in rounds.iter().enumerate() {
         let same = Repeat {
-            first: wanted[place].0,
+            first: wanted[index].0,
             length: 4,
-            rounds: wanted[place].1,
+            rounds: wanted[index].1,
             window: 2,
         };
         if *round != same {

@@ -6,13 +6,13 @@ use std::alloc::Global;
 /// The Pauli that a text such as `-_XZ` stands for.
 pub(crate) fn read(alloc: Global, text: &str) -> Result<Pauli, Refusal> {
     let mut pauli = Pauli::identity(alloc, text.len().saturating_sub(1))?;
-    for (place, byte) in text.as_bytes().iter().enumerate() {
+    for (index, byte) in text.as_bytes().iter().enumerate() {
         match *byte {
             b'-' => pauli.negate(),
             // Letters are after the sign.
-            b'X' => set(&mut pauli, place.wrapping_sub(1), Letter::X),
-            b'Y' => set(&mut pauli, place.wrapping_sub(1), Letter::Y),
-            b'Z' => set(&mut pauli, place.wrapping_sub(1), Letter::Z),
+            b'X' => set(&mut pauli, index.wrapping_sub(1), Letter::X),
+            b'Y' => set(&mut pauli, index.wrapping_sub(1), Letter::Y),
+            b'Z' => set(&mut pauli, index.wrapping_sub(1), Letter::Z),
             _ => {}
         }
     }

@@ -98,11 +98,11 @@ fn flipped(bits: &[bool], wanted: (usize, usize, usize)) -> bool {
 }
 
 fn answers(alloc: Global, case: &Case) -> bool {
-    let (text, place, letters, reported, records, detectors, end) = *case;
+    let (text, steps, letters, reported, records, detectors, end) = *case;
     let Ok(circuit) = read_circuit(alloc, &mut MemoryInput::new(text.as_bytes())) else {
         return false;
     };
-    let Some(found) = way(alloc, &circuit, place, letters) else {
+    let Some(found) = way(alloc, &circuit, steps, letters) else {
         return false;
     };
     turns(&found, reported)

@@ -18,7 +18,7 @@ type Case = (&'static str, usize, Letters, &'static [(usize, Letters)]);
 const CASES: &[Case] = &[
     ("", 0, X0, &[]),
     ("TICK", 0, X0, &[(0, X0)]),
-    // Ticks beside the place have the string, those in front of it have not.
+    // Ticks beside it have the string, those in front of it have not.
     ("TICK\nH 0\nTICK", 0, X0, &[(0, X0), (1, Z0)]),
     ("TICK\nH 0\nTICK", 1, X0, &[(1, X0)]),
     (
@@ -54,21 +54,21 @@ const CASES: &[Case] = &[
 ];
 
 /// The way of a string of two letters, of which these are not I, by ticks.
-fn way(alloc: Global, circuit: &Circuit, place: usize, letters: Letters) -> Option<Way> {
+fn way(alloc: Global, circuit: &Circuit, steps: usize, letters: Letters) -> Option<Way> {
     let mut string = Pauli::identity(alloc, 2).ok()?;
     for (qubit, letter) in letters {
         set(&mut string, *qubit, *letter);
     }
     circuit.check(string.len()).ok()?;
-    way_of(alloc, circuit, true, place, &string).ok()
+    way_of(alloc, circuit, true, steps, &string).ok()
 }
 
 fn answers(alloc: Global, case: &Case) -> bool {
-    let (text, place, letters, reported) = *case;
+    let (text, steps, letters, reported) = *case;
     let Ok(circuit) = read_circuit(alloc, &mut MemoryInput::new(text.as_bytes())) else {
         return false;
     };
-    let Some(found) = way(alloc, &circuit, place, letters) else {
+    let Some(found) = way(alloc, &circuit, steps, letters) else {
         return false;
     };
     turns(&found, reported)

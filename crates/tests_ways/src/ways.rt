@@ -248,9 +248,9 @@ const CASES: &[Case] = &[
 /// Whether these are the letters of a string.
 fn are(found: &[PlacedLetter], wanted: Letters) -> bool {
     let mut same = found.len() == wanted.len();
-    for place in 0..found.len().min(wanted.len()) {
-        let (qubit, letter) = wanted[place];
-        same = same && found[place].qubit == qubit && found[place].letter == letter;
+    for index in 0..found.len().min(wanted.len()) {
+        let (qubit, letter) = wanted[index];
+        same = same && found[index].qubit == qubit && found[index].letter == letter;
     }
     same
 }
@@ -304,9 +304,9 @@ fn flipped(additions: &[Addition], wanted: &[usize]) -> bool {
 pub(crate) fn turns(way: &Way, wanted: &[(usize, Letters)]) -> bool {
     let found = way.turns.as_slice();
     let mut same = found.len() == wanted.len();
-    for place in 0..found.len().min(wanted.len()) {
-        let (after, string) = wanted[place];
-        same = same && found[place].after == after && are(found[place].string.as_slice(), string);
+    for index in 0..found.len().min(wanted.len()) {
+        let (after, string) = wanted[index];
+        same = same && found[index].after == after && are(found[index].string.as_slice(), string);
     }
     same
 }
@@ -319,21 +319,21 @@ pub(crate) fn set(string: &mut Pauli, qubit: usize, letter: Letter) {
 }
 
 /// The way of a string of two letters, of which these are not I.
-pub(crate) fn way(alloc: Global, circuit: &Circuit, place: usize, letters: Letters) -> Option<Way> {
+pub(crate) fn way(alloc: Global, circuit: &Circuit, steps: usize, letters: Letters) -> Option<Way> {
     let mut string = Pauli::identity(alloc, 2).ok()?;
     for (qubit, letter) in letters {
         set(&mut string, *qubit, *letter);
     }
     circuit.check(string.len()).ok()?;
-    way_of(alloc, circuit, false, place, &string).ok()
+    way_of(alloc, circuit, false, steps, &string).ok()
 }
 
 fn answers(alloc: Global, case: &Case) -> bool {
-    let (text, place, letters, reported, records, detectors, additions, end) = *case;
+    let (text, steps, letters, reported, records, detectors, additions, end) = *case;
     let Ok(circuit) = read_circuit(alloc, &mut MemoryInput::new(text.as_bytes())) else {
         return false;
     };
-    let Some(found) = way(alloc, &circuit, place, letters) else {
+    let Some(found) = way(alloc, &circuit, steps, letters) else {
         return false;
     };
     turns(&found, reported)

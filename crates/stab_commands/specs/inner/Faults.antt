@@ -1,14 +1,14 @@
 -- Faults: what the parts of `faults` find and send.
 -- Source: this project's own.
 use Rattle.std.specs.Prelude.{◌≡◌, ℕ, List, [], ◌∷◌, Option, Some, None, Result, Ok, Err, ◌⊎◌}
-use Rattle.stab_io.specs.Devices.{OutputView}
+use Rattle.stab_io.specs.Devices.{OutputView, TookAndFlushed}
 use Rattle.stab_io.specs.declared.refusal.Refusal.TheVariants.{WriteFault, OutOfMemory}
 use Rattle.stab_io.specs.declared.refusal.Fault.{Fault}
 use Rattle.stab_io.specs.Refusals.{whole}
 use Rattle.stab_items.specs.Steps.{Step}
 use Rattle.stab_report.specs.declared.random.Bit.{Bit}
-use Rattle.stab_report.specs.Endings.{TookAndFlushed, FailsToSend}
-use Rattle.stab_report.specs.Places.{steps_before_bit}
+use Rattle.stab_report.specs.Endings.{FailsToSend}
+use Rattle.stab_report.specs.ItemPaths.{steps_before_bit}
 
 -- a step makes a bit, or is passed on the way to the first that makes what is then called so
 abbrev pub PassesStep : Bit → Step → Option Bit → Type 0

@@ -1,12 +1,12 @@
 -- Rows: how the lines of strings are sent.
 -- Source: this project's own.
 use Rattle.std.specs.Prelude.{◌≡◌, List, Result, Ok, Err}
-use Rattle.stab_io.specs.Devices.{OutputView}
+use Rattle.stab_io.specs.Devices.{OutputView, TookAndFlushed}
 use Rattle.stab_io.specs.Refusals.{whole}
 use Rattle.stab_io.specs.declared.refusal.Refusal.TheVariants.{WriteFault}
 use Rattle.stab_io.specs.declared.refusal.Fault.{Fault}
 use Rattle.stab_pauli.specs.Paulis.{Signed}
-use Rattle.stab_report.specs.Endings.{FailsToSend, TookAndFlushed}
+use Rattle.stab_report.specs.Endings.{FailsToSend}
 use Rattle.stab_report.specs.Rows.{lines_of}
 
 -- the lines of these strings were sent: all of them, with a flush after them; or the output failed

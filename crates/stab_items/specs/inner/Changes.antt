@@ -6,7 +6,7 @@ use Rattle.stab_io.specs.declared.refusal.Refusal.TheVariants.{PlaceOutOfRange}
 use Rattle.stab_items.specs.Items.{OneItem, depth_of}
 use Rattle.stab_items.specs.inner.Blocks.{with_rounds}
 use Rattle.stab_items.specs.Paths.{Path}
-use Rattle.stab_items.specs.Places.{item_at}
+use Rattle.stab_items.specs.ItemsAt.{item_at}
 use Rattle.stab_items.specs.Edits.{with_item, edited_inside}
 
 -- the same as a list, which is empty if there are no rounds
@@ -25,11 +25,11 @@ changed_in f (b ∷ bs) xs = with_item b xs (edited_inside (changed_in f bs) (sl
 
 -- the parts that replace an item, if there is one
 abbrev pub parts_at : ℕ → List OneItem → ListChange
-parts_at place parts xs = if nat_lt place (length xs) then Ok (take place xs ++ (parts ++ drop (place + 1) xs)) else Err PlaceOutOfRange
+parts_at position parts xs = if nat_lt position (length xs) then Ok (take position xs ++ (parts ++ drop (position + 1) xs)) else Err PlaceOutOfRange
 
 -- the parts that replace the item at a path
 abbrev pub with_parts_at : Path → List OneItem → ListChange
-with_parts_at path parts xs = changed_in (parts_at path.place parts) path.blocks xs
+with_parts_at path parts xs = changed_in (parts_at path.position parts) path.blocks xs
 
 -- there is an item at the path, and blocks are nested as deep in it as in each of the parts
 pub record AreAsDeep (path : Path) (parts xs : List OneItem) : Type 0 where

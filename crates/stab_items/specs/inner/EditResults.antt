@@ -12,7 +12,7 @@ use Rattle.stab_items.specs.inner.Summaries.{followed_by, IsSummary}
 use Rattle.stab_items.specs.inner.Splices.{Splice}
 use Rattle.stab_items.specs.inner.Judgements.{summed, BeginsWith}
 
--- the steps before a place in the last of these blocks, without those before the outermost block
+-- the steps before a position in the last of these blocks, without those before the outermost block
 abbrev pub steps_within : List ℕ → ℕ → List OneItem → List Step
 steps_within [] p xs = []
 steps_within (b ∷ bs) p xs = steps_in bs p (inner (slice_get xs b))
@@ -34,12 +34,12 @@ edit_result_by j front gone back = record {
   new_end = min (front.steps + j.put.steps) steps_cap;
 }
 
--- this is what a list comes to by an edit in the last of these blocks, which comes to a place
+-- this is what a list comes to by an edit in the last of these blocks, which comes to a position
 pub record IsEditResult (edit : Edit) (blocks : List ℕ) (xs : List OneItem) (o : EditResult) : Type 0 where
   pub total : Ok o.total ≡ summed (edited_in edit blocks xs)
   pub small : IsSummary o.total
-  pub first : o.first ≡ min (length (steps_in blocks (edit_path edit).place xs)) steps_cap
-  pub front : BeginsWith (steps_in blocks (edit_path edit).place xs) (unroll (listed xs))
+  pub first : o.first ≡ min (length (steps_in blocks (edit_path edit).position xs)) steps_cap
+  pub front : BeginsWith (steps_in blocks (edit_path edit).position xs) (unroll (listed xs))
   pub old_end : o.old_end ≡ min (length (unroll (listed (take (outermost (after_taken edit) blocks) xs)))) steps_cap
   pub new_end : IfOk (edited_in edit blocks xs) (λ new. o.new_end ≡ min (length (unroll (listed (take (outermost (after_put edit) blocks) new)))) steps_cap)
   pub good : IfOk (edited_in edit blocks xs) IsGoodList

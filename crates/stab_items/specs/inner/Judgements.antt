@@ -18,7 +18,7 @@ abbrev pub summed : Result (List OneItem) Refusal → Result Summary Refusal
 summed (Ok ys) = Ok (summary_of (listed ys))
 summed (Err r) = Err r
 
--- a splice with the summary of what is put in, and with this many steps before the place within the first item, unless it is refused
+-- a splice with the summary of what is put in, and with this many steps before the position within the first item, unless it is refused
 abbrev pub judgement_of : ℕ → Result Splice Refusal → Result Judgement Refusal
 judgement_of within (Ok s) = Ok (record { first = s.first; following = s.following; put = summary_of (listed s.put); within = within })
 judgement_of within (Err r) = Err r

@@ -16,9 +16,9 @@ pub record Splice : Type 0 where
 
 -- the splice of an edit in the innermost list around its place, of this many items
 abbrev pub splice_at : Edit → ℕ → Result Splice Refusal
-splice_at (Insert place x) n = if nat_le place.place n then Ok (record { first = place.place; following = place.place; put = x ∷ [] }) else Err PlaceOutOfRange
-splice_at (Replace place x) n = if nat_lt place.place n then Ok (record { first = place.place; following = place.place + 1; put = x ∷ [] }) else Err PlaceOutOfRange
-splice_at (Delete place) n = if nat_lt place.place n then Ok (record { first = place.place; following = place.place + 1; put = [] }) else Err PlaceOutOfRange
+splice_at (Insert place x) n = if nat_le place.position n then Ok (record { first = place.position; following = place.position; put = x ∷ [] }) else Err PlaceOutOfRange
+splice_at (Replace place x) n = if nat_lt place.position n then Ok (record { first = place.position; following = place.position + 1; put = x ∷ [] }) else Err PlaceOutOfRange
+splice_at (Delete place) n = if nat_lt place.position n then Ok (record { first = place.position; following = place.position + 1; put = [] }) else Err PlaceOutOfRange
 
 -- the splice of an item that is rebuilt at a position, unless that was refused
 abbrev pub splice_block : ℕ → Result OneItem Refusal → Result Splice Refusal

@@ -17,12 +17,12 @@ items_in [] = 0
 items_in (s ∷ ss) = s.items + items_in ss
 
 -- these are stretches of a list of this many items, of which another is left if items are put in at a place, and at most the one there is taken out
-pub record WereStretches (ss : List Stretch) (place len : ℕ) (new : List OneItem) : Type 0 where
+pub record WereStretches (ss : List Stretch) (position len : ℕ) (new : List OneItem) : Type 0 where
   pub old : List OneItem
   pub are : AreStretches ss old
   pub long : length old ≡ len
   pub splice : Splice
   pub within : IsWithin splice old
-  pub first : splice.first ≡ place
-  pub one : splice.following ≤ place + 1
+  pub first : splice.first ≡ position
+  pub one : splice.following ≤ position + 1
   pub left : spliced old (Ok splice) ≡ Ok new

@@ -33,7 +33,7 @@ impl Circuit {
     ghost use Rattle.stab_items.specs.Editings.{IsSpanOf};
     ghost use Rattle.stab_items.specs.inner.EditResults.{IsEditResult};
 
-    /// How many steps are before the place of a path, in the first round of each block around it,
+    /// How many steps are before the position of a path, in the first round of each block around it,
     /// or 1,048,577 if there are more.
     pub fn steps_before(&self, path: Path) -> usize
         ensures value { result ≡ min (length (steps_before path self.now)) steps_cap }
@@ -42,7 +42,7 @@ impl Circuit {
             self.items(),
             self.stretches.as_slice(),
             path.blocks(),
-            path.place(),
+            path.position(),
         ) as usize
     }
 

@@ -2,7 +2,7 @@ ghost use Rattle.std.specs.Prelude.{◌≡◌, ◌≤◌, ◌<◌, ◌+◌, ◌*
 ghost use Rattle.stab_io.specs.declared.refusal.Refusal.TheVariants.{OutOfMemory};
 ghost use Rattle.stab_items.specs.Items.{OneItem, listed};
 ghost use Rattle.stab_items.specs.Steps.{unroll, most_steps, steps_cap};
-ghost use Rattle.stab_items.specs.Places.{item_in, found_inside};
+ghost use Rattle.stab_items.specs.ItemsAt.{item_in, found_inside};
 ghost use Rattle.stab_items.specs.Rounds.{item_steps, pieces_in};
 ghost use Rattle.stab_items.specs.inner.Judgements.{shown_item};
 ghost use Rattle.stab_items.specs.inner.Gaps.{with_more as with_more_of, copies as copies_of, round_gaps, block_pieces, AreGapsIn, AreGapsInside};
@@ -18,17 +18,17 @@ use std::alloc::Global;
 const MOST_GAPS: u64 = 1_048_576;
 
 /// The item at a position of a list, if there is one.
-fn item_in_list(items: &[Item], place: usize) -> Option<&Item>
-    ensures value { shown_item result ≡ slice_get items.now place }
+fn item_in_list(items: &[Item], position: usize) -> Option<&Item>
+    ensures value { shown_item result ≡ slice_get items.now position }
 {
-    items.get(place)
+    items.get(position)
 }
 
 /// How many steps the items after the one at a position make, or 1,048,577 if they make more.
-fn steps_after(items: &[Item], place: usize) -> u32
-    ensures value { result ≡ min (length (unroll (listed (drop (place + 1) items.now)))) steps_cap }
+fn steps_after(items: &[Item], position: usize) -> u32
+    ensures value { result ≡ min (length (unroll (listed (drop (position + 1) items.now)))) steps_cap }
 {
-    let (_, rest) = items.split_at(place.min(items.len()));
+    let (_, rest) = items.split_at(position.min(items.len()));
     match rest.split_first() {
         None => 0,
         Some((_, following)) => items_summary(following).steps,
@@ -72,7 +72,7 @@ fn are_few(count: u64, len: usize) -> bool
     }
 }
 
-/// The gaps of all rounds of a block, by those of one, with this many steps before the place in a
+/// The gaps of all rounds of a block, by those of one, with this many steps before the position in a
 /// round; or `None` if there are too many.
 fn gaps_of_rounds(
     alloc: Global,
@@ -107,20 +107,20 @@ fn gaps_in(
     alloc: Global,
     items: &[Item],
     blocks: &[usize],
-    place: usize,
+    position: usize,
 ) -> Result<Option<Vec<usize>>, Refusal>
     requires few { length (unroll (listed items.now)) ≤ most_steps }
-    ensures some { IfOk result (λ found. IfSome found (λ gaps. AreGapsIn blocks.now place items.now gaps.items)) }
-    ensures none { IfOk result (λ found. IfNone found ((x : OneItem) → item_in blocks.now place items.now ≡ Ok x → most_steps < length (pieces_in (place + 1) blocks.now place items.now []))) }
+    ensures some { IfOk result (λ found. IfSome found (λ gaps. AreGapsIn blocks.now position items.now gaps.items)) }
+    ensures none { IfOk result (λ found. IfNone found ((x : OneItem) → item_in blocks.now position items.now ≡ Ok x → most_steps < length (pieces_in (position + 1) blocks.now position items.now []))) }
     ensures err { IfErr result (λ r. r ≡ OutOfMemory) }
 {
     match blocks.split_first() {
-        None => Ok(Some(vec![in alloc; steps_after(items, place) as usize]?)),
+        None => Ok(Some(vec![in alloc; steps_after(items, position) as usize]?)),
         Some((block, others)) => match gaps_inside(
             alloc,
             item_in_list(items, *block),
             others,
-            place,
+            position,
         )? {
             None => Ok(None),
             Some(gaps) => Ok(Some(with_more(gaps, steps_after(items, *block) as usize)?)),
@@ -135,21 +135,21 @@ fn gaps_inside(
     alloc: Global,
     found: Option<&Item>,
     others: &[usize],
-    place: usize,
+    position: usize,
 ) -> Result<Option<Vec<usize>>, Refusal>
     requires few { length (item_steps (shown_item found)) ≤ most_steps }
-    ensures some { IfOk result (λ determined. IfSome determined (λ gaps. AreGapsInside others.now place (shown_item found.entry) gaps.items)) }
-    ensures none { IfOk result (λ determined. IfNone determined ((x : OneItem) → found_inside (item_in others.now place) (shown_item found.entry) ≡ Ok x → most_steps < length (block_pieces (place + 1) others.now place (shown_item found.entry) []))) }
+    ensures some { IfOk result (λ determined. IfSome determined (λ gaps. AreGapsInside others.now position (shown_item found.entry) gaps.items)) }
+    ensures none { IfOk result (λ determined. IfNone determined ((x : OneItem) → found_inside (item_in others.now position) (shown_item found.entry) ≡ Ok x → most_steps < length (block_pieces (position + 1) others.now position (shown_item found.entry) []))) }
     ensures err { IfErr result (λ r. r ≡ OutOfMemory) }
 {
     let Ok(block) = block_of(found) else {
         return Ok(None);
     };
     let count = block.count.number();
-    match gaps_in(alloc, block.body, others, place)? {
+    match gaps_in(alloc, block.body, others, position)? {
         None => Ok(None),
         Some(round) => {
-            let lead = steps_in(block.body, &[], others, place);
+            let lead = steps_in(block.body, &[], others, position);
             gaps_of_rounds(alloc, round, count, lead as usize)
         }
     }
@@ -161,7 +161,7 @@ impl Circuit {
     ghost use Rattle.stab_items.specs.Items.{OneItem};
     ghost use Rattle.stab_items.specs.Steps.{unroll, most_steps};
     ghost use Rattle.stab_items.specs.Views.{circuit_items};
-    ghost use Rattle.stab_items.specs.Places.{item_at as item_of_path};
+    ghost use Rattle.stab_items.specs.ItemsAt.{item_at as item_of_path};
     ghost use Rattle.stab_items.specs.Rounds.{pieces, AreGaps};
 
     /// How many steps are after the item at a path each time that it is carried out, in order: up
@@ -175,15 +175,15 @@ impl Circuit {
     pub fn gaps(&self, alloc: Global, path: Path) -> Result<Option<Vec<usize>>, Refusal>
         requires few { length (unroll (circuit_items self.now)) ≤ most_steps }
         ensures some { IfOk result (λ found. IfSome found (λ gaps. AreGaps path self.now gaps.items)) }
-        ensures none { IfOk result (λ found. IfNone found ((x : OneItem) → item_of_path path self.now ≡ Ok x → most_steps < length (pieces path (path.place + 1) self.now))) }
+        ensures none { IfOk result (λ found. IfNone found ((x : OneItem) → item_of_path path self.now ≡ Ok x → most_steps < length (pieces path (path.position + 1) self.now))) }
         ensures err { IfErr result (λ r. r ≡ OutOfMemory) }
     {
-        let place = path.place();
+        let position = path.position();
         let blocks = path.blocks();
         match blocks.split_first() {
             None => Ok(Some(vec![in alloc; 0]?)),
             Some((block, others)) => {
-                gaps_inside(alloc, item_in_list(self.items(), *block), others, place)
+                gaps_inside(alloc, item_in_list(self.items(), *block), others, position)
             }
         }
     }

@@ -6,7 +6,7 @@ ghost use Rattle.stab_items.specs.inner.Parts.{part_of, IsPart};
 ghost use Rattle.stab_items.specs.inner.StepItems.{IsFoundItem};
 
 use super::Circuit;
-use super::stretches::StepPlace;
+use super::stretches::StepPosition;
 use crate::instruction_steps::step_count;
 use crate::item::{Item, Part};
 use crate::path::Path;
@@ -23,7 +23,7 @@ pub struct StepItem {
 /// An item in a list, and how many of its steps come before a step of it.
 #[derive(Clone, Copy)]
 struct FoundItem {
-    place: usize,
+    position: usize,
     within: u32,
 }
 
@@ -40,31 +40,31 @@ pub(super) fn item_steps(item: &Item) -> u32
 }
 
 /// What the item at a position is.
-fn part_at(items: &[Item], place: usize) -> Part<'_>
-    requires in_range { place < length items.now }
-    ensures value { part_of result ≡ slice_index_or items.now place (part_of result) }
+fn part_at(items: &[Item], position: usize) -> Part<'_>
+    requires in_range { position < length items.now }
+    ensures value { part_of result ≡ slice_index_or items.now position (part_of result) }
     ensures stored { IsPart result }
 {
-    items[place].part()
+    items[position].part()
 }
 
 /// The item of a step of the items from a position on.
-fn find_item(items: &[Item], place: usize, step: u32) -> FoundItem
+fn find_item(items: &[Item], position: usize, step: u32) -> FoundItem
     requires few { length (unroll (listed items.now)) ≤ most_steps }
-    requires in_range { step < length (unroll (listed (drop place items.now))) }
-    ensures found { IsFoundItem items.now place step result }
-    ensures steps { length (unroll (listed (take result.place items.now))) + result.within ≡ length (unroll (listed (take place items.now))) + step }
+    requires in_range { step < length (unroll (listed (drop position items.now))) }
+    ensures found { IsFoundItem items.now position step result }
+    ensures steps { length (unroll (listed (take result.position items.now))) + result.within ≡ length (unroll (listed (take position items.now))) + step }
 {
     let mut found = FoundItem {
-        place,
+        position,
         within: step,
     };
     'items: loop {
-        let steps = item_steps(&items[found.place]);
+        let steps = item_steps(&items[found.position]);
         if found.within < steps {
             return found;
         }
-        found.place += 1;
+        found.position += 1;
         found.within -= steps;
     }
 }
@@ -73,24 +73,24 @@ fn find_item(items: &[Item], place: usize, step: u32) -> FoundItem
 fn item_within(items: &[Item], first: FoundItem) -> StepItem
     requires few { length (unroll (listed items.now)) ≤ most_steps }
     requires shallow { depth (listed items.now) ≤ 16 }
-    requires in_range { first.place < length items.now }
-    requires within { first.within + length (unroll (listed (drop (first.place + 1) items.now))) < length (unroll (listed (drop first.place items.now))) }
+    requires in_range { first.position < length items.now }
+    requires within { first.within + length (unroll (listed (drop (first.position + 1) items.now))) < length (unroll (listed (drop first.position items.now))) }
     ensures some { 0 < result.steps }
-    ensures steps { result.steps ≡ item_steps_left (listed (drop first.place items.now)) first.within }
-    ensures path { take result.steps (drop first.within (paths_from first.place (listed (drop first.place items.now)))) ≡ replicate result.steps result.path }
+    ensures steps { result.steps ≡ item_steps_left (listed (drop first.position items.now)) first.within }
+    ensures path { take result.steps (drop first.within (paths_from first.position (listed (drop first.position items.now)))) ≡ replicate result.steps result.path }
 {
     let mut items = items;
     let mut found = first;
-    let mut places = [0; 17];
+    let mut positions = [0; 17];
     let mut depth = 0;
     'levels: loop {
-        places[depth] = found.place;
-        match part_at(items, found.place) {
+        positions[depth] = found.position;
+        match part_at(items, found.position) {
             // It has no step.
             Part::Tick => unreachable!(),
             Part::Operation { kind, .. } => {
                 return StepItem {
-                    path: Path::new(&places[..depth + 1]),
+                    path: Path::new(&positions[..depth + 1]),
                     steps: step_count(kind) - found.within as usize,
                 };
             }
@@ -108,7 +108,7 @@ fn item_within(items: &[Item], first: FoundItem) -> StepItem
 pub struct StepItems<'a> {
     circuit: &'a Circuit,
     /// The item of the outermost list that was found last, and how many steps come before it.
-    place: usize,
+    position: usize,
     before: u32,
 }
 
@@ -125,7 +125,7 @@ impl<'a> Model for StepItems<'a> {
 
     ghost view = { λ s. s.circuit.now };
 
-    ghost invariant = { λ s. (s.place ≤ length s.circuit.now) × (s.before ≡ length (unroll (listed (take s.place s.circuit.now)))) };
+    ghost invariant = { λ s. (s.position ≤ length s.circuit.now) × (s.before ≡ length (unroll (listed (take s.position s.circuit.now)))) };
 }
 
 impl<'a> StepItems<'a> {
@@ -141,28 +141,28 @@ impl<'a> StepItems<'a> {
     {
         StepItems {
             circuit,
-            place: 0,
+            position: 0,
             before: 0,
         }
     }
 
     /// A position that is known before a step, and how many steps are between.
-    fn place_before(&self, step: u32) -> StepPlace
+    fn position_before(&self, step: u32) -> StepPosition
         requires few { step ≤ most_steps }
-        ensures within { result.place ≤ length self.now }
-        ensures steps { length (unroll (listed (take result.place self.now))) + result.steps ≡ step }
+        ensures within { result.position ≤ length self.now }
+        ensures steps { length (unroll (listed (take result.position self.now))) + result.steps ≡ step }
     {
         if step < self.before {
-            return self.circuit.place_before(step);
+            return self.circuit.position_before(step);
         }
-        StepPlace {
-            place: self.place,
+        StepPosition {
+            position: self.position,
             steps: step - self.before,
         }
     }
 
     /// The item of a step, as `Circuit::item_of_step` gives it.
-    #[tactic(auto, using(crate::proofs::SummaryLemmas::few_steps, crate::proofs::StretchLemmas::steps_from_place))]
+    #[tactic(auto, using(crate::proofs::SummaryLemmas::few_steps, crate::proofs::StretchLemmas::steps_from_position))]
     pub fn item_of_step(&mut self, step: usize) -> StepItem
         requires checked { check_of (circuit_items self.old) ≡ None }
         requires in_range { step < length (unroll (circuit_items self.old)) }
@@ -172,9 +172,9 @@ impl<'a> StepItems<'a> {
         ensures path { take result.steps (drop step (paths_of (circuit_items self.old))) ≡ replicate result.steps result.path }
     {
         let items = self.circuit.items();
-        let begin = self.place_before(step as u32);
-        let found = find_item(items, begin.place, begin.steps);
-        self.place = found.place;
+        let begin = self.position_before(step as u32);
+        let found = find_item(items, begin.position, begin.steps);
+        self.position = found.position;
         self.before = step as u32 - found.within;
         item_within(items, found)
     }
@@ -199,10 +199,10 @@ impl Circuit {
         ensures steps { result.steps ≡ item_steps_left (circuit_items self.now) step }
         ensures path { take result.steps (drop step (paths_of (circuit_items self.now))) ≡ replicate result.steps result.path }
     {
-        let begin = self.place_before(step as u32);
+        let begin = self.position_before(step as u32);
         let mut items = StepItems {
             circuit: self,
-            place: begin.place,
+            position: begin.position,
             before: step as u32 - begin.steps,
         };
         items.item_of_step(step)

@@ -20,8 +20,8 @@ pub(crate) struct Stretch {
 
 /// A position in a list, and how many steps are left out from there on.
 #[derive(Clone, Copy)]
-pub(crate) struct StepPlace {
-    pub(crate) place: usize,
+pub(crate) struct StepPosition {
+    pub(crate) position: usize,
     pub(crate) steps: u32,
 }
 
@@ -59,31 +59,31 @@ fn stretch_at(stretches: &[Stretch], number: usize) -> Stretch
 }
 
 /// The items of a list before a position.
-fn items_up_to(items: &[Item], place: usize) -> &[Item]
-    ensures value { result.now ≡ take place items.now }
+fn items_up_to(items: &[Item], position: usize) -> &[Item]
+    ensures value { result.now ≡ take position items.now }
 {
-    items.split_at(place.min(items.len())).0
+    items.split_at(position.min(items.len())).0
 }
 
 /// The items of a list from a position on.
-fn items_from(items: &[Item], place: usize) -> &[Item]
-    ensures value { result.now ≡ drop place items.now }
+fn items_from(items: &[Item], position: usize) -> &[Item]
+    ensures value { result.now ≡ drop position items.now }
 {
-    items.split_at(place.min(items.len())).1
+    items.split_at(position.min(items.len())).1
 }
 
 /// The summary of those items of a stretch, which begins at a position of a list, that are in a front
 /// of the list and from another position on.
-fn summary_within(stretch: Stretch, place: usize, front: &[Item], first: usize) -> Summary
-    requires room { place + stretch.items < 2 ^ 64 }
-    requires sum { place + stretch.items ≤ length front.now → IsSumOf (listed (take stretch.items (drop place front.now))) stretch.summary }
-    ensures sum { IsSumOf (listed (drop (max first place) (take (place + stretch.items) front.now))) result }
+fn summary_within(stretch: Stretch, position: usize, front: &[Item], first: usize) -> Summary
+    requires room { position + stretch.items < 2 ^ 64 }
+    requires sum { position + stretch.items ≤ length front.now → IsSumOf (listed (take stretch.items (drop position front.now))) stretch.summary }
+    ensures sum { IsSumOf (listed (drop (max first position) (take (position + stretch.items) front.now))) result }
 {
-    let end = place + stretch.items;
-    if first <= place && end <= front.len() {
+    let end = position + stretch.items;
+    if first <= position && end <= front.len() {
         return stretch.summary;
     }
-    items_summary(items_from(items_up_to(front, end), first.max(place)))
+    items_summary(items_from(items_up_to(front, end), first.max(position)))
 }
 
 /// The summary of the items of a list from one position up to another, by its stretches.
@@ -98,13 +98,13 @@ pub(crate) fn summary_between(
 {
     let front = items_up_to(items, end);
     let mut all = Summary::NONE;
-    let mut place = 0;
+    let mut position = 0;
     'stretches: for number in 0..stretches.len() {
         let stretch = stretch_at(stretches, number);
-        all = all.then(summary_within(stretch, place, front, first));
-        place += stretch.items;
+        all = all.then(summary_within(stretch, position, front, first));
+        position += stretch.items;
     }
-    all.then(items_summary(items_from(front, first.max(place))))
+    all.then(items_summary(items_from(front, first.max(position))))
 }
 
 /// The summary of all items of a list, by its stretches if memory for them was there.
@@ -118,18 +118,23 @@ pub(super) fn whole_summary(stretches: &Result<Vec<Stretch>, AllocError>, items:
     }
 }
 
-/// Renews the stretch in which a list that had this many items was edited at a place, if there is one;
+/// Renews the stretch in which a list that had this many items was edited at a position, if there is one;
 /// after the last stretch there is none. It takes no memory: the stretch has what was put in too, without a
 /// limit, and stays even if its last item was taken out.
-pub(super) fn renew_stretch(stretches: &mut Vec<Stretch>, place: usize, len: usize, items: &[Item])
-    requires were { WereStretches stretches.old.items place len items.now }
+pub(super) fn renew_stretch(
+    stretches: &mut Vec<Stretch>,
+    position: usize,
+    len: usize,
+    items: &[Item],
+)
+    requires were { WereStretches stretches.old.items position len items.now }
     ensures are { AreStretches stretches.new.items items.now }
 {
     let mut first = 0;
     'stretches: for number in 0..stretches.len() {
         let stretch = stretches[number];
         let end = first + stretch.items;
-        if place < end {
+        if position < end {
             let front = items_up_to(items, items.len() - (len - end));
             stretches[number] = stretch_of(items_from(front, first));
             return;
@@ -144,22 +149,28 @@ impl Circuit {
     ghost use Rattle.stab_items.specs.Steps.{unroll, most_steps};
 
     /// The last position that is known before a step, and how many steps are between.
-    pub(crate) fn place_before(&self, step: u32) -> StepPlace
+    pub(crate) fn position_before(&self, step: u32) -> StepPosition
         requires few { step ≤ most_steps }
-        ensures within { result.place ≤ length self.now }
-        ensures steps { length (unroll (listed (take result.place self.now))) + result.steps ≡ step }
+        ensures within { result.position ≤ length self.now }
+        ensures steps { length (unroll (listed (take result.position self.now))) + result.steps ≡ step }
     {
-        let mut place = 0;
+        let mut position = 0;
         let mut left = step;
         let parts = self.stretches.as_slice();
         'stretches: for number in 0..parts.len() {
             let stretch = stretch_at(parts, number);
             if left < stretch.summary.steps {
-                return StepPlace { place, steps: left };
+                return StepPosition {
+                    position,
+                    steps: left,
+                };
             }
-            place += stretch.items;
+            position += stretch.items;
             left -= stretch.summary.steps;
         }
-        StepPlace { place, steps: left }
+        StepPosition {
+            position,
+            steps: left,
+        }
     }
 }

@@ -1,4 +1,4 @@
--- Fault sites: the places for single errors that the values of the code stand for, and the steps of one item.
+-- Single error sites: the sites for single errors that the values of the code stand for, and the steps of one item.
 -- Source: this project's own.
 use Rattle.std.specs.Prelude.{◌≡◌, ℕ, List, [], ◌∷◌, take, drop, replicate, Option, Some, None}
 use Rattle.stab_items.specs.Items.{Items}
@@ -8,7 +8,7 @@ use Rattle.stab_items.specs.StepPaths.{paths_of}
 use Rattle.stab_items.specs.declared.circuit.step_items.StepItem.{StepItem}
 use Rattle.stab_report.specs.declared.single_error_sites.Site.{Site as SiteValue}
 
--- the place that a value stands for
+-- the site that a value stands for
 abbrev pub site_shown : SiteValue → Site
 site_shown s = record { qubit = s.qubit; following = s.following }
 
@@ -17,7 +17,7 @@ abbrev pub site_found : Option SiteValue → Option Site
 site_found (Some s) = Some (site_shown s)
 site_found None = None
 
--- the places at a factor of a product
+-- the sites at a factor of a product
 abbrev pub factor_sites : Factor → List Site
 factor_sites f = in_front f.qubit ∷ following f.qubit ∷ []
 

@@ -8,7 +8,7 @@ use Rattle.stab_regions.specs.SingleErrors.{SingleError}
 use Rattle.stab_ways.specs.declared.way.PlacedLetter.{PlacedLetter}
 use Rattle.stab_report.specs.CoinTables.{whole_kinds}
 use Rattle.stab_report.specs.SingleErrorTables.{single_error_text}
-use Rattle.stab_report.specs.Places.{path_at}
+use Rattle.stab_report.specs.ItemPaths.{path_at}
 use Rattle.stab_script.specs.WayTexts.{left_line}
 
 -- the line of an error that flips the bits of these numbers

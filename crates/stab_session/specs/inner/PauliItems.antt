@@ -9,7 +9,7 @@ use Rattle.stab_instructions.specs.declared.operation.Kind.{Kind}
 use Rattle.stab_instructions.specs.declared.operation.Kind.TheVariants as kind
 use Rattle.stab_items.specs.Items.{OneItem, operation, repeat, listed}
 use Rattle.stab_items.specs.Steps.{one, unroll, past, qubits_of, check_within, most_steps}
-use Rattle.stab_items.specs.Places.{item_at}
+use Rattle.stab_items.specs.ItemsAt.{item_at}
 use Rattle.stab_items.specs.Rounds.{pieces}
 use Rattle.stab_run.specs.Runs.{gate_of}
 use Rattle.stab_session.specs.declared.pending.Pending.{Pending}
@@ -63,4 +63,4 @@ pub record IsPauliEdit (p : Pending) (now : List OneItem) : Type 0 where
   pub put : OneItem
   pub found : item_at (pending_path p) now ≡ Ok put
   pub is : IsPauliItem put
-  pub few : length (pieces (pending_path p) ((pending_path p).place + 1) now) ≤ most_steps
+  pub few : length (pieces (pending_path p) ((pending_path p).position + 1) now) ≤ most_steps

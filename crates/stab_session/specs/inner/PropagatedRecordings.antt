@@ -50,7 +50,7 @@ StaysNear K s total step next =
 abbrev pub span_meeting : Span → Meeting
 span_meeting s = record { old_step = s.old_end; new_step = s.new_end; old_lengths = no_lengths; new_lengths = no_lengths }
 
--- a frame that began where the lists of a run were this long went past the places of a change within a span; of the checkpoints that are after
+-- a frame that began where the lists of a run were this long went past the sites of a change within a span; of the checkpoints that are after
 -- this many, those up to another count were made checkpoints of the new run
 pub record IsPastSites (ys : List Step) (s : Span) (before inside : ℕ) (change : PauliChange) (r : Recording) (from : Lengths) (w : PropagationState) (checkpoints : List Checkpoint) : Type 0 where
   pub from_is : IfSome (slice_get r.checkpoints.items (before - 1)) (λ c. (n : ℕ) (coins : ℕ → Bool) (a : Point)
@@ -82,7 +82,7 @@ pub record IsConjugating (ys : List Step) (s : Span) (inside : ℕ) (p : PastSit
   pub room : HasRoomFor r.tableau.qubits t.rest r.checkpoints.items
 
 -- what it made was put in place
-pub record IsPutInPlace (old : Recording) (before K : ℕ) (t : Conjugating) (new : Recording) : Type 0 where
+pub record IsTakenOver (old : Recording) (before K : ℕ) (t : Conjugating) (new : Recording) : Type 0 where
   pub qubits : new.tableau.qubits ≡ old.tableau.qubits
   pub conjugated : IsConjugated old.tableau.qubits t.rest.propagation.letters (stabilises old.tableau) (stabilises new.tableau)
   pub output : output_of new.outputs

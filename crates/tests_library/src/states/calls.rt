@@ -26,8 +26,8 @@ pub(super) enum Call {
     Copy,
 }
 
-fn qubit(tableau: &Tableau, place: EndQubit) -> usize {
-    match place {
+fn qubit(tableau: &Tableau, end: EndQubit) -> usize {
+    match end {
         EndQubit::First => 0,
         EndQubit::Last => tableau.len().saturating_sub(1),
     }
@@ -102,7 +102,7 @@ fn go_on_with_copy(alloc: Global, tableau: &mut Tableau) -> Result<bool, Refusal
 // Makes a call, if a state has the qubits that it names.
 fn carry_out_one(alloc: Global, tableau: &mut Tableau, call: Call) -> Result<bool, Refusal> {
     match call {
-        Call::One(gate, place) => Ok(apply(tableau, gate, qubit(tableau, place))),
+        Call::One(gate, end) => Ok(apply(tableau, gate, qubit(tableau, end))),
         Call::Two(gate, first, second) => {
             let (first, second) = (qubit(tableau, first), qubit(tableau, second));
             Ok(apply_pair(tableau, gate, first, second))

@@ -14,3 +14,11 @@ returns-in-Table g c =
       sends = subst (λ l. SendsFound (IsErrorsText l items errors) old new c.send_errors.result) (sym c.in-Table.is)
           (found_at_once (IsErrorsText Table items errors) old new (error_lines items errors) c.send_errors.result refl c.send_errors.ensures.sends);
     }
+
+pub returns-in-Wcnf : goal.returns-in-Wcnf
+returns-in-Wcnf g c =
+    let items = circuit_items c.args.circuit.now in
+    let errors = c.args.errors.now in
+    let old = g.O.Output.seen c.args.out.now in
+    let new = g.O.Output.seen c.send_problem_of.new.out in
+    record { sends = subst (λ l. SendsFound (IsErrorsText l items errors) old new c.send_problem_of.result) (sym c.in-Wcnf.is) c.send_problem_of.ensures.sends }

@@ -4,12 +4,12 @@ use Rattle.stab_items.proofs.EditResultLemmas.{on_ok, edit_result_is}
 use Rattle.stab_items.proofs.judge.+judging.Goals as goal
 
 pub judge-returns-in-None-clause-front : goal.judge-returns-in-None-clause-front
-judge-returns-in-None-clause-front t c = on_ok c.judge_at.result (begins_at (edit_path c.args.edit.now).place c.args.blocks.now c.args.items.now c.in-None.ensures.cases)
+judge-returns-in-None-clause-front t c = on_ok c.judge_at.result (begins_at (edit_path c.args.edit.now).position c.args.blocks.now c.args.items.now c.in-None.ensures.cases)
 
 pub judge-returns-in-Err-edit_result_in-clause-value : goal.judge-returns-in-Err-edit_result_in-clause-value
 judge-returns-in-Err-edit_result_in-clause-value t c =
     let found = c.in-Ok.ensures.value in
-    judged_err c.args.edit.now c.in-Some.block.now c.in-Ok.inner.count (min (length (steps_within c.args.blocks.now (edit_path c.args.edit.now).place c.args.items.now)) 1048577) c.in-Some.others.now c.args.blocks.now found.0 c.args.items.now
+    judged_err c.args.edit.now c.in-Some.block.now c.in-Ok.inner.count (min (length (steps_within c.args.blocks.now (edit_path c.args.edit.now).position c.args.items.now)) 1048577) c.in-Some.others.now c.args.blocks.now found.0 c.args.items.now
     c.in-Ok.inner.body.now c.in-Err-edit_result_in.refusal c.in-Some.ensures.cases.0 found.1 c.in-Err-edit_result_in.ensures.refused
 
 pub judge-returns-in-Ok-edit_result_in-clause-value : goal.judge-returns-in-Ok-edit_result_in-clause-value
@@ -32,7 +32,7 @@ pub judge-returns-in-Ok-edit_result_in-clause-front : goal.judge-returns-in-Ok-e
 judge-returns-in-Ok-edit_result_in-clause-front t c =
     let found = c.in-Ok.ensures.value in
     let count : c.number.result ≡ c.in-Ok.inner.count = c.number.ensures.value in
-    begins_block c.in-Some.block.now (edit_path c.args.edit.now).place c.in-Ok.inner.count c.in-Some.others.now c.args.blocks.now found.0 c.args.items.now c.in-Ok.inner.body.now c.in-Some.ensures.cases.0 found.1 (rw count at c.number.ensures.some)
+    begins_block c.in-Some.block.now (edit_path c.args.edit.now).position c.in-Ok.inner.count c.in-Some.others.now c.args.blocks.now found.0 c.args.items.now c.in-Ok.inner.body.now c.in-Some.ensures.cases.0 found.1 (rw count at c.number.ensures.some)
     c.in-Ok-edit_result_in.ensures.ok.front
 
 pub judge-returns-in-Ok-edit_result_in-clause-good : goal.judge-returns-in-Ok-edit_result_in-clause-good
@@ -54,7 +54,7 @@ pub judge-returns-in-Ok-edit_result_in-clause-within_gone : goal.judge-returns-i
 judge-returns-in-Ok-edit_result_in-clause-within_gone t c =
     let found = c.in-Ok.ensures.value in
     let count : c.number.result ≡ c.in-Ok.inner.count = c.number.ensures.value in
-    gone_block c.in-Some.block.now (edit_path c.args.edit.now).place c.in-Ok.inner.count c.in-Ok-edit_result_in.round.first c.in-Some.others.now found.0 c.args.items.now c.in-Ok.inner.body.now found.1 (rw count at c.number.ensures.some)
+    gone_block c.in-Some.block.now (edit_path c.args.edit.now).position c.in-Ok.inner.count c.in-Ok-edit_result_in.round.first c.in-Some.others.now found.0 c.args.items.now c.in-Ok.inner.body.now found.1 (rw count at c.number.ensures.some)
     c.in-Ok-edit_result_in.ensures.ok.front c.in-Ok-edit_result_in.ensures.ok.first
 
 pub edit_result_in-returns-in-Ok-clause-ok : goal.edit_result_in-returns-in-Ok-clause-ok
@@ -68,4 +68,4 @@ edit_result_in-returns-in-Ok-clause-ok t c =
 
 pub edit_result_in-returns-in-Err-clause-refused : goal.edit_result_in-returns-in-Err-clause-refused
 edit_result_in-returns-in-Err-clause-refused t c =
-    edit_refused c.args.edit.now c.args.blocks.now (min (length (steps_within c.args.blocks.now (edit_path c.args.edit.now).place c.args.items.now)) 1048577) c.args.items.now c.in-Err.refusal c.in-Err.ensures.value
+    edit_refused c.args.edit.now c.args.blocks.now (min (length (steps_within c.args.blocks.now (edit_path c.args.edit.now).position c.args.items.now)) 1048577) c.args.items.now c.in-Err.refusal c.in-Err.ensures.value

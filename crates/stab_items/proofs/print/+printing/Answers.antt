@@ -1,5 +1,5 @@
 use Rattle.stab_items.proofs.Names.{◌++◌, ◌+◌, suc, codes, drop, ap, arith, err_from_is_err_and, listed, nested_in, margin_depth, line_text, printed_in, took_more, writes_failed, writes_then, writes_as, took_as}
-use Rattle.stab_items.proofs.PrintLemmas.{block_lines, printed_place, printed_more}
+use Rattle.stab_items.proofs.PrintLemmas.{block_lines, printed_position, printed_more}
 use Rattle.stab_items.proofs.ItemLemmas.{depth_at}
 use Rattle.stab_items.proofs.print.+printing.Goals as goal
 
@@ -41,7 +41,7 @@ write_items-returns-in_err-write_item g t c =
     let d = margin_depth c.args.margin.now in
     let p = err_from_is_err_and c.from_residual.result c.from_residual.ensures.1 in
     record {
-      writes = writes_as _ _ _ (printed_place d c.args.items.now c.loop-item.item-index c.item-item.result c.loop-item-test.true c.item-item.is)
+      writes = writes_as _ _ _ (printed_position d c.args.items.now c.loop-item.item-index c.item-item.result c.loop-item-test.true c.item-item.is)
           (writes_then _ _ _ c.loop-item.invariant (writes_failed (printed_in d (listed (drop (c.loop-item.item-index + 1) c.args.items.now))) p.1 p.2 c.in_err-write_item.ensures.writes));
     }
 

@@ -7,7 +7,7 @@ use Rattle.stab_script.proofs.propagate.send_way.Goals as goal
 pub returns-in_err-map_err : goal.returns-in_err-map_err
 returns-in_err-map_err g c =
     let items = circuit_items c.args.circuit.now in
-    let put : PutIn = record { place = c.args.place; string = c.args.string.now.letters } in
+    let put : PutIn = record { steps = c.args.steps; string = c.args.string.now.letters } in
     let ok = given_before c.way_reply.result c.map_err.result c.in_ok-reply.reply c.map_err.ensures.cases c.in_ok-reply.was in
     let is : IsWayText items c.args.every put c.bytes.result.now = record { text = c.bytes.ensures.value ∙ (rw ok at c.way_reply.ensures.shows); runs = rw ok at c.way_reply.ensures.runs } in
     record {
@@ -18,7 +18,7 @@ returns-in_err-map_err g c =
 pub returns : goal.returns
 returns g c =
     let items = circuit_items c.args.circuit.now in
-    let put : PutIn = record { place = c.args.place; string = c.args.string.now.letters } in
+    let put : PutIn = record { steps = c.args.steps; string = c.args.string.now.letters } in
     let ok = given_before c.way_reply.result c.map_err.result c.in_ok-reply.reply c.map_err.ensures.cases c.in_ok-reply.was in
     let is : IsWayText items c.args.every put c.bytes.result.now = record { text = c.bytes.ensures.value ∙ (rw ok at c.way_reply.ensures.shows); runs = rw ok at c.way_reply.ensures.runs } in
     let written = given_before c.write_all.result c.map_err-2.result c.in_ok-map_err.field-0 c.map_err-2.ensures.cases c.in_ok-map_err.was in

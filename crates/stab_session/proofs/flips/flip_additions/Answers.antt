@@ -2,16 +2,16 @@ use Rattle.stab_session.proofs.Names.{arith, sym, ◌∙◌, false, Addition, ad
 use Rattle.stab_session.proofs.FlippedReplayLemmas.{additions-more, additions-all}
 use Rattle.stab_session.proofs.flips.flip_additions.Goals as goal
 
-pub loop-place-init : goal.loop-place-init
-loop-place-init c = sym (additions-empty c.args.additions.now)
+pub loop-index-init : goal.loop-index-init
+loop-index-init c = sym (additions-empty c.args.additions.now)
 
-pub loop-place-preserved : goal.loop-place-preserved
-loop-place-preserved c =
+pub loop-index-preserved : goal.loop-index-preserved
+loop-index-preserved c =
     let none : Addition = record { observable = 0; bit = false } in
-    additions-more c.loop-place.place c.args.additions.now c.args.flips.now c.loop-place.additions none none
-    (omega (arith, c.loop-place-test.true, c.min-count.ensures)) (omega (arith, c.loop-place-test.true, c.min-count.ensures)) c.loop-place.invariant
+    additions-more c.loop-index.index c.args.additions.now c.args.flips.now c.loop-index.additions none none
+    (omega (arith, c.loop-index-test.true, c.min-count.ensures)) (omega (arith, c.loop-index-test.true, c.min-count.ensures)) c.loop-index.invariant
 
 pub returns : goal.returns
 returns c = record {
-  value = c.loop-place.invariant ∙ additions-all c.loop-place.place c.args.additions.now c.args.flips.now (omega (arith, c.loop-place-test.false, c.min-count.ensures));
+  value = c.loop-index.invariant ∙ additions-all c.loop-index.index c.args.additions.now c.args.flips.now (omega (arith, c.loop-index-test.false, c.min-count.ensures));
 }

@@ -6,20 +6,20 @@ use Rattle.stab_session.proofs.past_sites.propagate_piece.Goals as goal
 pub loop-checkpoint-preserved : goal.loop-checkpoint-preserved
 loop-checkpoint-preserved c =
     let inv = c.loop-checkpoint.invariant in
-    let place = c.in-Some.ensures.some in
+    let site = c.in-Some.ensures.some in
     let went = c.in_ok-propagate_exactly.ensures in
     let gave = went.passed c.if-not-branch.false in
     let gone = c.loop-checkpoint.gone in
     let following = c.in-Some.following in
     let left = c.loop-checkpoint.cursor.left in
     record {
-      within = place.1;
+      within = site.1;
       all = went.all ∙ inv.all;
       left =
           gave.left
           ∙ ap (drop (following - gone)) inv.left
           ∙ drop-drop (following - gone) gone c.args.cursor.now.left
-          ∙ ap (λ k. drop k c.args.cursor.now.left) {x = gone + (following - gone)} {y = following} (omega (arith, place.0));
+          ∙ ap (λ k. drop k c.args.cursor.now.left) {x = gone + (following - gone)} {y = following} (omega (arith, site.0));
       size = went.length ∙ inv.size;
       placed = went.placed;
       coin =
@@ -27,14 +27,14 @@ loop-checkpoint-preserved c =
       counted = omega (arith, gave.counted, inv.counted);
       count = omega (arith, ap length c.in_ok-push.ensures.items, length-append c.loop-checkpoint.passed.items (record { step = c.saturating_add.result; lengths = c.checkpoint-item.result.lengths; tableau = c.in_ok-propagated_checkpoint.field-0 } ∷ []), inv.count);
       between = λ coins xs base front b.
-          piece-on b gone following c.loop-checkpoint.propagation c.propagate_exactly.new.propagation left place.0 place.1 inv.left (inv.between coins xs base front b) (length c.loop-checkpoint.propagation.letters) inv.size
+          piece-on b gone following c.loop-checkpoint.propagation c.propagate_exactly.new.propagation left site.0 site.1 inv.left (inv.between coins xs base front b) (length c.loop-checkpoint.propagation.letters) inv.size
           gave.propagated gave.enough;
       checkpoints = λ coins xs base front b are passed.
-          checkpoint-on b following c.propagate_exactly.new.propagation place.1
-          (piece-on b gone following c.loop-checkpoint.propagation c.propagate_exactly.new.propagation left place.0 place.1 inv.left (inv.between coins xs base front b) (length c.loop-checkpoint.propagation.letters) inv.size
+          checkpoint-on b following c.propagate_exactly.new.propagation site.1
+          (piece-on b gone following c.loop-checkpoint.propagation c.propagate_exactly.new.propagation left site.0 site.1 inv.left (inv.between coins xs base front b) (length c.loop-checkpoint.propagation.letters) inv.size
           gave.propagated gave.enough)
           c.args.checkpoints.now c.loop-checkpoint.passed.items c.push.new.self.items c.loop-checkpoint.checkpoint-index c.checkpoint-item.result c.in_ok-propagated_checkpoint.field-0 c.letters.result.now c.saturating_add.result
-          c.checkpoint-item.is (omega arith) place.2 (omega (arith, c.saturating_add.ensures)) c.in_ok-propagated_checkpoint.ensures.qubits c.letters.ensures.value c.in_ok-propagated_checkpoint.ensures.conjugated
+          c.checkpoint-item.is (omega arith) site.2 (omega (arith, c.saturating_add.ensures)) c.in_ok-propagated_checkpoint.ensures.qubits c.letters.ensures.value c.in_ok-propagated_checkpoint.ensures.conjugated
           c.in_ok-push.ensures.items are (inv.checkpoints coins xs base front b are passed);
     }
 

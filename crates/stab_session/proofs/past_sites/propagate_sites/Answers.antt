@@ -46,7 +46,7 @@ pub returns-then-not-branch-clause-most : goal.returns-then-not-branch-clause-mo
 returns-then-not-branch-clause-most c =
     omega (arith, c.propagate_piece.ensures.most, ap length (c.skip_steps.ensures.left c.if-not-skip_steps.false), length-drop c.args.change.now.new c.loop-gap.cursor.left, c.loop-gap.invariant.counted)
 
--- at a place
+-- at a site
 
 abbrev gap : After-saturating_add-new-in-loop-gap → ℕ
 gap c = get_or c.as_slice-gap-items.result.now c.loop-gap.gap-index 0

@@ -9,21 +9,21 @@ gaps-requires c = record { few = few c.args.n c.args.circuit.now c.requires.acce
 pub gates_string-requires-clause-taken_fit : goal.gates_string-requires-clause-taken_fit
 gates_string-requires-clause-taken_fit c =
     let gates = c.in-Some-Some in
-    let reported = subst (λ f. IfSome f (λ gaps. AreGaps c.place_of-place.result c.args.circuit.now gaps.items)) c.in-Some.is c.in_ok-gaps.ensures.some in
-    taken-fit c.args.n c.args.pending.now c.args.circuit.now c.requires.accepted c.place_of-place.result c.place_of-place.ensures.value c.in-Ok.item.now c.in-Ok.ensures.value c.in-Some.gaps.items reported
+    let reported = subst (λ f. IfSome f (λ gaps. AreGaps c.path_of-place.result c.args.circuit.now gaps.items)) c.in-Some.is c.in_ok-gaps.ensures.some in
+    taken-fit c.args.n c.args.pending.now c.args.circuit.now c.requires.accepted c.path_of-place.result c.path_of-place.ensures.value c.in-Ok.item.now c.in-Ok.ensures.value c.in-Some.gaps.items reported
     gates.taken.letter gates.put.letter gates.taken.qubits.now gates.put.qubits.now gates.ensures.some
 
 pub gates_string-requires-clause-put_fit : goal.gates_string-requires-clause-put_fit
 gates_string-requires-clause-put_fit c =
     let gates = c.in-Some-Some in
-    let reported = subst (λ f. IfSome f (λ gaps. AreGaps c.place_of-place.result c.args.circuit.now gaps.items)) c.in-Some.is c.in_ok-gaps.ensures.some in
-    put-fit c.args.n c.args.pending.now c.args.circuit.now c.requires.accepted c.place_of-place.result c.place_of-place.ensures.value c.in-Ok.item.now c.in-Ok.ensures.value c.in-Some.gaps.items reported
+    let reported = subst (λ f. IfSome f (λ gaps. AreGaps c.path_of-place.result c.args.circuit.now gaps.items)) c.in-Some.is c.in_ok-gaps.ensures.some in
+    put-fit c.args.n c.args.pending.now c.args.circuit.now c.requires.accepted c.path_of-place.result c.path_of-place.ensures.value c.in-Ok.item.now c.in-Ok.ensures.value c.in-Some.gaps.items reported
     gates.taken.letter gates.put.letter gates.taken.qubits.now gates.put.qubits.now gates.ensures'.some
 
 pub returns-clause-differs : goal.returns-clause-differs
 returns-clause-differs c =
     let gates = c.in-Some-Some in
-    let reported = subst (λ f. IfSome f (λ gaps. AreGaps c.place_of-place.result c.args.circuit.now gaps.items)) c.in-Some.is c.in_ok-gaps.ensures.some in
-    pending-differs c.args.n c.args.pending.now c.args.circuit.now c.requires.accepted c.place_of-place.result c.place_of-place.ensures.value c.in-Ok.item.now c.in-Ok.ensures.value c.in-Some.gaps.items reported
+    let reported = subst (λ f. IfSome f (λ gaps. AreGaps c.path_of-place.result c.args.circuit.now gaps.items)) c.in-Some.is c.in_ok-gaps.ensures.some in
+    pending-differs c.args.n c.args.pending.now c.args.circuit.now c.requires.accepted c.path_of-place.result c.path_of-place.ensures.value c.in-Ok.item.now c.in-Ok.ensures.value c.in-Some.gaps.items reported
     gates.taken.letter gates.put.letter gates.taken.qubits.now gates.put.qubits.now c.in_ok-gates_string.field-0.letters (length gates.taken.qubits.now) (length gates.put.qubits.now) c.in_ok-gates_string.ensures.letters
     refl refl gates.ensures.some gates.ensures'.some

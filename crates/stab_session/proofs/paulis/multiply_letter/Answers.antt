@@ -7,10 +7,10 @@ loop-qubit-preserved c =
     let n = length c.args.string.now.letters in
     let s = c.loop-qubit.string.letters in
     let q = c.qubit-item.result in
-    let place = c.number-place.ensures.value in
+    let there = c.number-index.ensures.value in
     let fit = qubit-fits n c.args.qubits.now c.loop-qubit.qubit-index q c.loop-qubit-test.true c.qubit-item.is c.requires.fit in
-    let product = c.times-product.ensures.value ∙ ap (letter_product c.args.letter) (c.letter.ensures.value ∙ ap (λ k. get_or s k I) place) in
-    let put : c.set.new.self.letters ≡ set s q (letter_product c.args.letter (get_or s q I)) = ap (λ p. p.letters) c.set.ensures.value ∙ (λ i. set s (place i) (product i)) in
+    let product = c.times-product.ensures.value ∙ ap (letter_product c.args.letter) (c.letter.ensures.value ∙ ap (λ k. get_or s k I) there) in
+    let put : c.set.new.self.letters ≡ set s q (letter_product c.args.letter (get_or s q I)) = ap (λ p. p.letters) c.set.ensures.value ∙ (λ i. set s (there i) (product i)) in
     record {
       size = ap length put ∙ length-set s q (letter_product c.args.letter (get_or s q I)) ∙ c.loop-qubit.invariant.size;
       left = next-multiplied n c.args.letter c.args.qubits.now c.loop-qubit.qubit-index q s c.set.new.self.letters _ c.loop-qubit-test.true c.qubit-item.is

@@ -13,10 +13,10 @@ pub returns-in-Some-clause-some : goal.returns-in-Some-clause-some
 returns-in-Some-clause-some c =
     let at : shown_item c.item_in_list.result ≡ slice_get c.args.self.now c.in-Some.block.now = c.item_in_list.ensures.value ∙ ap (λ l. slice_get l c.in-Some.block.now) c.items.ensures.value in
     let blocks = sym c.blocks-blocks.ensures.value ∙ c.in-Some.ensures.cases.0 in
-    determined_so (λ gaps. AreGapsInside c.in-Some.others.now c.place-place.result (shown_item c.item_in_list.result) gaps.items) (λ gaps. AreGaps c.args.path c.args.self.now gaps.items) c.gaps_inside.result
+    determined_so (λ gaps. AreGapsInside c.in-Some.others.now c.position-position.result (shown_item c.item_in_list.result) gaps.items) (λ gaps. AreGaps c.args.path c.args.self.now gaps.items) c.gaps_inside.result
     (λ gaps h. gaps_within c.args.path c.in-Some.block.now c.in-Some.others.now c.args.self.now gaps.items blocks
-    (subst (λ p. AreGapsInside c.in-Some.others.now p (slice_get c.args.self.now c.in-Some.block.now) gaps.items) c.place-place.ensures.value
-    (subst (λ x. AreGapsInside c.in-Some.others.now c.place-place.result x gaps.items) at h)))
+    (subst (λ p. AreGapsInside c.in-Some.others.now p (slice_get c.args.self.now c.in-Some.block.now) gaps.items) c.position-position.ensures.value
+    (subst (λ x. AreGapsInside c.in-Some.others.now c.position-position.result x gaps.items) at h)))
     c.gaps_inside.ensures.some
 
 pub returns-in-Some-clause-none : goal.returns-in-Some-clause-none
@@ -24,5 +24,5 @@ returns-in-Some-clause-none c =
     let at : shown_item c.item_in_list.result ≡ slice_get c.args.self.now c.in-Some.block.now = c.item_in_list.ensures.value ∙ ap (λ l. slice_get l c.in-Some.block.now) c.items.ensures.value in
     let blocks = sym c.blocks-blocks.ensures.value ∙ c.in-Some.ensures.cases.0 in
     none_so c.gaps_inside.result
-    (λ many. many_within c.args.path c.in-Some.block.now c.in-Some.others.now c.args.self.now blocks (many_at c.in-Some.others.now at c.place-place.ensures.value many))
+    (λ many. many_within c.args.path c.in-Some.block.now c.in-Some.others.now c.args.self.now blocks (many_at c.in-Some.others.now at c.position-position.ensures.value many))
     c.gaps_inside.ensures.none

@@ -9,7 +9,7 @@ overflow_add-end c =
     let at = c.stretches.invariant in
     let there : c.stretches.number < length ss = omega (arith, c.stretches-test.true, c.len-number-end.ensures) in
     let here : s ≡ get_or ss c.stretches.number s = c.index-stretch.ensures ∙ ap (λ l. get_or l c.stretches.number s) at.preserved in
-    omega (arith, c.ranges.len.fits, end_within ss c.stretches.number c.args.place c.args.len c.stretches.first s c.args.items.now c.requires.were there here at.first)
+    omega (arith, c.ranges.len.fits, end_within ss c.stretches.number c.args.position c.args.len c.stretches.first s c.args.items.now c.requires.were there here at.first)
 
 pub overflow_sub-len : goal.overflow_sub-len
 overflow_sub-len c =
@@ -18,10 +18,10 @@ overflow_sub-len c =
     let at = c.stretches.invariant in
     let there : c.stretches.number < length ss = omega (arith, c.stretches-test.true, c.len-number-end.ensures) in
     let here : s ≡ get_or ss c.stretches.number s = c.index-stretch.ensures ∙ ap (λ l. get_or l c.stretches.number s) at.preserved in
-    end_within ss c.stretches.number c.args.place c.args.len c.stretches.first s c.args.items.now c.requires.were there here at.first
+    end_within ss c.stretches.number c.args.position c.args.len c.stretches.first s c.args.items.now c.requires.were there here at.first
 
-pub returns-then-place-end : goal.returns-then-place-end
-returns-then-place-end c =
+pub returns-then-position-end : goal.returns-then-position-end
+returns-then-position-end c =
     let ss = c.args.stretches.now.items in
     let s = c.index-stretch.result.now in
     let at = c.stretches.invariant in
@@ -32,7 +32,7 @@ returns-then-place-end c =
     let is = c.items_from.ensures.value ∙ ap (drop c.stretches.first) c.items_up_to-front.ensures.value in
     record {
       are = subst (λ l. AreStretches (slice_set l c.stretches.number new) c.args.items.now) (sym at.preserved)
-          (renewed_at ss c.stretches.number c.args.place c.args.len c.stretches.first s new c.args.items.now own c.requires.were there here at.first at.before c.if-place-end.true is c.stretch_of.ensures.items c.stretch_of.ensures.sum);
+          (renewed_at ss c.stretches.number c.args.position c.args.len c.stretches.first s new c.args.items.now own c.requires.were there here at.first at.before c.if-position-end.true is c.stretch_of.ensures.items c.stretch_of.ensures.sum);
     }
 
 pub stretches-preserved : goal.stretches-preserved
@@ -44,7 +44,7 @@ stretches-preserved c =
     let here : s ≡ get_or ss c.stretches.number s = c.index-stretch.ensures ∙ ap (λ l. get_or l c.stretches.number s) at.preserved in
     record {
       first = omega (arith, at.first, items_next ss c.stretches.number s there here);
-      before = c.if-place-end.false;
+      before = c.if-position-end.false;
       preserved = at.preserved;
     }
 
@@ -54,5 +54,5 @@ returns c =
     let ss = c.args.stretches.now.items in
     record {
       are = subst (λ l. AreStretches l c.args.items.now) (sym at.preserved)
-          (stays_after ss c.stretches.number c.args.place c.args.len c.stretches.first c.args.items.now c.requires.were (omega (arith, c.stretches-test.false, c.len-number-end.ensures)) at.first at.before);
+          (stays_after ss c.stretches.number c.args.position c.args.len c.stretches.first c.args.items.now c.requires.were (omega (arith, c.stretches-test.false, c.len-number-end.ensures)) at.first at.before);
     }

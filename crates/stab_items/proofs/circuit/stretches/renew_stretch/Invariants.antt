@@ -4,6 +4,6 @@ use Rattle.stab_items.proofs.circuit.stretches.renew_stretch.Given as goal
 abbrev pub invariant-stretches : goal.invariant-stretches
 invariant-stretches l = record {
   first : l.first ≡ items_in (take l.number l.fn.stretches.items);
-  before : l.first ≤ l.place;
+  before : l.first ≤ l.position;
   preserved : l.stretches.items ≡ l.fn.stretches.items;
 }

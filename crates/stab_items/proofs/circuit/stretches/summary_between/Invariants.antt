@@ -3,7 +3,7 @@ use Rattle.stab_items.proofs.circuit.stretches.summary_between.Given as goal
 
 abbrev pub invariant-stretches : goal.invariant-stretches
 invariant-stretches l = record {
-  within : l.place ≤ length l.items;
-  are : AreStretches (drop l.number l.stretches) (drop l.place l.items);
-  sum : IsSumOf (listed (drop l.first (take l.place l.front))) l.all;
+  within : l.position ≤ length l.items;
+  are : AreStretches (drop l.number l.stretches) (drop l.position l.items);
+  sum : IsSumOf (listed (drop l.first (take l.position l.front))) l.all;
 }

@@ -6,7 +6,7 @@ use Rattle.stab_session.proofs.FlipSignLemmas.{AreInside}
 use Rattle.stab_session.proofs.ConjugatingLemmas.{checkpoint-is, checkpoint-before, from-few}
 use Rattle.stab_session.proofs.DetermineLemmas.{end-following, has-conjugated-here}
 use Rattle.stab_session.proofs.recording.Recording.conjugate.Goals as goal
-use Rattle.stab_session.proofs.recording.Recording.conjugate.Goals.{After-as_slice-checkpoints, After-count_before-before, After-count_within-inside, After-index-checkpoints-before, In-Some, After-end_place-end}
+use Rattle.stab_session.proofs.recording.Recording.conjugate.Goals.{After-as_slice-checkpoints, After-count_before-before, After-count_within-inside, After-index-checkpoints-before, In-Some, After-end_step-end}
 
 few : (c : After-as_slice-checkpoints) → length (unroll (circuit_items c.args.circuit.now)) ≤ 1048576
 few c = check-steps (circuit_items c.args.circuit.now) (check-whole c.args.self.now.tableau.qubits (circuit_items c.args.circuit.now) c.requires.checked)
@@ -90,12 +90,12 @@ conjugating-requires-clause-may c =
       few_passed = omega (arith, c.past_sites.ensures.most, small, length-drop c.args.span.new_end ys);
     }
 
-end-is : (c : After-end_place-end) → c.steps-total.result ≡ length (unroll (circuit_items c.args.circuit.now)) → c.end_place-end.result
+end-is : (c : After-end_step-end) → c.steps-total.result ≡ length (unroll (circuit_items c.args.circuit.now)) → c.end_step-end.result
     ≡ conjugated_end c.args.span (length (unroll (circuit_items c.args.circuit.now))) (slice_get c.args.self.now.checkpoints.items (c.count_within-inside.result + length c.in-Some-2.conjugating.rest.conjugated.items))
 end-is c total =
     let same = c.as_slice-checkpoints.ensures.value in
     let count : c.len-2.result ≡ length c.in-Some-2.conjugating.rest.conjugated.items = c.len-2.ensures ∙ c.in-Some-2.conjugating.rest.conjugated.ok.0 in
-    c.end_place-end.ensures.value
+    c.end_step-end.ensures.value
     ∙ (λ i. conjugated_end c.args.span (total i) (slice_get (same i) (c.count_within-inside.result + count i)))
 
 pub propagated_between-followed-requires : goal.propagated_between-followed-requires
@@ -109,7 +109,7 @@ propagated_between-followed-requires c =
     let following = end-following c.args.span (length (unroll (circuit_items c.args.circuit.now)))
     (slice_get c.args.self.now.checkpoints.items (c.count_within-inside.result + length c.in-Some-2.conjugating.rest.conjugated.items)) f.span.new_within small in
     record {
-      order = omega (arith, order, before, following, end-is at.After-end_place-end (total-is at.After-as_slice-checkpoints small), ap (λ (d : Checkpoint). d.step) c.index-checkpoints-before.is);
+      order = omega (arith, order, before, following, end-is at.After-end_step-end (total-is at.After-as_slice-checkpoints small), ap (λ (d : Checkpoint). d.step) c.index-checkpoints-before.is);
     }
 
 pub returns-clause-conjugated : goal.returns-clause-conjugated
@@ -139,4 +139,4 @@ returns-clause-conjugated c =
     c.put.new.self c.put.ensures.put
     (check-fits n items (unroll items) c.requires.checked refl c.in_ok-passed.ensures.distinct)
     c.propagated_between-followed.result
-    (omega (arith, c.propagated_between-followed.ensures.counted, ap (λ (x : Checkpoint). x.step) first, end-is at.After-end_place-end total)))
+    (omega (arith, c.propagated_between-followed.ensures.counted, ap (λ (x : Checkpoint). x.step) first, end-is at.After-end_step-end total)))

@@ -100,7 +100,7 @@ propagate_sites-requires-clause-may c =
       few_passed = omega (arith, ap length rest, length-drop c.args.span.first ys, small, c.requires.none_propagated);
     }
 
--- no more steps are counted than there are from the first place on
+-- no more steps are counted than there are from the first site on
 most-counted : (c : In_ok-propagation) → (first : ℕ) → c.lengths_after-from.new.cursor.left ≡ drop first (unroll (circuit_items c.args.circuit.now)) → (by_frame : ℕ)
     → by_frame ≤ c.args.by_frame.now + length c.lengths_after-from.new.cursor.left → by_frame ≤ length (unroll (circuit_items c.args.circuit.now)) - first
 most-counted c first rest by_frame le = omega (arith, le, ap length rest, length-drop first (unroll (circuit_items c.args.circuit.now)), c.requires.none_propagated)
