@@ -20,8 +20,11 @@ NAME = re.compile(r"[A-Za-z_]\w*")
 OF_LIBRARY = re.compile(r"\b(?:(?:leb|eqb)_tells|is_simple_and_free)\b")
 # What is said of things that don't move, and the line of a script that makes a bookmark.
 OF_OTHER_MEANING = re.compile(r"\bin place\b|\"mark\"|`mark`")
-# The papers' names: a refusal with a line, and where an edit is made.
-NAMES_LEFT = {"Fault", "Places"}
+# The papers' name of a refusal with a line.
+NAMES_LEFT = {"Fault"}
+# The crates whose calls or requests edit: a place there is the path at which an edit is made.
+OF_EDITS = ("stab_items", "stab_circuit", "stab_session", "stab_script")
+PLACE_OF_OTHER_TYPE = re.compile(r"\bplace : (?!Path\b|Option Path\b)|\bplace: (?!Path\b|path\b|after\b|from\b)|\bplaces\b")
 # Words that output or the command line has.
 STANDING = {
     # The option keeps its name.
@@ -86,6 +89,14 @@ def test_no_name_or_comment_of_a_crate_has_a_word_that_it_does_not_use() -> None
     assert {("place", "stab_run"), ("mark", "stab_script")} <= NOT_USED_IN
     found = [f"{name}:{line}: {word}" for name, word, line in in_their_crates()]
     assert not found, "\n".join(found)
+
+
+def test_a_place_is_where_an_edit_is_made() -> None:
+    for name in FILES:
+        if name.split("/")[1] in OF_EDITS:
+            text = text_of(TOP / name)
+            longer = [it for it in set(NAME.findall(text)) if it != "PlaceOutOfRange" and it.lower() != "place" and "place" in map(str.lower, PART.findall(it))]
+            assert not longer + PLACE_OF_OTHER_TYPE.findall(text), name
 
 
 def test_free_is_a_name_by_itself_alone() -> None:
