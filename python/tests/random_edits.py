@@ -1,5 +1,6 @@
 """Random edits of circuits with noise, after which a session's error model is that of the edited text made anew."""
 
+import contextlib
 import random
 
 import numpy as np
@@ -71,7 +72,7 @@ def edit(session, numbers):
     plain = [item for item in items if item.repeat is None]
     at = numbers.choice(plain)
     qubits = numbers.sample(range(circuit.num_qubits), 2)
-    kind = numbers.choice(["noise", "pauli", "tick", "same", "same", "pair", "move", "delete", "detector", "measure", "order", "undo", "records", "split", "sign"])
+    kind = numbers.choice(["noise", "pauli", "tick", "same", "same", "pair", "move", "delete", "detector", "measure", "order", "undo", "records", "split", "round", "sign"])
     if kind == "noise":
         session.insert(at.path, numbers.choice(CHANNELS).format(*numbers.sample(range(circuit.num_qubits), 3)))
     elif kind in ("pauli", "tick"):
@@ -85,13 +86,33 @@ def edit(session, numbers):
         session.undo()
     elif kind in ("same", "pair", "order"):
         edit_gates(session, numbers, kind, plain, at, qubits)
-    elif kind == "split":
-        blocks = [item for item in items if item.repeat]
-        if blocks:
-            block = numbers.choice(blocks)
-            session.split(block.path, numbers.randrange(block.repeat))
+    elif kind in ("split", "round"):
+        split(session, numbers, [item for item in items if item.repeat], kind == "round")
     else:
         edit_records(session, numbers, kind, plain, at, qubits)
+
+
+def split(session, numbers, blocks, is_edited):
+    """Splits a round off one of the blocks, and perhaps edits gates in it."""
+    if not blocks:
+        return
+    block = numbers.choice(blocks)
+    number = numbers.randrange(block.repeat)
+    session.split(block.path, number)
+    circuit = stabsim.Circuit(session.circuit())
+    *around, last = block.path.split("/")
+    path = "/".join([*around, str(int(last) + min(number, 1))])
+    some = [item for item in circuit.walk() if item.repeat is None and item.path.startswith(f"{path}/")]
+    if is_edited and some:
+        edit_gates(session, numbers, numbers.choice(["same", "pair"]), some, numbers.choice(some), numbers.sample(range(circuit.num_qubits), 2))
+
+
+def several(session, numbers):
+    """Makes an edit, or several by one step, which is most often in several places."""
+    count = numbers.choice([1, 1, 1, 2, 3, 5])
+    with session.one_step() if count > 2 else contextlib.nullcontext():
+        for _ in range(count):
+            told(lambda: edit(session, numbers))
 
 
 def edit_gates(session, numbers, kind, plain, at, qubits):
@@ -142,14 +163,13 @@ def told(call):
 
 
 def models_agree(seed, edits, seen):
-    """Edits one circuit at random, and looks after each edit, or two, at the model, against the one of the edited text made anew: bit for bit, or
+    """Edits one circuit at random, and looks after each edit, or several, at the model, against the one of the edited text made anew: bit for bit, or
     refused in the same words. seen: takes the texts that have models."""
     numbers = random.Random(seed)
     with stabsim.Circuit(TEXTS[seed % len(TEXTS)]).edit() as session:
         session.error_model()
         for _ in range(edits):
-            for _ in range(numbers.choice([1, 1, 1, 2])):
-                told(lambda: edit(session, numbers))
+            several(session, numbers)
             text = session.circuit()
             found, wanted = told(session.error_model), told(lambda: stabsim.error_model(text))
             assert type(found) is type(wanted), (seed, text, found, wanted)

@@ -7,6 +7,7 @@ import numpy as np
 import pytest
 import stabsim
 from stabsim import codes
+from stabsim.session.record_trees import lookbacks_in, lookbacks_of
 from stabsim.text.reading import Block, items_of
 
 MEASURING = ("M", "MX", "MR", "MRY", "MPP")
@@ -262,6 +263,23 @@ def test_a_round_is_taken_out_if_a_lookback_out_of_the_block_cannot_be_the_same(
         "REPEAT 3 {\n    MR 0\n    DETECTOR rec[-1] rec[-3]\n    M 5\n}\n")
     assert made.records.tolist() == [0, 1, 2, 4, 6, 8]
     assert made.edits[0] == ("split", "1", "0")
+
+
+def test_lookbacks_are_looked_up_by_targets_alone_and_no_more_are_kept_than_a_number():
+    [mixed, other, measured] = items_of("CX rec[-3] 1 2 rec[-12]\nDETECTOR rec[-3] 1 2 rec[-12]\nM rec[-3]")
+    assert lookbacks_of(mixed) == lookbacks_of(other) == (3, 12) and lookbacks_of(measured) == lookbacks_of(None) == ()
+    for number in range(1, 10_000):
+        assert lookbacks_of(items_of(f"DETECTOR rec[-{number}]")[0]) == (number,)
+    kept = lookbacks_in.cache_info()
+    assert kept.currsize <= kept.maxsize == 8192 and lookbacks_of(mixed) == (3, 12)
+
+
+def test_rounds_that_are_written_otherwise_than_the_one_before_are_written_by_themselves():
+    # By hand: the far lookback names qubit 1's record in the first round, in the second the one that is gone, and then records of the block.
+    text = "M 0 1 2\nREPEAT 5 {\n    M 3\n    DETECTOR rec[-1] rec[-3]\n}\n"
+    made = stabsim.retargeted(stabsim.Circuit(text), [("replace", "0", "M 0 1")])
+    assert made.text == "M 0 1\nREPEAT 1 {\n    M 3\n    DETECTOR rec[-1] rec[-2]\n}\nREPEAT 1 {\n    M 3\n    DETECTOR rec[-1]\n}\nREPEAT 3 {\n    M 3\n    DETECTOR rec[-1] rec[-3]\n}\n"
+    assert made.lost == ("D1",)
 
 
 def test_in_front_of_the_round_s_records_no_round_is_taken_out():

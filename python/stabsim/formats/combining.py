@@ -7,8 +7,8 @@ from numpy.typing import NDArray
 
 Numbers = NDArray[np.int64]
 Chances = NDArray[np.float64]
-# How many rows a run of rows that follow each other has at least, on average, for runs to be taken one by one.
-ROWS_OF_RUN = 16
+# How many entries a run of rows that follow each other has at least, on average, for runs to be taken one by one.
+ENTRIES_OF_RUN = 32
 
 
 class Joined(NamedTuple):
@@ -36,7 +36,7 @@ def columns_of(rows: Numbers, indptr: Numbers, indices: Numbers) -> Numbers:
     # Rows that follow each other there are taken together.
     cuts = np.flatnonzero(np.diff(rows) != 1) + 1
     firsts, lasts = indptr[rows[np.append(0, cuts)]], indptr[rows[np.append(cuts, len(rows)) - 1] + 1]
-    if len(cuts) < len(rows) // ROWS_OF_RUN:
+    if len(cuts) < int((lasts - firsts).sum()) // ENTRIES_OF_RUN:
         return np.concatenate([indices[first:last] for first, last in zip(firsts.tolist(), lasts.tolist())])
     starts = starts_of(lasts - firsts)
     columns: Numbers = indices[np.arange(starts[-1]) + np.repeat(firsts - starts[:-1], lasts - firsts)]

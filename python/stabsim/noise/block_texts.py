@@ -12,6 +12,7 @@ from stabsim.formats.combining import Numbers
 from stabsim.noise.changed_lines import Change, without_targets
 from stabsim.noise.known_lines import DETECTORS, KnownLines
 from stabsim.noise.line_facts import DECLARING, Counts
+from stabsim.noise.line_runs import runs_apart
 from stabsim.noise.pieces import Piece
 
 
@@ -59,21 +60,23 @@ class BlockText:
         """The lines at which pieces in the block begin, and the one after the last of them."""
         return [self.begin + 1, *(cut for run in self.own for cut in (run.start, run.stop)), self.end - 1]
 
-    def marks(self) -> list[int]:
+    def marks(self, is_whole: bool) -> list[int]:
         """How many marks each of the pieces has, those in the block in one round."""
         inside = [self.lines.counts(first, last).marks for first, last in itertools.pairwise(self.cuts)]
-        return [self.lines.counts(0, self.begin).marks, *inside, self.lines.counts(self.end, len(self.lines.lines)).marks]
+        outside = [self.lines.counts(*its).marks if is_whole else 0 for its in ((0, self.begin), (self.end, len(self.lines.lines)))]
+        return [outside[0], *inside, outside[1]]
 
-    def pieces(self, qubits: int, rounds: int) -> list[Piece]:
+    def pieces(self, qubits: int, rounds: int, is_whole: bool) -> list[Piece]:
         """In front of the block, in it in turn lines that are kept and those of the edit, and after the block, with marks, as those of all of
-        this many qubits come first in each round."""
-        found = [Piece.of(self.lines, 0, self.begin, 0)]
+        this many qubits come first in each round; is_whole: whether there are marks outside of the block."""
+        noisy = None if is_whole else np.zeros(0, dtype=np.int64)
+        found = [Piece.of(self.lines, 0, self.begin, 0, noisy=noisy)]
         mark = found[0].marks + qubits
         for first, last in itertools.pairwise(self.cuts):
             found.append(Piece.of(self.lines, first, last, mark))
             mark += found[-1].marks
         each = mark - found[0].marks
-        return [*found, Piece.of(self.lines, self.end, len(self.lines.lines), found[0].marks + each * rounds)]
+        return [*found, Piece.of(self.lines, self.end, len(self.lines.lines), found[0].marks + each * rounds, noisy=noisy)]
 
 
 def texts_of(change: Change) -> tuple[BlockText, BlockText, int] | None:
@@ -101,7 +104,7 @@ def own_lines(change: Change, ends: tuple[int, int]) -> tuple[list[range], list[
         last = min(changed, end - 1)
         bounds.append(max([last, *(it.end + 1 for it in known.around(last)[1:2])]))
         places.append([at for at in range(first, bounds[-1]) if not is_declared(known.lines[at])])
-    runs = runs_apart(*([known.lines[at] for at in its] for known, its in zip((change.before, change.after), places)))
+    runs = runs_of(*([known.lines[at] for at in its] for known, its in zip((change.before, change.after), places)))
     found: tuple[list[range], list[range]] = [], []
     for its, end, own, which in zip(places, bounds, zip(*runs), (0, 1)):
         # Declarations around a run go with it.
@@ -109,15 +112,11 @@ def own_lines(change: Change, ends: tuple[int, int]) -> tuple[list[range], list[
     return found
 
 
-def runs_apart(old: Sequence[str], new: Sequence[str]) -> list[tuple[range, range]]:
+def runs_of(old: Sequence[str], new: Sequence[str]) -> list[tuple[range, range]]:
     """The runs of lines between those that both have alike; all lines, if blocks are among them."""
     if any(line.endswith(("{", "}")) for line in (*old, *new)):
         return [(range(len(old)), range(len(new)))]
-    found, begin, other = [], 0, 0
-    for at, again, size in SequenceMatcher(None, old, new, autojunk=False).get_matching_blocks():
-        found.append((range(begin, at), range(other, again)))
-        begin, other = at + size, again + size
-    return found
+    return list(runs_apart(old, new))
 
 
 def is_declared(line: str) -> bool:

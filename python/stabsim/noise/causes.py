@@ -60,6 +60,10 @@ class Sources:
         """The first error of each source, and how many there are of all, int64 (sources + 1,)."""
         return starts_of(self.times)
 
+    def some(self, begin: int, end: int) -> "Sources":
+        """Some of them, one after another."""
+        return Sources(self.its[begin:end], self.lines[begin:end], self.times[begin:end], self.chances[begin:end])
+
     def edited(self, begin: int, end: int, new: "Sources", lines: int) -> "Sources":
         """With others in the place of some; those after them are this many lines further down."""
         return Sources((*self.its[:begin], *new.its, *self.its[end:]), np.concatenate([self.lines[:begin], new.lines, self.lines[end:] + lines]),

@@ -1,12 +1,16 @@
 """Which lines of a circuit's text an edit changed."""
 
+import itertools
 import re
 from collections.abc import Sequence
 from dataclasses import dataclass, replace
+from functools import cached_property
+from typing import NamedTuple
 
 from stabsim.formats.combining import Chances
 from stabsim.noise.known_lines import DETECTORS, ROUNDS, SHIFT, KnownLines
-from stabsim.noise.line_facts import quiet_lines
+from stabsim.noise.line_facts import DECLARING, facts_of, quiet_lines
+from stabsim.noise.line_runs import runs_apart
 from stabsim.text.carrying import alike
 from stabsim.text.coordinates import detector_coordinates
 
@@ -14,6 +18,14 @@ from stabsim.text.coordinates import detector_coordinates
 CHAINED = "ELSE_CORRELATED_ERROR"
 PLACING = ("DETECTOR", "SHIFT_COORDS")
 OBSERVABLE = re.compile(r"[ \t]*OBSERVABLE_INCLUDE[^(]*\(\s*(\d+)")
+
+
+class Run(NamedTuple):
+    """Lines before an edit, and others after it that are in their place; stay: whether regions do, as no line has another part in them."""
+
+    old: range
+    new: range
+    stay: bool
 
 
 @dataclass(frozen=True)
@@ -37,6 +49,26 @@ class Change:
         """The line after the new ones."""
         return self.first + len(self.new)
 
+    @cached_property
+    def runs(self) -> list[Run]:
+        """The runs of lines that are others, by their places in the texts; empty if blocks begin or end in some."""
+        found = list[Run]()
+        for old, new in runs_apart(self.old, self.new):
+            lines, others = self.old[old.start : old.stop], self.new[new.start : new.stop]
+            if any(facts_of(line).rounds for line in (*lines, *others)):
+                return []
+            here, there = (range(self.first + it.start, self.first + it.stop) for it in (old, new))
+            found.append(Run(here, there, quiet_lines(lines) == quiet_lines(others)))
+        return found
+
+    @property
+    def leaves_names(self) -> bool:
+        """Whether what is declared, also in a block of the edit, is what it was, and names the records that it named."""
+        lines = [(self.before.lines[old.start : old.stop], self.after.lines[new.start : new.stop]) for old, new, _ in self.runs]
+        if any(line.lstrip().startswith(DECLARING) for its in lines for line in itertools.chain(*its)):
+            return False
+        return bool(lines) and all(records_in(old) == records_in(new) for old, new in lines)
+
     def with_blocks(self) -> "Change":
         """The change with all of the outermost block that it begins in, and of that in which it ends."""
         first = self.before.outermost(self.first).begin
@@ -58,11 +90,9 @@ def change_of(before: KnownLines, text: str) -> Change:
     return Change(first, before.lines[first : first + gone], new, before, before.edited(text, first, gone, new))
 
 
-def is_of_no_region(change: Change) -> bool:
-    """Whether all regions stay: in one list of items nothing changed that has a part in them."""
-    if any(brace in line for line in (*change.old, *change.new) for brace in "{}"):
-        return False
-    return quiet_lines(change.old) == quiet_lines(change.new)
+def records_in(lines: Sequence[str]) -> int:
+    """How many records lines make, in one round of blocks."""
+    return sum(facts_of(line).records for line in lines)
 
 
 def coordinates_in(known: KnownLines) -> Chances:

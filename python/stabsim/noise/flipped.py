@@ -58,10 +58,11 @@ def rows_of_lengths(written: bytes, width: int) -> tuple[Numbers, Numbers]:
     """Rows of this many bits in r8, as those of a CSR matrix: each byte counts zeros, after which a 1 comes, except after 255 of them; so it does
     after each row."""
     zeros = np.frombuffer(written, dtype=np.uint8)
-    places = np.flatnonzero(zeros != LONG)
-    ends = np.cumsum(zeros[places] + LONG * np.diff(places, prepend=-1) - (LONG - 1))
-    rows = (ends - 1) // (width + 1)
-    columns = ends - 1 - rows * (width + 1)
-    after = np.flatnonzero(columns == width)
-    assert len(after) * (width + 1) == (ends[-1] if len(ends) else 0), "each row has as many bits as there are detectors and observables"
-    return np.append(0, after - np.arange(len(after))), np.delete(columns, after)
+    is_one = zeros != LONG
+    # After 255 zeros no 1 comes, so no byte counts more.
+    places = np.cumsum(zeros + is_one, dtype=np.int64)[is_one] - 1
+    columns = places - places // (width + 1) * (width + 1)
+    is_end = columns == width
+    after = np.flatnonzero(is_end)
+    assert len(after) * (width + 1) == (places[-1] + 1 if len(places) else 0), "each row has as many bits as there are detectors and observables"
+    return np.append(0, after - np.arange(len(after))), columns[~is_end]

@@ -1,19 +1,22 @@
 """The lines of a circuit's text, and what is known of each: after an edit it is looked up for the new lines alone."""
 
 import functools
-from collections.abc import Collection, Sequence
+import itertools
+from collections.abc import Callable, Collection, Iterator, Sequence
 from functools import cached_property
-from typing import NamedTuple
+from typing import NamedTuple, TypeVar
 
 import numpy as np
 
 from stabsim.formats.combining import Numbers, starts_of
 from stabsim.noise.flipped import Flipped
 from stabsim.noise.line_facts import ALWAYS_QUIET, Counts, facts_of, quiet
+from stabsim.noise.line_runs import runs_apart
 
-
+# What is known of lines, one after another.
+Known = TypeVar("Known", list[str | None], Numbers)
 # The columns of facts.
-DETECTORS, MARKS, REACH, ROUNDS, FED_BACK, SHIFT = range(1, 7)
+RECORDS, DETECTORS, MARKS, REACH, ROUNDS, FED_BACK, SHIFT = range(7)
 
 
 class Around(NamedTuple):
@@ -47,14 +50,18 @@ class KnownLines:
         """`Facts` of each line, int64 (lines, 7)."""
         return table_of(self.lines)
 
-    def edited(self, text: str, first: int, gone: int, new: Sequence[str]) -> "KnownLines":
-        """The lines of a text in which these are in the place of as many as are gone from a first one on."""
-        found, last = KnownLines(text), first + gone
-        found.lines = [*self.lines[:first], *new, *self.lines[last:]]
+    def edited(self, text: str | None, first: int, gone: int, new: Sequence[str]) -> "KnownLines":
+        """The lines of a text, if that is known, in which these are in the place of as many as are gone from a first one on."""
+        last = first + gone
+        lines = [*self.lines[:first], *new, *self.lines[last:]]
+        found = KnownLines("\n".join(lines) if text is None else text)
+        found.lines = lines
+        # What is known of lines that are alike is as it was.
+        runs = [(first + old.start, first + old.stop, new[its.start : its.stop]) for old, its in runs_apart(self.lines[first:last], new)]
         if "quiet" in vars(self):
-            found.quiet = [*self.quiet[:first], *map(quiet_line, new), *self.quiet[last:]]
+            found.quiet = [*itertools.chain.from_iterable(parts_of(self.quiet, runs, lambda its: list(map(quiet_line, its))))]
         if "facts" in vars(self):
-            found.facts = np.concatenate([self.facts[:first], table_of(new), self.facts[last:]])
+            found.facts = np.concatenate([*parts_of(self.facts, runs, table_of)])
         return found
 
     @cached_property
@@ -76,6 +83,11 @@ class KnownLines:
                 at = opened.pop()
                 found[at] = found[at]._replace(end=place)
         return found
+
+    @cached_property
+    def depths(self) -> Numbers:
+        """In how many blocks the place in front of each line is, and that after all, int64 (lines + 1,)."""
+        return starts_of(np.sign(self.facts[:, ROUNDS]))
 
     def around(self, place: int) -> list[Around]:
         """The blocks that are open in front of a line, the outermost first."""
@@ -146,6 +158,17 @@ def quiet_line(line: str) -> str | None:
         return "".join(f"{it}\n" for it in quiet(line))
     except ValueError:
         return None
+
+
+def parts_of(before: Known, runs: Sequence[tuple[int, int, Sequence[str]]], made: Callable[[Sequence[str]], Known]) -> Iterator[Known]:
+    """What is known of all lines, of some after the other, if in the place of each run, from a line to another, others are; made: what is known
+    of these."""
+    done = 0
+    for begin, end, lines in runs:
+        yield before[done:begin]
+        yield made(lines)
+        done = end
+    yield before[done:]
 
 
 def table_of(lines: Sequence[str]) -> Numbers:

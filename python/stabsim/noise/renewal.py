@@ -66,12 +66,11 @@ class Renewal:
         causes = Causes(sources, mechanisms.astype(np.int32), known)
         chances[mechanisms[errors[begins]]] = odd_chances(causes.chances_of(errors), begins)
         # New rows go where they are in the order of what is flipped; mechanisms that no error makes any more go.
-        order = np.insert(np.arange(len(model)), self.places, np.arange(len(model), count))
         is_made = chances >= 0
-        if not is_made.all():
-            order = order[is_made[order]]
-        if len(order) == len(model) == count:
+        if count == len(model) and is_made.all():
             return replace(model, chances=chances, causes=causes)
+        order = np.insert(np.arange(len(model)), self.places, np.arange(len(model), count))
+        order = order[is_made[order]]
         rank = np.full(count + 1, -1, dtype=np.int32)
         rank[order] = np.arange(len(order))
         indptr = np.append(model.indptr, model.indptr[-1] + self.indptr)

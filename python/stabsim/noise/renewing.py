@@ -4,34 +4,34 @@ What an error flips is decided by where it is and by the steps after it alone: `
 (`PlacesFlipDeterministicParities` in crates/stab_regions/specs/FaultLaws.antt), is asked of these steps. So errors after an edit flip what
 they did. Errors before it do so too if the regions of all detectors and observables just before the edit are what they were, since those
 further back are made of them alone (`region_before` in Regions.antt there): `renewing_circuit` asks the program for regions, and
-`renewing_blocks` for those in few rounds of a block. If only noise changed, or what has no part in regions, as Pauli gates, all regions stay.
+`renewing_blocks` for those in few rounds of a block. If only noise changed, or what has no part in regions, as Pauli gates, all regions stay
+(`renewing_noise`), and so do steps if blocks are split (`renewing_splits`). An edit in several places is renewed by one after another.
 
 The program is asked for the errors of the lines that changed, which alone are marked in its text. Of mechanisms those are renewed that
 errors make or made which flip something else.
 """
 
+from collections.abc import Sequence
 from typing import TYPE_CHECKING
 
-import numpy as np
-
 from stabsim.errors import Refused, UnsupportedNoise
-from stabsim.formats.combining import Numbers
-from stabsim.noise.causes import Causes, Sources
-from stabsim.noise.changed_lines import CHAINED, Change, change_of, is_of_no_region
-from stabsim.noise.flipped import Flipped
+from stabsim.noise.changed_lines import CHAINED, Change, change_of
 from stabsim.noise.marked_faults import undetermined
-from stabsim.noise.pieces import Piece
-from stabsim.noise.renewal import NONE, Renewal
+from stabsim.noise.renewing_below import renewed_below
 from stabsim.noise.renewing_blocks import renewed_block
 from stabsim.noise.renewing_circuit import renewed_circuit
 from stabsim.noise.renewing_detectors import renewed_detectors
-from stabsim.noise.sourced import rows_of_errors
+from stabsim.noise.renewing_noise import renewed_noise
+from stabsim.noise.renewing_splits import renewed_split
+from stabsim.noise.several_changes import changes_apart
 from stabsim.text.judging import judged
-from stabsim.text.reading import Line
 from stabsim.text.rewriting import WrongWord
 
 if TYPE_CHECKING:
     from stabsim.noise.models import ErrorModel
+
+# How many changes are made one after another at most: each takes up to a sixth of the time that a model takes.
+MOST_CHANGES = 6
 
 
 def renewed(model: "ErrorModel", text: str, sure_only: bool, qubits: int | None = None) -> "ErrorModel | None":
@@ -42,16 +42,9 @@ def renewed(model: "ErrorModel", text: str, sure_only: bool, qubits: int | None 
         return None
     try:
         change = change_of(causes.known, text)
-        if is_of_no_region(change):
-            return after_change(model, causes, change, sure_only)
-        # Which detectors coins decided before is not known of a model that leaves them out.
-        if not qubits or sure_only:
-            return None
-        declared = renewed_detectors(model, causes, change, qubits)
-        if declared is not None or change.before.is_fed_back() or change.after.is_fed_back():
-            return declared
-        found = renewed_block(model, causes, change, qubits)
-        return renewed_circuit(model, causes, change, qubits) if found is None else found
+        changes = changes_apart(change)
+        found = after_changes(model, changes, sure_only, qubits) if 1 < len(changes) <= MOST_CHANGES else None
+        return found or after_change(model, change, sure_only, qubits)
     except Refused as refused:
         # It is said of the whole text; of a circuit that coins decide by what the program said.
         if refused.name == "NotDeterministic":
@@ -61,38 +54,26 @@ def renewed(model: "ErrorModel", text: str, sure_only: bool, qubits: int | None 
     return None
 
 
-def after_change(model: "ErrorModel", causes: Causes, change: Change, sure_only: bool) -> "ErrorModel | None":
-    """The model after a change by which all regions stay."""
-    begin, end = np.searchsorted(causes.sources.lines, [change.first + 1, change.old_end + 1]).tolist()
-    piece = Piece.of(change.after, change.first, change.new_end, 0)
-    around, each = [], piece.marks
-    for block in reversed(change.after.around(change.first)):
-        around.append((block.rounds, each))
-        each *= block.rounds
-    sources = Sources.of([source._replace(blocks=tuple(around)) for source in piece.sources])
-    start, stop = int(causes.sources.firsts[begin]), int(causes.sources.firsts[end])
-    gone = causes.mechanisms[start:stop].astype(np.int64)
-    renewal: Renewal | None
-    if are_alike(change) and causes.sources.are_like(begin, end, sources):
-        renewal = Renewal(model, gone, NONE, NONE, NONE)
-    else:
-        renewal = Renewal.of_rows(model, *rows_of_sources(piece, sources, change, model, sure_only))
-    if renewal is None:
+def after_changes(model: "ErrorModel", changes: Sequence[Change], sure_only: bool, qubits: int | None) -> "ErrorModel | None":
+    """The model after several changes, one after another; None also if the program refuses a circuit between them."""
+    found: ErrorModel | None = model
+    try:
+        for change in changes:
+            found = found and after_change(found, change, sure_only, qubits)
+    except Refused:
         return None
-    mechanisms: Numbers = np.concatenate([causes.mechanisms[:start], renewal.mechanisms, causes.mechanisms[stop:]])
-    return renewal.model_of(mechanisms, gone, causes.sources.edited(begin, end, sources, len(change.new) - len(change.old)), change.after)
+    return found
 
 
-def are_alike(change: Change) -> bool:
-    """Whether the lines differ in chances alone."""
-    return [Line(0, it, "").without_arguments() for it in change.old] == [Line(0, it, "").without_arguments() for it in change.new]
-
-
-def rows_of_sources(piece: Piece, sources: Sources, change: Change, model: "ErrorModel", sure_only: bool) -> tuple[Numbers, Numbers]:
-    """What the errors of the new lines flip, as a CSR matrix, of the program."""
-    if not sources.its:
-        return np.zeros(1, dtype=np.int64), NONE
-    known = change.after
-    marked = [known.quiet_text(0, change.first), piece.text, known.quiet_text(change.new_end, len(known.lines))]
-    flipped = Flipped.of(marked, model.num_detectors, model.num_observables, sure_only)
-    return rows_of_errors([(source, np.arange(source.times())) for source in sources.its], flipped)
+def after_change(model: "ErrorModel", change: Change, sure_only: bool, qubits: int | None) -> "ErrorModel | None":
+    """The model after one change."""
+    causes = model.causes
+    assert causes, "a model that is renewed was made of a circuit"
+    found = renewed_split(model, causes, change) or renewed_noise(model, causes, change, sure_only)
+    # Which detectors coins decided before is not known of a model that leaves them out.
+    if found or not qubits or sure_only:
+        return found
+    found = renewed_detectors(model, causes, change, qubits)
+    if found or change.before.is_fed_back() or change.after.is_fed_back():
+        return found
+    return next(filter(None, (its(model, causes, change, qubits) for its in (renewed_block, renewed_circuit, renewed_below))), None)

@@ -6,6 +6,7 @@ So of all rounds of the text the last ones are these few, and all others are as 
 it flips in front of few rounds. No lookback may go from the last of them, or from below, beyond the first: what is named there is no region.
 
 The program is asked about few rounds of the text from before the edit too. Errors flip something else at the marks where these two differ.
+Outside of the block there are marks only if regions in front of it are others than before, or what is declared is, or names other records.
 """
 
 import functools
@@ -48,7 +49,8 @@ def flipped(text: str, detectors: int, observables: int) -> Flipped:
 class Few:
     """A text in which the block has few rounds, with marks, in each round marks of all qubits first, and what they flip.
 
-    marks: how many each piece has, one in front of the block, in it in turn what is kept and what is of the edit, and one after the block;
+    marks: how many each piece has, one in front of the block, in it in turn what is kept and what is of the edit, and one after the block, which
+    has none, as that in front of the block, if the text is not marked as a whole;
     rounds: how many the block has; qubits: how many there are; detectors: how many a round declares; pieces: of the text after the edit.
     """
 
@@ -60,17 +62,17 @@ class Few:
     pieces: Sequence[Piece] = ()
 
     @classmethod
-    def of(cls, text: BlockText, rounds: int, qubits: int, observables: int, is_before: bool = False) -> "Few":
+    def of(cls, text: BlockText, rounds: int, qubits: int, observables: int, is_whole: bool, is_before: bool = False) -> "Few":
         """Asks the program; is_before: if it was not asked for the last edit."""
-        key = (text.begin, rounds, qubits, observables)
+        key, marks = (text.begin, rounds, qubits, observables, int(is_whole)), text.marks(is_whole)
         if is_before and key in text.lines.tables:
-            return cls(text.lines.tables[key], text.marks(), rounds, qubits, text.each.detectors)
+            return cls(text.lines.tables[key], marks, rounds, qubits, text.each.detectors)
         mark = " ".join(["I", *map(str, range(qubits))])
-        outside, *inside, after = pieces = text.pieces(qubits, rounds)
+        outside, *inside, after = pieces = text.pieces(qubits, rounds, is_whole)
         block = "".join([f"REPEAT {rounds} {{\n{mark}\n", *(piece.text for piece in inside), "}\n"])
         table = flipped("".join([outside.text, block, after.text]), text.detectors(rounds), observables)
         text.lines.tables[key] = table
-        return cls(table, text.marks(), rounds, qubits, text.each.detectors, pieces)
+        return cls(table, marks, rounds, qubits, text.each.detectors, pieces)
 
     @property
     def first(self) -> int:
@@ -97,8 +99,15 @@ class Few:
         moved = np.where(later < self.table.num_detectors, later - self.detectors, later)
         return np.array_equal(lines, again) and np.array_equal(columns, moved)
 
+    def begins_as(self, old: "Few", columns: Numbers) -> bool:
+        """Whether regions in front of the block are those of an old text, whose detectors and observables have these numbers now."""
+        (lines, before), (again, now) = (its.table.pairs(its.first, self.qubits) for its in (old, self))
+        return np.array_equal(lines, again) and np.array_equal(columns[before], now)
+
     def rows(self) -> tuple[Numbers, Numbers]:
         """What X and Z of each mark that is kept flip, one after the other: how much each does, and all of it."""
+        if 2 * len(self.kept) == len(self.table.indptr) - 1:
+            return np.diff(self.table.indptr), self.table.indices
         rows = np.stack([2 * self.kept, 2 * self.kept + 1], axis=1).ravel()
         return np.diff(self.table.indptr)[rows], columns_of(rows, self.table.indptr, self.table.indices)
 
@@ -160,21 +169,32 @@ class Rows:
 
 @dataclass(frozen=True)
 class Edit:
-    """An edit in a block of which few rounds of the texts before and after were asked for; rounds: how many it has; texts: both."""
+    """An edit in a block of which few rounds of the texts before and after were asked for; rounds: how many it has; texts: both; is_whole: whether
+    there are marks outside of the block."""
 
     change: Change
     texts: tuple[BlockText, BlockText]
     rounds: int
+    is_whole: bool
     old: Few
     new: Few
 
     @classmethod
-    def of(cls, change: Change, texts: tuple[BlockText, BlockText], rounds: int, few: int, qubits: int, observables: int) -> "Edit":
+    def of(cls, change: Change, texts: tuple[BlockText, BlockText], rounds: int, few: int, qubits: int, observables: int, is_whole: bool) -> "Edit":
         """Asks the program about both texts at once."""
         with ThreadPoolExecutor(1) as thread:
-            old = thread.submit(Few.of, texts[0], few, qubits, observables, True)
-            new = Few.of(texts[1], few, qubits, observables)
-        return cls(change, texts, rounds, old.result(), new)
+            old = thread.submit(Few.of, texts[0], few, qubits, observables, is_whole, True)
+            new = Few.of(texts[1], few, qubits, observables, is_whole)
+        return cls(change, texts, rounds, is_whole, old.result(), new)
+
+    @cached_property
+    def columns(self) -> Numbers:
+        """Those of `columns_of_rounds`, of these few."""
+        return columns_of_rounds(*self.texts, self.new.rounds, self.new.table.num_observables)
+
+    def leaves_others(self) -> bool:
+        """Whether errors outside of the block flip what they did, or there are marks for them."""
+        return self.is_whole or self.new.begins_as(self.old, self.columns)
 
     def says_all(self) -> bool:
         """Whether other rounds are as these."""
@@ -182,21 +202,21 @@ class Edit:
 
     def renewed(self, model: "ErrorModel", causes: Causes) -> "ErrorModel | None":
         """The model in which errors flip what they flip now; None if they are not those from before the edit, or if too many flip others."""
-        after = self.new.sources(self.rounds)
-        sources = Sources.of(joined(after))
+        asked = self.new.sources(self.rounds)
         # Where the errors of each piece begin, before the edit and after it.
         starts_before = np.array([0, *np.searchsorted(causes.sources.lines, np.array(self.texts[0].cuts) + 1), len(causes.sources.its)])
-        starts = starts_of(np.array([len(its) for its in after]))
-        pieces = enumerate(zip(itertools.pairwise(starts_before.tolist()), after))
-        if not all(is_own(number, after) or causes.sources.are_like(*bounds, Sources.of(its)) for number, (bounds, its) in pieces):
+        first, last = starts_before[[0, -1] if self.is_whole else [1, -2]].tolist()
+        sources = causes.sources.edited(first, last, Sources.of(joined(asked)), len(self.change.new) - len(self.change.old))
+        starts = np.cumsum([0, len(asked[0]) or first, *map(len, asked[1:-1]), len(asked[-1]) or len(causes.sources.its) - last])
+        pieces = enumerate(zip(*(itertools.pairwise(its.tolist()) for its in (starts_before, starts))))
+        if not all(is_own(number, asked) or causes.sources.are_like(begin, end, sources.some(*its)) for number, ((begin, end), its) in pieces):
             return None
         firsts, parts = sources.firsts[starts], causes.sources.firsts[starts_before]
-        columns = columns_of_rounds(*self.texts, self.new.rounds, model.num_observables)
-        rows = Rows.of(self.new, self.rounds, self.errors(columns), sources.firsts)
+        rows = Rows.of(self.new, self.rounds, self.errors(), sources.firsts[first:])
         if rows is None:
             return None
         mechanisms = causes.mechanisms.astype(np.int64)
-        if not np.array_equal(columns, np.arange(len(columns))):
+        if not np.array_equal(self.columns, np.arange(len(self.columns))):
             columns = columns_of_rounds(*self.texts, self.rounds, model.num_observables)
             model, mechanisms = renumbered(model, mechanisms, columns, self.texts[1].detectors(self.rounds))
         renewal = Renewal.of_rows(model, rows.indptr, rows.indices)
@@ -212,10 +232,10 @@ class Edit:
         found = renewal.model_of(mechanisms, gone, sources, self.change.after)
         return found if placing(self.change.old) == placing(self.change.new) else replace(found, coordinates=coordinates_in(self.change.after))
 
-    def errors(self, columns: Numbers) -> list[list[Numbers]]:
-        """Which errors of the sources of each piece flip something else in few rounds, or are new. columns: those of `columns_of_rounds`."""
+    def errors(self) -> list[list[Numbers]]:
+        """Which errors of the sources of each piece flip something else in few rounds, or are new."""
         pieces = self.new.own_sources
-        others = iter(errors_at(joined(of_kept(pieces)), self.new.marks_that_differ(self.old, columns)))
+        others = iter(errors_at(joined(of_kept(pieces)), self.new.marks_that_differ(self.old, self.columns)))
         return [[np.arange(source.times()) if is_own(number, pieces) else next(others) for source in its] for number, its in enumerate(pieces)]
 
 
@@ -243,9 +263,12 @@ def renewed_block(model: "ErrorModel", causes: Causes, change: Change, qubits: i
     if observables_in(change.old) != observables_in(change.new) and observables_in(change.before.lines) != observables_in(change.after.lines):
         return None
     least = max(rounds if its.least is None else its.least for its in (old, new))
+    is_whole = not change.leaves_names
     for few in sorted({min(max(least, its), rounds) for its in FEW}):
         try:
-            edit = Edit.of(change, (old, new), rounds, few, qubits, model.num_observables)
+            edit = Edit.of(change, (old, new), rounds, few, qubits, model.num_observables, is_whole)
+            if edit.says_all() and not edit.leaves_others():
+                edit = Edit.of(change, (old, new), rounds, few, qubits, model.num_observables, True)
         except Refused:
             # Whether coins decide something in all rounds too is found with all of them.
             return None

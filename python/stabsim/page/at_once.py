@@ -29,12 +29,13 @@ Node = str | Opened
 def made_at_once(text: str, edits: Sequence[Edit], is_printed: bool) -> tuple[str, list[list[Edit]]]:
     """The text that edits make of a circuit's, as a session writes it, or with noise in tags as the program prints it, and for each what takes it
     back. Refused, ValueError or IndexError if one can't be made; whether the program takes what they make all in all is not looked at."""
-    lines, begins = lines_and_begins(text)
+    lines, begins, letters = lines_and_begins(text)
     first, end = touched(edits, len(begins) - 1)
     nodes = nodes_of(lines[begins[first]:begins[end]])
     taken = [apply(nodes, edit, first) for edit in edits]
     undone = [undoing(edit, written_back(old, comments=False) if is_printed else old) for edit, old in zip(edits, taken, strict=True)]
-    return "\n".join([*lines[:begins[first]], *lines_in(nodes), *lines[begins[end]:], ""]), undone
+    made = "".join(f"{line}\n" for line in lines_in(nodes))
+    return text[:letters[begins[first]]] + made + text[letters[begins[end]]:], undone
 
 
 def apply(nodes: list[Node], edit: Edit, first: int) -> str:

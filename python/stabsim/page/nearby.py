@@ -67,7 +67,7 @@ class Outline:
 @functools.lru_cache(maxsize=1)
 def outline_of(circuit: str) -> Outline:
     """The outline of a circuit, kept until that of another is asked for."""
-    lines, begins = lines_and_begins(circuit)
+    lines, begins, _ = lines_and_begins(circuit)
     items = [lines[first:end] for first, end in itertools.pairwise(begins)]
     reaches = [reach_of("\n".join(item)) for item in reversed(items)]
     records, detectors, _ = KnownLines("\n".join(lines)).made[1][begins].T.tolist()
@@ -75,11 +75,12 @@ def outline_of(circuit: str) -> Outline:
 
 
 @functools.lru_cache(maxsize=2)
-def lines_and_begins(circuit: str) -> tuple[list[str], list[int]]:
+def lines_and_begins(circuit: str) -> tuple[list[str], list[int], list[int]]:
     """The lines of a circuit, as a session writes it, and at which of them each item of its outermost list begins, and the end: lines in blocks
-    are indented."""
+    are indented; and how many letters are in front of each line, and of the end."""
     lines = circuit.removesuffix("\n").split("\n") if circuit else []
-    return lines, [*(place for place, line in enumerate(lines) if line and line[0] not in " }"), len(lines)]
+    begins = [*(place for place, line in enumerate(lines) if line and line[0] not in " }"), len(lines)]
+    return lines, begins, list(itertools.accumulate((len(line) + 1 for line in lines), initial=0))
 
 
 def touched(edits: Sequence[Edit], count: int) -> tuple[int, int]:

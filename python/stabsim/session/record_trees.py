@@ -1,6 +1,7 @@
 """A circuit before and after edits in one tree, in which each record is known by where it was and where it is."""
 
 import difflib
+import functools
 from bisect import bisect_right
 from collections import defaultdict
 from collections.abc import Iterable, Iterator, Sequence
@@ -137,9 +138,15 @@ def level_of(items: Iterable[Item], is_new: bool = False) -> Level:
     return Level([] if is_new else list(nodes), nodes)
 
 
-def lookbacks_of(item: Item | None) -> list[int]:
+def lookbacks_of(item: Item | None) -> tuple[int, ...]:
     """How many records back each record is that an item names."""
-    return [int(target[5:-1]) for target in item.targets if target[:5] == "rec[-"] if item and item.name in NAMING else []
+    return lookbacks_in(item.targets) if item and item.name in NAMING else ()
+
+
+@functools.lru_cache(maxsize=8192)
+def lookbacks_in(targets: tuple[str, ...]) -> tuple[int, ...]:
+    """The same of its targets alone, which instructions of the same text share."""
+    return tuple([int(target[5:-1]) for target in targets if target[:5] == "rec[-"])
 
 
 def pair_moved(level: Level) -> None:

@@ -138,6 +138,8 @@ class Follower:
     def __init__(self) -> None:
         # What instructions become whose lookbacks stay in the block: the same in each round.
         self.staying: dict[int, Written | None] = {}
+        # The lookbacks of other instructions in the round that was written last, and what they became by them: often the same as in the next one.
+        self.last: dict[int, tuple[list[int | None], Written | None]] = {}
 
     def items(self, frames: list[Frame]) -> list[Written]:
         """The items of the last frame's list, in its round."""
@@ -183,21 +185,32 @@ class Follower:
 
     def moved(self, node: Node, was_at: int, place: int, frames: list[Frame]) -> Written | None:
         """The same of an instruction that was, and is, at a place of the last frame's list."""
-        head, *targets = str(node).rsplit(" ", len(node.now.targets))
-        for number, target in enumerate(targets):
-            if target[:5] != "rec[-":
-                continue
-            back = lookback(frames, was_at, place, int(target[5:-1]))
-            if back is not None and back <= 0:
-                raise ValueError(f"{node}: the record that {target} names would come after it")
-            targets[number] = "" if back is None else f"rec[-{back}]"
-        has_lost = "" in targets
-        if has_lost and node.now.name in names.FED_BACK:
-            # A gate that is controlled by a record which is gone goes with it.
-            targets = [it for pair in zip(targets[::2], targets[1::2]) if all(pair) for it in pair]
-            if not targets:
-                return None
-        return Written(node, " ".join([head, *filter(None, targets)]), has_lost=has_lost)
+        backs = [lookback(frames, was_at, place, back) for back in node.following]
+        known, written = self.last.get(id(node), (None, None))
+        if backs != known:
+            written = with_lookbacks(node, backs)
+            self.last[id(node)] = backs, written
+        return written
+
+
+def with_lookbacks(node: Node, backs: Iterable[int | None]) -> Written | None:
+    """An instruction with other lookbacks, without those that are None; None if it acts by records alone, and all of them are gone."""
+    head, *targets = str(node).rsplit(" ", len(node.now.targets))
+    left = iter(backs)
+    for number, target in enumerate(targets):
+        if target[:5] != "rec[-":
+            continue
+        back = next(left)
+        if back is not None and back <= 0:
+            raise ValueError(f"{node}: the record that {target} names would come after it")
+        targets[number] = "" if back is None else f"rec[-{back}]"
+    has_lost = "" in targets
+    if has_lost and node.now.name in names.FED_BACK:
+        # A gate that is controlled by a record which is gone goes with it.
+        targets = [it for pair in zip(targets[::2], targets[1::2]) if all(pair) for it in pair]
+        if not targets:
+            return None
+    return Written(node, " ".join([head, *filter(None, targets)]), has_lost=has_lost)
 
 
 def lookback(frames: Sequence[Frame], was_at: int, at: int, back: int) -> int | None:

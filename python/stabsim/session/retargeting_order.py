@@ -35,7 +35,7 @@ class Written(NamedTuple):
 
 @dataclass(eq=False, slots=True)
 class Slot:
-    """An item as the session has it by now."""
+    """An item as the session has it by now; of a block its items say how it is written."""
 
     node: Node
     text: str
@@ -54,7 +54,7 @@ def edits_to(root: Level, written: Sequence[Written]) -> Iterator[RecordEdit]:
 
 
 def slots_of(nodes: Sequence[Node]) -> list[Slot]:
-    return [Slot(node, node.before(), slots_of(node.inside.old) if node.inside else None) for node in nodes]
+    return [Slot(node, "", slots_of(node.inside.old)) if node.inside else Slot(node, node.before()) for node in nodes]
 
 
 def copy_of(slot: Slot) -> Slot:

@@ -139,6 +139,14 @@ test("runs of places and detectors are one row until they are opened", () => {
   for (const { number, path, run } of rows) if (!run) assert.equal(numberOfRow(items, unfolded, path), number);
 });
 
+test("rows of one line are as many as the items, however long the list that was asked for before", () => {
+  for (const count of [2, 0, 50, 3]) {
+    const items = parseCircuit("H 0\n".repeat(count));
+    assert.deepEqual([...UNWRAPPED.heights(items, 0)], Array.from({ length: count + 1 }, (_, number) => number));
+    assert.equal(countLines(items, new Set()), count);
+  }
+});
+
 test("a long item has as many lines as its words need, and rows are numbered by lines", () => {
   const items = parseCircuit("H 0 1 2 3 4 5 6\nDETECTOR(1, 2) rec[-1]\nDETECTOR rec[-1]\nDETECTOR rec[-1]\nREPEAT 2 {\n    CX 10 11 12 13\n    M 0\n}\nM 0\n");
   const wrap = new Wrap((depth) => (depth ? 8 : 10));

@@ -30,13 +30,23 @@ export class Wrap {
   // How many lines come before each row of a list's items, and in all.
   /** @param {import("./types.js").Item[]} list @param {number} depth @returns {Float64Array} */
   heights(list, depth) {
-    const columns = this.#columns?.(depth) ?? 0;
+    if (!this.#columns) return numbersTo(list.length);
+    const columns = this.#columns(depth);
     return derived(list, `lines of ${columns}`, () => {
       const found = new Float64Array(list.length + 1);
-      list.forEach((item, place) => { found[place + 1] = found[place] + (columns ? countOf(item, columns) : 1); });
+      list.forEach((item, place) => { found[place + 1] = found[place] + countOf(item, columns); });
       return found;
     });
   }
+}
+
+let numbers = new Float64Array(1);
+
+// The numbers from 0 to a last one: the same list for all, which grows as it is needed.
+/** @param {number} last @returns {Float64Array} */
+function numbersTo(last) {
+  if (last >= numbers.length) numbers = Float64Array.from({ length: 2 * last + 1 }, (_, number) => number);
+  return numbers.subarray(0, last + 1);
 }
 
 // Each row has one line.
